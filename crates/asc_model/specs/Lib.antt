@@ -1,0 +1,10 @@
+pub mod Shape
+pub mod Number
+pub mod State
+pub mod Machine
+pub mod Instruction
+pub mod Effect
+pub mod Step
+pub mod Places
+pub mod Plain
+pub mod Laws

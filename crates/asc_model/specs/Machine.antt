@@ -1,0 +1,88 @@
+-- The machine that a state stands for (RISC-V unprivileged manual 20191213, section 2.1).
+use Rattle.std.specs.Prelude.{◌≡◌, ℕ, zero, suc, ◌+◌, ◌-◌, ◌^◌, ◌<◌, ◌≤◌, IsTrue, ⊤, List, [], ◌∷◌, ◌++◌, length, take, drop, slice_index, slice_set}
+use Rattle.std.specs.List.{flat_map}
+use Rattle.asc_model.specs.Shape.{Shape, IsShape, start_of, holds}
+use Rattle.asc_model.specs.Number.{AreBytes, number_of, number_at, bytes_of, word_at}
+use Rattle.asc_model.specs.State.{State}
+
+pub record Machine : Type 0 where
+  pub pc : ℕ
+  -- registers 1 to 31
+  pub registers : List ℕ
+  -- the load reservation: eight bytes in version Two, none in version One
+  pub reservation : List ℕ
+  pub memory : List ℕ
+
+-- x[k]: register 0 is 0
+abbrev pub register : Machine → ℕ → ℕ
+register m zero = 0
+register m (suc k) = slice_index m.registers k
+
+-- M[address], as the number in n bytes
+abbrev pub load : Shape → Machine → ℕ → ℕ → ℕ
+load shape m n address = number_at n m.memory (address - shape.base)
+
+-- one change of the machine
+pub data Change : Type 0 where
+  Pc : (value : ℕ) → Change
+  Register : (k value : ℕ) → Change
+  Memory : (address : ℕ) (bytes : List ℕ) → Change
+
+-- the list with these bytes from place i on, where it is that long
+abbrev pub splice : List ℕ → ℕ → List ℕ → List ℕ
+splice list i bytes = take i list ++ bytes ++ drop (i + length bytes) list
+
+-- the machine after a change; setting register 0 changes nothing
+abbrev pub change : Shape → Machine → Change → Machine
+change shape m (Pc value) = record m { pc = value }
+change shape m (Register zero value) = m
+change shape m (Register (suc k) value) = record m { registers = slice_set m.registers k value }
+change shape m (Memory address bytes) = record m { memory = splice m.memory (address - shape.base) bytes }
+
+-- the machine after changes, the first one first
+abbrev pub changes : Shape → Machine → List Change → Machine
+changes shape m [] = m
+changes shape m (first ∷ rest) = changes shape (change shape m first) rest
+
+-- what a change may be: registers are 0 to 31, values are words, and bytes go into memory
+abbrev pub IsChange : Shape → Change → Type 0
+IsChange shape (Pc value) = value < 2 ^ 32
+IsChange shape (Register k value) = (k ≤ 31) × (value < 2 ^ 32)
+IsChange shape (Memory address bytes) = IsTrue (holds shape address (length bytes)) × AreBytes bytes
+
+-- each change of the list may be
+abbrev pub AreChanges : Shape → List Change → Type 0
+AreChanges shape [] = ⊤
+AreChanges shape (first ∷ rest) = IsChange shape first × AreChanges shape rest
+
+-- the first n words of a list of bytes
+unfoldable pub words : ℕ → List ℕ → List ℕ
+words zero bytes = []
+words (suc n) bytes = number_of (take 4 bytes) ∷ words n (drop 4 bytes)
+
+-- the machine that a state stands for
+unfoldable pub view_of : State → Machine
+view_of s = record {
+  pc = word_at s.bytes 0;
+  registers = words 31 (drop 4 s.bytes);
+  reservation = take (start_of s.shape.version - 128) (drop 128 s.bytes);
+  memory = drop (start_of s.shape.version) s.bytes;
+}
+
+-- the state of a machine
+unfoldable pub state_of : Shape → Machine → State
+state_of shape m = record {
+  shape = shape;
+  bytes = bytes_of 4 m.pc ++ flat_map (bytes_of 4) m.registers ++ m.reservation ++ m.memory;
+}
+
+-- a machine of a shape
+pub record IsMachine (shape : Shape) (m : Machine) : Type 0 where
+  pub good : IsShape shape
+  pub pc : m.pc < 2 ^ 32
+  pub registers : length m.registers ≡ 31
+  pub each_word : (k : ℕ) → slice_index m.registers k < 2 ^ 32
+  pub reservation : length m.reservation ≡ start_of shape.version - 128
+  pub reservation_bytes : AreBytes m.reservation
+  pub memory : length m.memory ≡ shape.size
+  pub memory_bytes : AreBytes m.memory

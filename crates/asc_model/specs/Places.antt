@@ -1,0 +1,75 @@
+-- The places that a step reads and writes.
+use Rattle.std.specs.Prelude.{ℕ, zero, suc, ◌+◌, ◌*◌, ◌&&◌, List, [], ◌∷◌, ◌++◌, map, Option, Some, None, slice_set, if◌then◌else◌}
+use Rattle.std.specs.List.{flat_map}
+use Rattle.asc_model.specs.declared.instruction.Instr.{Instr}
+use Rattle.asc_model.specs.Shape.{Shape, place_of, holds}
+use Rattle.asc_model.specs.Number.{bytes_of}
+use Rattle.asc_model.specs.State.{State}
+use Rattle.asc_model.specs.Machine.{Machine, Change, Pc, Register, Memory, view_of}
+use Rattle.asc_model.specs.Instruction.{decode, rs1_of, rs2_of}
+use Rattle.asc_model.specs.Effect.{Effect, Set, Load, Store, Jump, GuestCall, Breakpoint}
+use Rattle.asc_model.specs.Step.{Outcome, Goes, Calls, Fails, is_aligned, effect_of, fetch, outcome}
+
+-- n places from a place on
+abbrev pub span : ℕ → ℕ → List ℕ
+span place zero = []
+span place (suc n) = place ∷ span (place + 1) n
+
+-- the places of register k; x0 has none
+abbrev pub register_places : ℕ → List ℕ
+register_places zero = []
+register_places (suc k) = span (4 * suc k) 4
+
+-- the places of the data that an effect loads
+abbrev pub data_places : Shape → Effect → List ℕ
+data_places shape (Load n signed address) = if holds shape address n then span (place_of shape address) n else []
+data_places shape (Set value) = []
+data_places shape (Store n address value) = []
+data_places shape (Jump target) = []
+data_places shape GuestCall = []
+data_places shape Breakpoint = []
+
+-- the places that an instruction reads: its source registers, and what it loads
+abbrev pub operand_places : Shape → Machine → Option Instr → List ℕ
+operand_places shape m None = []
+operand_places shape m (Some i) = register_places (rs1_of i) ++ register_places (rs2_of i) ++ data_places shape (effect_of m i)
+
+-- The places that a step reads, in the order in which it reads them; one that is read twice stands twice. They are
+-- the pc; where it is aligned and in memory, the four bytes fetched; where these are an instruction, its source
+-- registers but x0, before its address or target is tested; and the bytes loaded, where all are in memory.
+unfoldable pub places_read : State → List ℕ
+places_read s = let m = view_of s in
+    if is_aligned m.pc && holds s.shape m.pc 4
+    then span 0 4 ++ span (place_of s.shape m.pc) 4 ++ operand_places s.shape m (decode s.shape.version (fetch s.shape m))
+    else span 0 4
+
+-- bytes, each with its place, from a place on
+abbrev pub cells : ℕ → List ℕ → List (ℕ × ℕ)
+cells place [] = []
+cells place (byte ∷ bytes) = (place, byte) ∷ cells (place + 1) bytes
+
+-- the places that a change writes, with their new bytes
+abbrev pub cells_of : Shape → Change → List (ℕ × ℕ)
+cells_of shape (Pc value) = cells 0 (bytes_of 4 value)
+cells_of shape (Register zero value) = []
+cells_of shape (Register (suc k) value) = cells (4 * suc k) (bytes_of 4 value)
+cells_of shape (Memory address bytes) = cells (place_of shape address) bytes
+
+abbrev pub cells_of_outcome : Shape → Outcome → List (ℕ × ℕ)
+cells_of_outcome shape (Goes list) = flat_map (cells_of shape) list
+cells_of_outcome shape Calls = []
+cells_of_outcome shape (Fails fault) = []
+
+-- What a step writes, each place with its new byte: the pc, the destination unless it is x0, and the bytes stored. A
+-- step that calls or faults writes nothing.
+unfoldable pub writes : State → List (ℕ × ℕ)
+writes s = cells_of_outcome s.shape (outcome s.shape (view_of s))
+
+-- the places that a step writes
+abbrev pub places_written : State → List ℕ
+places_written s = map (λ cell. cell.0) (writes s)
+
+-- a list of bytes after writes, the first one first
+abbrev pub written : List ℕ → List (ℕ × ℕ) → List ℕ
+written bytes [] = bytes
+written bytes (cell ∷ rest) = written (slice_set bytes cell.0 cell.1) rest

@@ -1,0 +1,25 @@
+//! The laws that tie states, their machines and their steps to one another. Each function stands for the law that it
+//! ensures, and does nothing.
+
+ghost use Rattle.asc_model.specs.Laws.{ViewsDetermineStates, StatesDetermineViews, StepWritesBytes, StepsKeepStates};
+
+/// A state is known from its machine: turned into its machine and back, it is the same state.
+pub fn views_determine_states()
+    ensures { ViewsDetermineStates }
+{}
+
+/// A machine is known from its state: turned into its state and back, it is the same machine.
+pub fn states_determine_views()
+    ensures { StatesDetermineViews }
+{}
+
+/// One step of the machine is what its writes do to the bytes of the state: after a step, each place that was written
+/// has its new byte, and every other place has the byte that it had. A guest call and a fault write nothing.
+pub fn step_writes_bytes()
+    ensures { StepWritesBytes }
+{}
+
+/// A step leads from a state to a state, and the shape stays the same.
+pub fn steps_keep_states()
+    ensures { StepsKeepStates }
+{}

@@ -1,0 +1,19 @@
+//! The meaning of the machine: what a state is, which instruction a word is, and what one step of it does.
+//!
+//! The definitions stand in `specs/`. The code has the plain data types that they speak of, and functions that stand
+//! for the laws that tie the definitions to one another.
+#![tactic(auto)]
+
+mod fault;
+mod instruction;
+mod laws;
+mod status;
+mod version;
+
+pub use fault::{Fault, FaultKind};
+pub use instruction::{Instr, Op};
+pub use laws::{
+    states_determine_views, step_writes_bytes, steps_keep_states, views_determine_states,
+};
+pub use status::Status;
+pub use version::Version;
