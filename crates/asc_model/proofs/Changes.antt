@@ -8,9 +8,9 @@ use Rattle.asc_model.specs.declared.version.Version.TheVariants.{One, Two}
 use Rattle.asc_model.specs.Shape.{Shape, start_of, length_of, place_of, holds}
 use Rattle.asc_model.specs.Number.{AreBytes, number_of, bytes_of, word_at}
 use Rattle.asc_model.specs.State.{State, IsState}
-use Rattle.asc_model.specs.Machine.{Machine, IsMachine, Change, Pc, Register, Memory, IsChange, AreChanges, splice, change, changes, words, view_of, state_of}
-use Rattle.asc_model.specs.Places.{cells, cells_of, written}
-use Rattle.asc_model.proofs.Numbers.{word_at-below, bytes_of-number_of, number_of-bytes_of_4, AreBytes-bytes_of, AreBytes-append, AreBytes-take, AreBytes-drop, written-append, written-cells}
+use Rattle.asc_model.specs.Machine.{Machine, IsMachine, Change, Pc, Register, Memory, IsChange, AreChanges, splice, after_change, after_changes, words, view_of, state_of}
+use Rattle.asc_model.specs.Places.{cells, cells_of, bytes_after}
+use Rattle.asc_model.proofs.Numbers.{word_at-below, bytes_of-number_of, number_of-bytes_of_4, AreBytes-bytes_of, AreBytes-append, AreBytes-take, AreBytes-drop, bytes_after-append, bytes_after-cells}
 use Rattle.asc_model.proofs.Views.{length-words, words-below}
 
 -- ---- splices
@@ -207,8 +207,8 @@ below-set bound (first ∷ list) (suc place) v p h zero = h 0
 below-set bound (first ∷ list) (suc place) v p h (suc k) = below-set bound list place v p (λ j. h (suc j)) k
 
 -- a change leaves a machine one of its shape
-pub IsMachine-change : (shape : Shape) (m : Machine) (c : Change) → IsMachine shape m → IsChange shape c → IsMachine shape (change shape m c)
-IsMachine-change shape m (Pc value) good h = record {
+pub IsMachine-after_change : (shape : Shape) (m : Machine) (c : Change) → IsMachine shape m → IsChange shape c → IsMachine shape (after_change shape m c)
+IsMachine-after_change shape m (Pc value) good h = record {
   good = good.good;
   pc = h;
   registers = good.registers;
@@ -218,8 +218,8 @@ IsMachine-change shape m (Pc value) good h = record {
   memory = good.memory;
   memory_bytes = good.memory_bytes;
 }
-IsMachine-change shape m (Register zero value) good h = good
-IsMachine-change shape m (Register (suc k) value) good h = record {
+IsMachine-after_change shape m (Register zero value) good h = good
+IsMachine-after_change shape m (Register (suc k) value) good h = record {
   good = good.good;
   pc = good.pc;
   registers = length-set m.registers k value ∙ good.registers;
@@ -229,7 +229,7 @@ IsMachine-change shape m (Register (suc k) value) good h = record {
   memory = good.memory;
   memory_bytes = good.memory_bytes;
 }
-IsMachine-change shape m (Memory address bytes) good h =
+IsMachine-after_change shape m (Memory address bytes) good h =
     let parts = holds-parts shape address (length bytes) h.0 in
     record {
       good = good.good;
@@ -243,10 +243,10 @@ IsMachine-change shape m (Memory address bytes) good h =
     }
 
 -- what a change of the machine writes into the bytes of its state
-pub state_of-change_bytes : (shape : Shape) (m : Machine) (c : Change) → IsMachine shape m → IsChange shape c → (state_of shape (change shape m c)).bytes ≡ written (state_of shape m).bytes (cells_of shape c)
+pub state_of-change_bytes : (shape : Shape) (m : Machine) (c : Change) → IsMachine shape m → IsChange shape c → (state_of shape (after_change shape m c)).bytes ≡ bytes_after (state_of shape m).bytes (cells_of shape c)
 unfolding state_of
 state_of-change_bytes shape m (Pc value) good h =
-    sym (written-cells (state_of shape m).bytes 0 (bytes_of 4 value) (omega (arith, length-state_of shape m good, start_of-least shape.version)))
+    sym (bytes_after-cells (state_of shape m).bytes 0 (bytes_of 4 value) (omega (arith, length-state_of shape m good, start_of-least shape.version)))
 state_of-change_bytes shape m (Register zero value) good h = refl
 state_of-change_bytes shape m (Register (suc k) value) good h =
     let pc = bytes_of 4 m.pc in
@@ -260,17 +260,17 @@ state_of-change_bytes shape m (Register (suc k) value) good h =
     ∙ ap (λ l. l ++ m.reservation ++ m.memory) (sym (splice-append_right pc registers (4 * k) new))
     ∙ ap (λ l. l ++ m.memory) (sym (splice-append_left (pc ++ registers) m.reservation (4 + 4 * k) new inside))
     ∙ sym (splice-append_left (pc ++ registers ++ m.reservation) m.memory (4 + 4 * k) new inside_front)
-    ∙ sym (written-cells (state_of shape m).bytes (4 + 4 * k) new inside_all)
-    ∙ ap (λ i. written (state_of shape m).bytes (cells i new)) place
+    ∙ sym (bytes_after-cells (state_of shape m).bytes (4 + 4 * k) new inside_all)
+    ∙ ap (λ i. bytes_after (state_of shape m).bytes (cells i new)) place
 state_of-change_bytes shape m (Memory address new) good h =
     let parts = holds-parts shape address (length new) h.0 in
     let front = bytes_of 4 m.pc ++ bytes_of_words m.registers ++ m.reservation in
     sym (splice-append_right front m.memory (address - shape.base) new)
     ∙ ap (λ n. splice (front ++ m.memory) (n + (address - shape.base)) new) (length-front shape m good)
-    ∙ sym (written-cells (state_of shape m).bytes (place_of shape address) new (omega (arith, length-state_of shape m good, parts.0, parts.1)))
+    ∙ sym (bytes_after-cells (state_of shape m).bytes (place_of shape address) new (omega (arith, length-state_of shape m good, parts.0, parts.1)))
 
 -- the state of a machine after a change, by its bytes
-pub state_of-change_machine : (shape : Shape) (m : Machine) (c : Change) → IsMachine shape m → IsChange shape c → state_of shape (change shape m c) ≡ record (state_of shape m) { bytes = written (state_of shape m).bytes (cells_of shape c) }
+pub state_of-change_machine : (shape : Shape) (m : Machine) (c : Change) → IsMachine shape m → IsChange shape c → state_of shape (after_change shape m c) ≡ record (state_of shape m) { bytes = bytes_after (state_of shape m).bytes (cells_of shape c) }
 unfolding state_of
 state_of-change_machine shape m c good h =
     let e = state_of-change_bytes shape m c good h in
@@ -278,34 +278,34 @@ state_of-change_machine shape m c good h =
 
 -- ---- lists of changes
 
-pub IsMachine-changes : (shape : Shape) (m : Machine) (list : List Change) → IsMachine shape m → AreChanges shape list → IsMachine shape (changes shape m list)
-IsMachine-changes shape m [] good h = good
-IsMachine-changes shape m (first ∷ rest) good h =
-    IsMachine-changes shape (change shape m first) rest (IsMachine-change shape m first good h.0) h.1
+pub IsMachine-after_changes : (shape : Shape) (m : Machine) (list : List Change) → IsMachine shape m → AreChanges shape list → IsMachine shape (after_changes shape m list)
+IsMachine-after_changes shape m [] good h = good
+IsMachine-after_changes shape m (first ∷ rest) good h =
+    IsMachine-after_changes shape (after_change shape m first) rest (IsMachine-after_change shape m first good h.0) h.1
 
-pub state_of-changes_bytes : (shape : Shape) (m : Machine) (list : List Change) → IsMachine shape m → AreChanges shape list → (state_of shape (changes shape m list)).bytes ≡ written (state_of shape m).bytes (flat_map (cells_of shape) list)
+pub state_of-changes_bytes : (shape : Shape) (m : Machine) (list : List Change) → IsMachine shape m → AreChanges shape list → (state_of shape (after_changes shape m list)).bytes ≡ bytes_after (state_of shape m).bytes (flat_map (cells_of shape) list)
 state_of-changes_bytes shape m [] good h = refl
 state_of-changes_bytes shape m (first ∷ rest) good h =
-    state_of-changes_bytes shape (change shape m first) rest (IsMachine-change shape m first good h.0) h.1
-    ∙ ap (λ b. written b (flat_map (cells_of shape) rest)) (state_of-change_bytes shape m first good h.0)
-    ∙ sym (written-append (state_of shape m).bytes (cells_of shape first) (flat_map (cells_of shape) rest))
+    state_of-changes_bytes shape (after_change shape m first) rest (IsMachine-after_change shape m first good h.0) h.1
+    ∙ ap (λ b. bytes_after b (flat_map (cells_of shape) rest)) (state_of-change_bytes shape m first good h.0)
+    ∙ sym (bytes_after-append (state_of shape m).bytes (cells_of shape first) (flat_map (cells_of shape) rest))
 
 -- the state of a state's machine after a change
-pub state_of-change : (s : State) (c : Change) → IsState s → IsChange s.shape c → state_of s.shape (change s.shape (view_of s) c) ≡ record s { bytes = written s.bytes (cells_of s.shape c) }
+pub state_of-after_change : (s : State) (c : Change) → IsState s → IsChange s.shape c → state_of s.shape (after_change s.shape (view_of s) c) ≡ record s { bytes = bytes_after s.bytes (cells_of s.shape c) }
 unfolding state_of
-state_of-change s c good h =
+state_of-after_change s c good h =
     let e = state_of-change_bytes s.shape (view_of s) c (IsMachine-view_of s good) h in
     let same = state_of-view_of s good in
-    let all : (state_of s.shape (change s.shape (view_of s) c)).bytes ≡ written s.bytes (cells_of s.shape c) =
-    e ∙ ap (λ (t : State). written t.bytes (cells_of s.shape c)) same in
+    let all : (state_of s.shape (after_change s.shape (view_of s) c)).bytes ≡ bytes_after s.bytes (cells_of s.shape c) =
+    e ∙ ap (λ (t : State). bytes_after t.bytes (cells_of s.shape c)) same in
     λ i. record s { bytes = all i }
 
 -- the state of a state's machine after changes
-pub state_of-changes : (s : State) (list : List Change) → IsState s → AreChanges s.shape list → state_of s.shape (changes s.shape (view_of s) list) ≡ record s { bytes = written s.bytes (flat_map (cells_of s.shape) list) }
+pub state_of-after_changes : (s : State) (list : List Change) → IsState s → AreChanges s.shape list → state_of s.shape (after_changes s.shape (view_of s) list) ≡ record s { bytes = bytes_after s.bytes (flat_map (cells_of s.shape) list) }
 unfolding state_of
-state_of-changes s list good h =
+state_of-after_changes s list good h =
     let e = state_of-changes_bytes s.shape (view_of s) list (IsMachine-view_of s good) h in
     let same = state_of-view_of s good in
-    let all : (state_of s.shape (changes s.shape (view_of s) list)).bytes ≡ written s.bytes (flat_map (cells_of s.shape) list) =
-    e ∙ ap (λ (t : State). written t.bytes (flat_map (cells_of s.shape) list)) same in
+    let all : (state_of s.shape (after_changes s.shape (view_of s) list)).bytes ≡ bytes_after s.bytes (flat_map (cells_of s.shape) list) =
+    e ∙ ap (λ (t : State). bytes_after t.bytes (flat_map (cells_of s.shape) list)) same in
     λ i. record s { bytes = all i }

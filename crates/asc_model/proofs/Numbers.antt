@@ -6,7 +6,7 @@ use Rattle.std.proofs.lemmas.Nat.{div_below}
 use Rattle.std.proofs.Math.Nat.{div-div-eq-div-mul, pow-suc, pow-zero}
 use Rattle.asc_model.specs.Number.{AreBytes, number_of, bytes_of, word_at}
 use Rattle.asc_model.specs.Machine.{splice}
-use Rattle.asc_model.specs.Places.{cells, written}
+use Rattle.asc_model.specs.Places.{cells, bytes_after}
 
 -- the number in the first four elements, also where there are fewer
 pub number_of-take_4 : (xs : List ℕ) → number_of (take 4 xs) ≡ from_le_bytes w32 (get_or xs 0 0 ∷ get_or xs 1 0 ∷ get_or xs 2 0 ∷ get_or xs 3 0 ∷ [])
@@ -107,13 +107,13 @@ AreBytes-set (first ∷ bytes) (suc place) byte p h (suc i) = AreBytes-set bytes
 
 -- ---- writes
 
-pub length-written : (bytes : List ℕ) (list : List (ℕ × ℕ)) → length (written bytes list) ≡ length bytes
-length-written bytes [] = refl
-length-written bytes (cell ∷ rest) = length-written (slice_set bytes cell.0 cell.1) rest ∙ length-set bytes cell.0 cell.1
+pub length-bytes_after : (bytes : List ℕ) (list : List (ℕ × ℕ)) → length (bytes_after bytes list) ≡ length bytes
+length-bytes_after bytes [] = refl
+length-bytes_after bytes (cell ∷ rest) = length-bytes_after (slice_set bytes cell.0 cell.1) rest ∙ length-set bytes cell.0 cell.1
 
-pub written-append : (bytes : List ℕ) (a b : List (ℕ × ℕ)) → written bytes (a ++ b) ≡ written (written bytes a) b
-written-append bytes [] b = refl
-written-append bytes (cell ∷ a) b = written-append (slice_set bytes cell.0 cell.1) a b
+pub bytes_after-append : (bytes : List ℕ) (a b : List (ℕ × ℕ)) → bytes_after bytes (a ++ b) ≡ bytes_after (bytes_after bytes a) b
+bytes_after-append bytes [] b = refl
+bytes_after-append bytes (cell ∷ a) b = bytes_after-append (slice_set bytes cell.0 cell.1) a b
 
 -- each new byte is a byte
 abbrev pub AreCells : List (ℕ × ℕ) → Type 0
@@ -128,25 +128,25 @@ pub AreCells-cells : (place : ℕ) (bytes : List ℕ) → AreBytes bytes → Are
 AreCells-cells place [] h = tt
 AreCells-cells place (byte ∷ bytes) h = (h 0, AreCells-cells (place + 1) bytes (λ i. h (suc i)))
 
-pub AreBytes-written : (bytes : List ℕ) (list : List (ℕ × ℕ)) → AreCells list → AreBytes bytes → AreBytes (written bytes list)
-AreBytes-written bytes [] p h = h
-AreBytes-written bytes (cell ∷ rest) p h = AreBytes-written (slice_set bytes cell.0 cell.1) rest p.1 (AreBytes-set bytes cell.0 cell.1 p.0 h)
+pub AreBytes-bytes_after : (bytes : List ℕ) (list : List (ℕ × ℕ)) → AreCells list → AreBytes bytes → AreBytes (bytes_after bytes list)
+AreBytes-bytes_after bytes [] p h = h
+AreBytes-bytes_after bytes (cell ∷ rest) p h = AreBytes-bytes_after (slice_set bytes cell.0 cell.1) rest p.1 (AreBytes-set bytes cell.0 cell.1 p.0 h)
 
 -- four writes in a row
-pub written-cells_4 : (bytes : List ℕ) (place b0 b1 b2 b3 : ℕ) → written bytes (cells place (b0 ∷ b1 ∷ b2 ∷ b3 ∷ [])) ≡ slice_set (slice_set (slice_set (slice_set bytes place b0) (place + 1) b1) (place + 2) b2) (place + 3) b3
-written-cells_4 bytes place b0 b1 b2 b3 =
+pub bytes_after-cells_4 : (bytes : List ℕ) (place b0 b1 b2 b3 : ℕ) → bytes_after bytes (cells place (b0 ∷ b1 ∷ b2 ∷ b3 ∷ [])) ≡ slice_set (slice_set (slice_set (slice_set bytes place b0) (place + 1) b1) (place + 2) b2) (place + 3) b3
+bytes_after-cells_4 bytes place b0 b1 b2 b3 =
     let p : place + 1 + 1 ≡ place + 2 = omega arith in
     let q : place + 1 + 1 + 1 ≡ place + 3 = omega arith in
     λ i. slice_set (slice_set (slice_set (slice_set bytes place b0) (place + 1) b1) (p i) b2) (q i) b3
 
 -- writes in a row are one splice
-pub written-cells : (bytes : List ℕ) (place : ℕ) (new : List ℕ) → place + length new ≤ length bytes → written bytes (cells place new) ≡ splice bytes place new
-written-cells bytes place [] h = sym (ap (λ n. take place bytes ++ [] ++ drop n bytes) (add-zero place) ∙ ap (λ l. l ++ drop place bytes) (append-nil (take place bytes)) ∙ take-append-drop place bytes)
-written-cells bytes place (byte ∷ new) h =
+pub bytes_after-cells : (bytes : List ℕ) (place : ℕ) (new : List ℕ) → place + length new ≤ length bytes → bytes_after bytes (cells place new) ≡ splice bytes place new
+bytes_after-cells bytes place [] h = sym (ap (λ n. take place bytes ++ [] ++ drop n bytes) (add-zero place) ∙ ap (λ l. l ++ drop place bytes) (append-nil (take place bytes)) ∙ take-append-drop place bytes)
+bytes_after-cells bytes place (byte ∷ new) h =
     let l : place < length bytes = omega arith in
     let fits : place + 1 + length new ≤ length (slice_set bytes place byte) = omega (arith, length-set bytes place byte) in
     let n : place + 1 + length new ≡ place + suc (length new) = omega arith in
-    written-cells (slice_set bytes place byte) (place + 1) new fits
+    bytes_after-cells (slice_set bytes place byte) (place + 1) new fits
     ∙ ap (λ a. a ++ new ++ drop (place + 1 + length new) (slice_set bytes place byte)) (take_more_set bytes place byte l)
     ∙ ap (λ b. take place bytes ++ byte ∷ [] ++ new ++ b) (drop-set-lt (place + 1 + length new) bytes place byte (omega arith))
     ∙ ap (λ k. take place bytes ++ byte ∷ [] ++ new ++ drop k bytes) n

@@ -17,10 +17,10 @@ use Rattle.asc_model.specs.State.{State, IsState}
 use Rattle.asc_model.specs.Machine.{Machine, IsMachine, register, load, Change, Pc, Register, Memory, AreChanges, view_of}
 use Rattle.asc_model.specs.Instruction.{Format, I, Plain, Row, operands, fits, find, table, decode, rd_of, rs1_of, rs2_of, imm_of, op_of}
 use Rattle.asc_model.specs.Effect.{Effect, Set, Load, Store, Jump, GuestCall, Breakpoint, effect, ◌+w◌}
-use Rattle.asc_model.specs.Step.{Outcome, Goes, Calls, Fails, fails, is_aligned, extend, effect_of, outcome_of, fetch, executed, outcome, At, Call, Bad, next_of, next}
-use Rattle.asc_model.specs.Places.{cells_of, cells_of_outcome, writes, written}
+use Rattle.asc_model.specs.Step.{Outcome, Goes, Calls, Fails, fault_outcome, is_aligned, extend, effect_of, outcome_of, fetch, outcome_of_word, outcome, At, Call, Bad, next_of, next}
+use Rattle.asc_model.specs.Places.{cells_of, cells_of_outcome, writes, bytes_after}
 use Rattle.asc_model.proofs.Numbers.{number_of-below, length-bytes_of, AreBytes-bytes_of, AreBytes-take, AreBytes-drop}
-use Rattle.asc_model.proofs.Changes.{IsMachine-view_of, state_of-changes}
+use Rattle.asc_model.proofs.Changes.{IsMachine-view_of, state_of-after_changes}
 
 -- what holds of both branches
 by_branch : {A : Type 0} (P : A → Type 0) (b : Bool) (x y : A) → (b ≡ true → P x) → (b ≡ false → P y) → P (if b then x else y)
@@ -132,13 +132,13 @@ IsOutcome shape (Fails fault) = ⊤
 pub outcome_of-IsOutcome : (shape : Shape) (m : Machine) (rd : ℕ) (e : Effect) → IsMachine shape m → rd ≤ 31 → IsEffect e → IsOutcome shape (outcome_of shape m rd e)
 outcome_of-IsOutcome shape m rd (Set value) good hrd h = (add_words-below m.pc 4, ((hrd, h), tt))
 outcome_of-IsOutcome shape m rd (Load n signed address) good hrd h =
-    by_branch (IsOutcome shape) (holds shape address n) (Goes (Pc (m.pc +w 4) ∷ Register rd (extend n signed (load shape m n address)) ∷ [])) (fails m LoadOutside address)
+    by_branch (IsOutcome shape) (holds shape address n) (Goes (Pc (m.pc +w 4) ∷ Register rd (extend n signed (load shape m n address)) ∷ [])) (fault_outcome m LoadOutside address)
     (λ e. (add_words-below m.pc 4, ((hrd, extend-below n (load shape m n address) signed h (load-below shape m n address good)), tt))) (λ e. tt)
 outcome_of-IsOutcome shape m rd (Store n address value) good hrd h =
-    by_branch (IsOutcome shape) (holds shape address n) (Goes (Pc (m.pc +w 4) ∷ Memory address (bytes_of n value) ∷ [])) (fails m StoreOutside address)
+    by_branch (IsOutcome shape) (holds shape address n) (Goes (Pc (m.pc +w 4) ∷ Memory address (bytes_of n value) ∷ [])) (fault_outcome m StoreOutside address)
     (λ e. (add_words-below m.pc 4, ((ap (holds shape address) (length-bytes_of n value) ∙ e, AreBytes-bytes_of n value), tt))) (λ e. tt)
 outcome_of-IsOutcome shape m rd (Jump target) good hrd h =
-    by_branch (IsOutcome shape) (is_aligned target) (Goes (Pc target ∷ Register rd (m.pc +w 4) ∷ [])) (fails m Misaligned target)
+    by_branch (IsOutcome shape) (is_aligned target) (Goes (Pc target ∷ Register rd (m.pc +w 4) ∷ [])) (fault_outcome m Misaligned target)
     (λ e. (h, ((hrd, add_words-below m.pc 4), tt))) (λ e. tt)
 outcome_of-IsOutcome shape m rd GuestCall good hrd h = tt
 outcome_of-IsOutcome shape m rd Breakpoint good hrd h = tt
@@ -149,19 +149,19 @@ effect_of-IsEffect shape m i good h =
     effect-IsEffect (op_of i) m.pc (register m (rs1_of i)) (register m (rs2_of i)) (imm_of i) good.pc
     (register-below shape m (rs1_of i) good) (register-below shape m (rs2_of i) good) h.imm
 
-executed-IsOutcome : (shape : Shape) (m : Machine) (i : Option Instr) → IsMachine shape m → IfInstruction i → IsOutcome shape (executed shape m i)
-executed-IsOutcome shape m None good h = tt
-executed-IsOutcome shape m (Some i) good h =
+outcome_of_word-IsOutcome : (shape : Shape) (m : Machine) (i : Option Instr) → IsMachine shape m → IfInstruction i → IsOutcome shape (outcome_of_word shape m i)
+outcome_of_word-IsOutcome shape m None good h = tt
+outcome_of_word-IsOutcome shape m (Some i) good h =
     outcome_of-IsOutcome shape m (rd_of i) (effect_of m i) good h.rd (effect_of-IsEffect shape m i good h)
 
 -- changes that a step comes to may be
 pub outcome-IsOutcome : (shape : Shape) (m : Machine) → IsMachine shape m → IsOutcome shape (outcome shape m)
 unfolding outcome
 outcome-IsOutcome shape m good =
-    let run = executed shape m (decode shape.version (fetch shape m)) in
-    by_branch (IsOutcome shape) (not (is_aligned m.pc)) (fails m Misaligned m.pc) (if not (holds shape m.pc 4) then fails m FetchOutside m.pc else run) (λ e. tt)
-    (λ e. by_branch (IsOutcome shape) (not (holds shape m.pc 4)) (fails m FetchOutside m.pc) run (λ e. tt)
-    (λ e. executed-IsOutcome shape m (decode shape.version (fetch shape m)) good (decode-IsInstruction shape.version (fetch shape m))))
+    let run = outcome_of_word shape m (decode shape.version (fetch shape m)) in
+    by_branch (IsOutcome shape) (not (is_aligned m.pc)) (fault_outcome m Misaligned m.pc) (if not (holds shape m.pc 4) then fault_outcome m FetchOutside m.pc else run) (λ e. tt)
+    (λ e. by_branch (IsOutcome shape) (not (holds shape m.pc 4)) (fault_outcome m FetchOutside m.pc) run (λ e. tt)
+    (λ e. outcome_of_word-IsOutcome shape m (decode shape.version (fetch shape m)) good (decode-IsInstruction shape.version (fetch shape m))))
 
 -- ---- the next state
 
@@ -170,12 +170,12 @@ pub outcome-AreChanges : (s : State) (list : List Change) → IsState s → outc
 outcome-AreChanges s list good e = subst (IsOutcome s.shape) e (outcome-IsOutcome s.shape (view_of s) (IsMachine-view_of s good))
 
 -- a step that goes on writes its changes into the state
-pub next-goes : (s : State) (list : List Change) → IsState s → outcome s.shape (view_of s) ≡ Goes list → next s ≡ At (record s { bytes = written s.bytes (writes s) })
+pub next-goes : (s : State) (list : List Change) → IsState s → outcome s.shape (view_of s) ≡ Goes list → next s ≡ At (record s { bytes = bytes_after s.bytes (writes s) })
 unfolding next writes
 next-goes s list good e =
     ap (next_of s.shape (view_of s)) e
-    ∙ ap At (state_of-changes s list good (outcome-AreChanges s list good e))
-    ∙ ap (λ o. At (record s { bytes = written s.bytes (cells_of_outcome s.shape o) })) (sym e)
+    ∙ ap At (state_of-after_changes s list good (outcome-AreChanges s list good e))
+    ∙ ap (λ o. At (record s { bytes = bytes_after s.bytes (cells_of_outcome s.shape o) })) (sym e)
 
 pub next-calls : (s : State) → outcome s.shape (view_of s) ≡ Calls → next s ≡ Call
 unfolding next

@@ -5,7 +5,7 @@ use Rattle.asc_model.specs.Shape.{Shape}
 use Rattle.asc_model.specs.State.{State, IsState}
 use Rattle.asc_model.specs.Machine.{Machine, IsMachine, view_of, state_of}
 use Rattle.asc_model.specs.Step.{At, Call, Bad, next}
-use Rattle.asc_model.specs.Places.{writes, written}
+use Rattle.asc_model.specs.Places.{writes, bytes_after}
 
 -- The machine of a state is one of its shape, and the state is the one of that machine: its machine determines it.
 abbrev pub ViewsDetermineStates : Type 0
@@ -19,7 +19,7 @@ StatesDetermineViews =
 -- what the writes of a state's step come to, in each case of the step
 pub record WritesOfStep (s : State) : Type 0 where
   -- the next state is this one with the writes put into its bytes
-  pub goes : (after : State) → next s ≡ At after → after ≡ record s { bytes = written s.bytes (writes s) }
+  pub goes : (after : State) → next s ≡ At after → after ≡ record s { bytes = bytes_after s.bytes (writes s) }
   -- a guest call and a fault write nothing
   pub calls : next s ≡ Call → writes s ≡ []
   pub fails : (fault : Fault) → next s ≡ Bad fault → writes s ≡ []

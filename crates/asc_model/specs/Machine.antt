@@ -33,16 +33,16 @@ abbrev pub splice : List ℕ → ℕ → List ℕ → List ℕ
 splice list i bytes = take i list ++ bytes ++ drop (i + length bytes) list
 
 -- the machine after a change; setting register 0 changes nothing
-abbrev pub change : Shape → Machine → Change → Machine
-change shape m (Pc value) = record m { pc = value }
-change shape m (Register zero value) = m
-change shape m (Register (suc k) value) = record m { registers = slice_set m.registers k value }
-change shape m (Memory address bytes) = record m { memory = splice m.memory (address - shape.base) bytes }
+abbrev pub after_change : Shape → Machine → Change → Machine
+after_change shape m (Pc value) = record m { pc = value }
+after_change shape m (Register zero value) = m
+after_change shape m (Register (suc k) value) = record m { registers = slice_set m.registers k value }
+after_change shape m (Memory address bytes) = record m { memory = splice m.memory (address - shape.base) bytes }
 
 -- the machine after changes, the first one first
-abbrev pub changes : Shape → Machine → List Change → Machine
-changes shape m [] = m
-changes shape m (first ∷ rest) = changes shape (change shape m first) rest
+abbrev pub after_changes : Shape → Machine → List Change → Machine
+after_changes shape m [] = m
+after_changes shape m (first ∷ rest) = after_changes shape (after_change shape m first) rest
 
 -- what a change may be: registers are 0 to 31, values are words, and bytes go into memory
 abbrev pub IsChange : Shape → Change → Type 0

@@ -11,18 +11,18 @@ use Rattle.asc_model.specs.Effect.{Effect, Set, Load, Store, Jump, GuestCall, Br
 use Rattle.asc_model.specs.Step.{Outcome, Goes, Calls, Fails, is_aligned, effect_of, fetch, outcome}
 
 -- n places from a place on
-abbrev pub span : ℕ → ℕ → List ℕ
-span place zero = []
-span place (suc n) = place ∷ span (place + 1) n
+abbrev pub places_from : ℕ → ℕ → List ℕ
+places_from place zero = []
+places_from place (suc n) = place ∷ places_from (place + 1) n
 
 -- the places of register k; x0 has none
 abbrev pub register_places : ℕ → List ℕ
 register_places zero = []
-register_places (suc k) = span (4 * suc k) 4
+register_places (suc k) = places_from (4 * suc k) 4
 
 -- the places of the data that an effect loads
 abbrev pub data_places : Shape → Effect → List ℕ
-data_places shape (Load n signed address) = if holds shape address n then span (place_of shape address) n else []
+data_places shape (Load n signed address) = if holds shape address n then places_from (place_of shape address) n else []
 data_places shape (Set value) = []
 data_places shape (Store n address value) = []
 data_places shape (Jump target) = []
@@ -40,8 +40,8 @@ operand_places shape m (Some i) = register_places (rs1_of i) ++ register_places 
 unfoldable pub places_read : State → List ℕ
 places_read s = let m = view_of s in
     if is_aligned m.pc && holds s.shape m.pc 4
-    then span 0 4 ++ span (place_of s.shape m.pc) 4 ++ operand_places s.shape m (decode s.shape.version (fetch s.shape m))
-    else span 0 4
+    then places_from 0 4 ++ places_from (place_of s.shape m.pc) 4 ++ operand_places s.shape m (decode s.shape.version (fetch s.shape m))
+    else places_from 0 4
 
 -- bytes, each with its place, from a place on
 abbrev pub cells : ℕ → List ℕ → List (ℕ × ℕ)
@@ -70,6 +70,6 @@ abbrev pub places_written : State → List ℕ
 places_written s = map (λ cell. cell.0) (writes s)
 
 -- a list of bytes after writes, the first one first
-abbrev pub written : List ℕ → List (ℕ × ℕ) → List ℕ
-written bytes [] = bytes
-written bytes (cell ∷ rest) = written (slice_set bytes cell.0 cell.1) rest
+abbrev pub bytes_after : List ℕ → List (ℕ × ℕ) → List ℕ
+bytes_after bytes [] = bytes
+bytes_after bytes (cell ∷ rest) = bytes_after (slice_set bytes cell.0 cell.1) rest

@@ -8,7 +8,7 @@ use Rattle.asc_model.specs.declared.instruction.Instr.{Instr}
 use Rattle.asc_model.specs.Shape.{Shape, holds}
 use Rattle.asc_model.specs.Number.{bytes_of, sign_extend}
 use Rattle.asc_model.specs.State.{State}
-use Rattle.asc_model.specs.Machine.{Machine, register, load, Change, Pc, Register, Memory, changes, view_of, state_of}
+use Rattle.asc_model.specs.Machine.{Machine, register, load, Change, Pc, Register, Memory, after_changes, view_of, state_of}
 use Rattle.asc_model.specs.Instruction.{decode, op_of, rd_of, rs1_of, rs2_of, imm_of}
 use Rattle.asc_model.specs.Effect.{Effect, Set, Load, Store, Jump, GuestCall, Breakpoint, effect, ◌+w◌}
 
@@ -18,8 +18,8 @@ pub data Outcome : Type 0 where
   Calls : Outcome
   Fails : Fault → Outcome
 
-abbrev pub fails : Machine → FaultKind → ℕ → Outcome
-fails m kind value = Fails (record { kind = kind; pc = m.pc; value = value })
+abbrev pub fault_outcome : Machine → FaultKind → ℕ → Outcome
+fault_outcome m kind value = Fails (record { kind = kind; pc = m.pc; value = value })
 
 abbrev pub is_aligned : ℕ → Bool
 is_aligned address = address % 4 == 0
@@ -37,30 +37,30 @@ abbrev pub outcome_of : Shape → Machine → (rd : ℕ) → Effect → Outcome
 outcome_of shape m rd (Set value) = Goes (Pc (m.pc +w 4) ∷ Register rd value ∷ [])
 outcome_of shape m rd (Load n signed address) =
     if holds shape address n then Goes (Pc (m.pc +w 4) ∷ Register rd (extend n signed (load shape m n address)) ∷ [])
-    else fails m LoadOutside address
+    else fault_outcome m LoadOutside address
 outcome_of shape m rd (Store n address value) =
     if holds shape address n then Goes (Pc (m.pc +w 4) ∷ Memory address (bytes_of n value) ∷ [])
-    else fails m StoreOutside address
+    else fault_outcome m StoreOutside address
 outcome_of shape m rd (Jump target) =
-    if is_aligned target then Goes (Pc target ∷ Register rd (m.pc +w 4) ∷ []) else fails m Misaligned target
+    if is_aligned target then Goes (Pc target ∷ Register rd (m.pc +w 4) ∷ []) else fault_outcome m Misaligned target
 outcome_of shape m rd GuestCall = Calls
-outcome_of shape m rd Breakpoint = fails m Break 0
+outcome_of shape m rd Breakpoint = fault_outcome m Break 0
 
 -- the word at the pc
 abbrev pub fetch : Shape → Machine → ℕ
 fetch shape m = load shape m 4 m.pc
 
 -- the outcome of the word at the pc, once it is decoded
-abbrev pub executed : Shape → Machine → Option Instr → Outcome
-executed shape m None = fails m Illegal (fetch shape m)
-executed shape m (Some i) = outcome_of shape m (rd_of i) (effect_of m i)
+abbrev pub outcome_of_word : Shape → Machine → Option Instr → Outcome
+outcome_of_word shape m None = fault_outcome m Illegal (fetch shape m)
+outcome_of_word shape m (Some i) = outcome_of shape m (rd_of i) (effect_of m i)
 
 -- What one step comes to: the pc is tested first, then the fetch, then the word, then what its effect asks for.
 unfoldable pub outcome : Shape → Machine → Outcome
 outcome shape m =
-    if not (is_aligned m.pc) then fails m Misaligned m.pc
-    else (if not (holds shape m.pc 4) then fails m FetchOutside m.pc
-    else executed shape m (decode shape.version (fetch shape m)))
+    if not (is_aligned m.pc) then fault_outcome m Misaligned m.pc
+    else (if not (holds shape m.pc 4) then fault_outcome m FetchOutside m.pc
+    else outcome_of_word shape m (decode shape.version (fetch shape m)))
 
 -- what a step makes of a state
 pub data Next : Type 0 where
@@ -69,7 +69,7 @@ pub data Next : Type 0 where
   Bad : Fault → Next
 
 abbrev pub next_of : Shape → Machine → Outcome → Next
-next_of shape m (Goes list) = At (state_of shape (changes shape m list))
+next_of shape m (Goes list) = At (state_of shape (after_changes shape m list))
 next_of shape m Calls = Call
 next_of shape m (Fails fault) = Bad fault
 

@@ -1,0 +1,3 @@
+pub mod GuestCall
+pub mod World
+pub mod Serving

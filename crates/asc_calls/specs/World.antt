@@ -1,0 +1,52 @@
+-- All that a run changes: the state, what the calls keep, the devices, and the count of steps.
+use Rattle.std.specs.Prelude.{◌≡◌, ℕ, Bool, IsTrue, MatchBool, List, [], Option, Some, None}
+use Rattle.asc_model.specs.State.{State}
+use Rattle.asc_shape.specs.Outside.{Takes, IsAtEnd, Given, given_after}
+use Rattle.asc_calls.specs.GuestCall.{Act}
+
+-- What the calls of one run keep: the bounds of the program's break, the break, and whether the end of the input was
+-- found.
+pub record CallState : Type 0 where
+  pub low : ℕ
+  pub high : ℕ
+  pub brk : ℕ
+  pub ended : Bool
+
+-- what devices tell, and the counter of steps
+pub record Outside : Type 0 where
+  -- the input still to come, where it is told
+  pub left : Option (List ℕ)
+  pub out : Given
+  pub err : Given
+  pub steps : ℕ
+
+abbrev pub outside : Option (List ℕ) → Given → Given → ℕ → Outside
+outside left out err steps = record { left = left; out = out; err = err; steps = steps }
+
+pub record World : Type 0 where
+  pub state : State
+  pub kept : CallState
+  pub outside : Outside
+  pub open outside use *
+
+abbrev pub world : State → CallState → Option (List ℕ) → Given → Given → ℕ → World
+world state kept left out err steps = record { state = state; kept = kept; outside = record { left = left; out = out; err = err; steps = steps } }
+
+-- the devices took and were given just this
+pub record Acts (old new : Outside) (act : Act) : Type 0 where
+  pub taken : Takes old.left new.left act.taken
+  pub out : new.out ≡ given_after old.out act.out
+  pub err : new.err ≡ given_after old.err act.err
+
+-- an input that agrees with what is told
+abbrev pub Agrees : Option (List ℕ) → List ℕ → Type 0
+Agrees (Some told) left = told ≡ left
+Agrees None left = Unit {0}
+
+-- the input that calls may still meet: none once its end was found, else one that agrees with what is told
+abbrev pub MayCome : World → List ℕ → Type 0
+MayCome w rest = MatchBool w.kept.ended (rest ≡ []) (Agrees w.left rest)
+
+-- where the end of the input was found, no byte is left
+abbrev pub KnowsEnd : World → Type 0
+KnowsEnd w = IsTrue w.kept.ended → IsAtEnd w.left

@@ -1,0 +1,51 @@
+use Rattle.std.proofs.Common.{◌*◌, ◌/◌, ◌+◌, ◌%◌, Ok, refl, sym, ap, ◌∙◌, arith, inl, inr}
+use Rattle.asc_model.specs.Shape.{Shape}
+use Rattle.asc_elf.specs.Image.{shape_for, image_for}
+use Rattle.asc_elf.proofs.Faults.{image_of-layout, image_of-Ok, laid_out-Err, laid_out-Ok, layout-TooLarge_memory, layout-TooLarge_segment, layout-Entry, cases-None}
+use Rattle.asc_elf.proofs.image.laid_out.Goals as goal
+use Rattle.asc_elf.proofs.image.laid_out.Goals.{then-entry-ne0-via-then-entry-ne0, then-entry-ne0-via-else-entry-ne0+then-entry-base, then-entry-ne0-via-else-entry-ne0+else-entry-base+then-end-from}
+
+pub returns-in_default : goal.returns-in_default
+returns-in_default c =
+    let file = c.args.file.now in
+    let past = laid_out-Err file _ _ _ c.in_default.field-0 c.lowest-lowest.ensures c.requires.size (sym c.in_default.is ∙ c.of.ensures) in
+    sym (image_of-layout _ _ _ _ c.requires.whole (layout-TooLarge_memory file (shape_for file c.args.size c.args.version) past))
+
+pub returns-then-end-highest : goal.returns-then-end-highest
+returns-then-end-highest c =
+    let file = c.args.file.now in
+    let place = laid_out-Ok file _ _ _ c.in-Ok.shape c.lowest-lowest.ensures (sym c.in-Ok.is ∙ c.of.ensures) in
+    let base = ap (λ (s : Shape). s.base) place.0 in
+    sym (image_of-layout _ _ _ _ c.requires.whole (layout-TooLarge_segment file (shape_for file c.args.size c.args.version) (omega (arith, base))))
+
+pub returns-then-entry-ne0 : goal.returns-then-entry-ne0
+returns-then-entry-ne0 c =
+    let file = c.args.file.now in
+    let place = laid_out-Ok file _ _ _ c.in-Ok.shape c.lowest-lowest.ensures (sym c.in-Ok.is ∙ c.of.ensures) in
+    let base = ap (λ (s : Shape). s.base) place.0 in
+    sym (image_of-layout _ _ _ _ c.requires.whole (layout-Entry file (shape_for file c.args.size c.args.version) place.1 (omega (arith, base))
+    (elim c.then-entry-ne0.branch [
+      | then-entry-ne0-via-then-entry-ne0 w ↦ inl (λ e. w.if-entry-ne0.true (ap (λ n. n % 4) c.word-entry.ensures ∙ e))
+      | then-entry-ne0-via-else-entry-ne0+then-entry-base w ↦ inr (inl (omega (arith, base)))
+      | then-entry-ne0-via-else-entry-ne0+else-entry-base+then-end-from w ↦ inr (inr (omega (arith, base)))
+    ])))
+
+pub invariant_of-result : goal.invariant_of-result
+invariant_of-result c =
+    let file = c.args.file.now in
+    let place = laid_out-Ok file _ _ _ c.in-Ok.shape c.lowest-lowest.ensures (sym c.in-Ok.is ∙ c.of.ensures) in
+    let base = ap (λ (s : Shape). s.base) place.0 in
+    record {
+      laid_out = rw (place.0) refl;
+      no_fault = rw (place.0) (cases-None file (shape_for file c.args.size c.args.version) c.requires.whole place.1 (omega (arith, base)) (omega arith) (omega (arith, base)) (omega (arith, base)));
+      begins = c.word-entry.ensures;
+      breaks = ap (λ n. (n + 15) / 16 * 16) c.highest-highest.ensures;
+    }
+
+pub returns : goal.returns
+returns c =
+    let file = c.args.file.now in
+    let place = laid_out-Ok file _ _ _ c.in-Ok.shape c.lowest-lowest.ensures (sym c.in-Ok.is ∙ c.of.ensures) in
+    let base = ap (λ (s : Shape). s.base) place.0 in
+    ap (λ (s : Shape). Ok (image_for file s)) place.0
+    ∙ sym (image_of-Ok file c.args.size c.args.version (cases-None file (shape_for file c.args.size c.args.version) c.requires.whole place.1 (omega (arith, base)) (omega arith) (omega (arith, base)) (omega (arith, base))))

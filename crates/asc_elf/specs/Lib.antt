@@ -1,0 +1,4 @@
+pub mod Checked
+pub mod File
+pub mod Image
+pub mod Laws

@@ -1,0 +1,149 @@
+//! The fields of a file, and its program headers.
+
+ghost use Rattle.std.specs.Prelude.{◌≡◌, ◌+◌, ◌<◌, ◌≤◌, true, false, [], ◌∷◌, length, take, drop};
+ghost use Rattle.asc_shape.specs.State.{state_after_all};
+ghost use Rattle.asc_elf.specs.File.{half, word, e_phnum, header_at, headers, is_load, is_segment};
+ghost use Rattle.asc_elf.specs.Image.{is_interp, is_cut, segment_changes};
+ghost use Rattle.asc_elf.specs.Checked.{HasTable, HasPlace};
+
+use asc_shape::State;
+use byteorder::{ByteOrder, LittleEndian};
+use std::marker::Model;
+
+/// The number in the two bytes from a place on.
+pub(crate) fn half(file: &[u8], at: usize) -> u16
+    requires { at + 2 ≤ length file.now }
+    ensures { result ≡ half file.now at }
+{
+    LittleEndian::read_u16(&file[at..])
+}
+
+/// The number in the four bytes from a place on.
+pub(crate) fn word(file: &[u8], at: usize) -> u32
+    requires { at + 4 ≤ length file.now }
+    ensures { result ≡ word file.now at }
+{
+    LittleEndian::read_u32(&file[at..])
+}
+
+/// A program header, without the fields that are passed over. The names are those of the System V ABI.
+#[derive(Drop)]
+pub(crate) struct Header {
+    p_type: u32,
+    p_offset: u32,
+    p_vaddr: u32,
+    p_filesz: u32,
+    p_memsz: u32,
+}
+
+impl Model for Header {
+    ghost use Rattle.asc_elf.specs.File as model;
+
+    ghost Value = { model.Header };
+
+    ghost view = { λ h. record {
+      p_type = h.p_type;
+      p_offset = h.p_offset;
+      p_vaddr = h.p_vaddr;
+      p_filesz = h.p_filesz;
+      p_memsz = h.p_memsz;
+    } };
+}
+
+impl Header {
+    #[tactic(auto, unfolding(crate::specs::File::header_at))]
+    fn at(file: &[u8], at: usize) -> Header
+        requires { at + 32 ≤ length file.now }
+        ensures { result ≡ header_at file.now at }
+    {
+        Header {
+            p_type: word(file, at),
+            p_offset: word(file, at + 4),
+            p_vaddr: word(file, at + 8),
+            p_filesz: word(file, at + 16),
+            p_memsz: word(file, at + 20),
+        }
+    }
+
+    /// The program header of an index.
+    pub(crate) fn nth(file: &[u8], index: u32) -> Header
+        requires table { HasTable file.now }
+        requires index { index < e_phnum file.now }
+        ensures { drop index (headers file.now) ≡ result ∷ drop (index + 1) (headers file.now) }
+    {
+        let table = word(file, 28) as usize;
+        Header::at(file, table + 32 * index as usize)
+    }
+
+    pub(crate) fn is_interp(&self) -> bool
+        ensures { result ≡ is_interp self.now }
+    {
+        self.p_type == 3
+    }
+
+    pub(crate) fn is_load(&self) -> bool
+        ensures { result ≡ is_load self.now }
+    {
+        self.p_type == 1
+    }
+
+    /// Whether it loads something, which takes memory.
+    pub(crate) fn is_segment(&self) -> bool
+        ensures { result ≡ is_segment self.now }
+    {
+        self.is_load() && self.p_memsz > 0
+    }
+
+    /// Whether a header to load has more bytes in the file than in memory, or bytes past the end of the file.
+    pub(crate) fn is_cut(&self, file: &[u8]) -> bool
+        ensures { result ≡ is_cut file.now self.now }
+    {
+        let end = self.p_offset as usize + self.p_filesz as usize;
+        self.is_load() && (self.p_memsz < self.p_filesz || self.p_filesz > 0 && file.len() < end)
+    }
+
+    /// The bytes that it loads, of a header that is not cut off.
+    fn bytes<'a>(&self, file: &'a [u8]) -> &'a [u8]
+        requires load { is_load self.now ≡ true }
+        requires whole { is_cut file.now self.now ≡ false }
+        ensures bytes { result.now ≡ take self.now.p_filesz (drop self.now.p_offset file.now) }
+        ensures length { length result.now ≡ self.now.p_filesz }
+        ensures fits { self.now.p_filesz ≤ self.now.p_memsz }
+    {
+        let at = self.p_offset as usize;
+        let size = self.p_filesz as usize;
+        if size == 0 { &[] } else { &file[at..at + size] }
+    }
+
+    /// Puts a segment into memory: its bytes of the file, and zeros behind them.
+    pub(crate) fn put(&self, file: &[u8], s: &mut State)
+        requires segment { is_segment self.now ≡ true }
+        requires place { HasPlace file.now s.old.shape (self.now ∷ []) }
+        ensures { s.new ≡ state_after_all s.old (segment_changes file.now self.now) }
+    {
+        let _ = s.shape();
+        s.write(self.p_vaddr, self.bytes(file));
+        s.write_zeros(self.p_vaddr + self.p_filesz, self.p_memsz - self.p_filesz);
+    }
+
+    pub(crate) fn address(&self) -> u32
+        ensures { result ≡ self.now.p_vaddr }
+    {
+        self.p_vaddr
+    }
+
+    /// The address behind its bytes in memory, which may be past the last address.
+    pub(crate) fn end(&self) -> u64
+        ensures { result ≡ self.now.p_vaddr + self.now.p_memsz }
+    {
+        u64::from(self.p_vaddr) + u64::from(self.p_memsz)
+    }
+}
+
+/// The number of program headers.
+pub(crate) fn count(file: &[u8]) -> u32
+    requires { 52 ≤ length file.now }
+    ensures { result ≡ e_phnum file.now }
+{
+    u32::from(half(file, 44))
+}

@@ -1,0 +1,107 @@
+ghost use Rattle.std.specs.Prelude.{◌≡◌, IsTrue};
+ghost use Rattle.asc_model.specs.Shape.{IsShape};
+ghost use Rattle.asc_shape.specs.Shape.{is_size};
+ghost use Rattle.asc_elf.specs.Image.{image_of};
+ghost use Rattle.asc_elf.specs.Checked.{IsWhole};
+
+use crate::ElfFault;
+use crate::cases::{header_fault, segment_fault, table_fault};
+use crate::file::word;
+use crate::segment::{highest, lowest, put_segments};
+use asc_shape::{Shape, State, Version};
+use std::marker::Model;
+
+/// An accepted file, for a machine with a size and a version. It takes no memory of its own.
+///
+/// Contracts see it as the state in which its program begins, and the program's first break.
+#[derive(Drop)]
+pub struct Image<'a> {
+    file: &'a [u8],
+    shape: Shape,
+    entry: u32,
+    low: u32,
+}
+
+impl<'a> Model for Image<'a> {
+    ghost use Rattle.asc_elf.specs.Image as model;
+    ghost use Rattle.asc_elf.specs.Checked.{IsAccepted};
+
+    ghost Value = { model.Image };
+
+    ghost view = { λ i. model.image_for i.file.now i.shape };
+
+    ghost invariant = { λ i. IsAccepted i.file.now i.shape i.entry i.low };
+}
+
+/// The image that a file's bytes are, in a machine of this version with `size` bytes of memory, or the first fault.
+pub fn read(bytes: &[u8], size: u32, version: Version) -> Result<Image<'_>, ElfFault>
+    requires { IsTrue (is_size size) }
+    ensures { result ≡ image_of bytes.now size version }
+{
+    if let Some(fault) = header_fault(bytes) {
+        return Err(fault);
+    }
+    if let Some(fault) = table_fault(bytes) {
+        return Err(fault);
+    }
+    if let Some(fault) = segment_fault(bytes) {
+        return Err(fault);
+    }
+    laid_out(bytes, size, version)
+}
+
+/// The image of a file with no other fault than one of its place in memory, or that fault.
+fn laid_out(file: &[u8], size: u32, version: Version) -> Result<Image<'_>, ElfFault>
+    requires size { IsTrue (is_size size) }
+    requires whole { IsWhole file.now }
+    ensures { result ≡ image_of file.now size version }
+{
+    let lowest = lowest(file);
+    let Ok(shape) = Shape::of(lowest - lowest % 4096, size, version) else {
+        return Err(ElfFault::TooLarge);
+    };
+    let highest = highest(file);
+    let end = u64::from(shape.base()) + u64::from(size);
+    if end - 64 < highest {
+        return Err(ElfFault::TooLarge);
+    }
+    let entry = word(file, 24);
+    if entry % 4 != 0 || entry < shape.base() || end < u64::from(entry) + 4 {
+        return Err(ElfFault::Entry);
+    }
+    Ok(Image {
+        file,
+        shape,
+        entry,
+        low: ((highest + 15) / 16 * 16) as u32,
+    })
+}
+
+impl Image<'_> {
+    /// The shape of its machine.
+    pub fn shape(&self) -> Shape
+        ensures shape { result ≡ self.now.start.shape }
+        ensures good { IsShape self.now.start.shape }
+    {
+        let _good = self.shape.base();
+        self.shape
+    }
+
+    /// The program's break at first: behind its last segment, a multiple of 16.
+    pub fn low(&self) -> u32
+        ensures { result ≡ self.now.low }
+    {
+        self.low
+    }
+
+    /// Makes a state of the image's shape the one in which its program begins.
+    pub fn put(&self, s: &mut State)
+        requires { s.old.shape ≡ self.now.start.shape }
+        ensures { s.new ≡ self.now.start }
+    {
+        s.fill();
+        put_segments(self.file, s);
+        s.set_pc(self.entry);
+        s.set_reg(2, self.shape.base() + (self.shape.size() - 64));
+    }
+}

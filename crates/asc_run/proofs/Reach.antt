@@ -1,0 +1,126 @@
+-- How far a program has come: the start, one turn more, and the end.
+use Rattle.std.proofs.Common.{◌≡◌, ℕ, zero, suc, ◌+◌, ◌-◌, ◌<◌, ◌≤◌, List, ◌++◌, Option, Some, None, false, refl, sym, ap, ◌∙◌, subst, arith, add-one, zero-add, suc-add}
+use Rattle.std.proofs.lemmas.List.{append_assoc}
+use Rattle.asc_model.specs.State.{State}
+use Rattle.asc_shape.specs.Outside.{given_after}
+use Rattle.asc_shape.proofs.Streams.{given_after-nil, given_after-given_after, Takes-nil, Takes-append}
+use Rattle.asc_calls.specs.GuestCall.{Act, nothing, joint_act}
+use Rattle.asc_calls.specs.World.{Outside, World, Acts, MayCome, KnowsEnd}
+use Rattle.asc_run.specs.declared.walk.Ended.{Ended}
+use Rattle.asc_run.specs.declared.walk.Ended.TheVariants.{Limit}
+use Rattle.asc_run.specs.Plain.{Position, Progress, On, Off, next_progress, progress, run_of, first_position, exec}
+use Rattle.asc_run.specs.Turn.{position_in, IsAt, Turns}
+use Rattle.asc_run.specs.Walk.{Follows}
+
+-- devices that stay took and were given nothing
+pub Acts-nothing : (o : Outside) → Acts o o nothing
+Acts-nothing o = record { taken = Takes-nil o.left; out = sym (given_after-nil o.out); err = sym (given_after-nil o.err) }
+
+-- one act after another
+pub Acts-joint_act : (a b c : Outside) (x y : Act) → Acts a b x → Acts b c y → Acts a c (joint_act x y)
+Acts-joint_act a b c x y p q = record {
+  taken = Takes-append a.left b.left c.left x.taken y.taken p.taken q.taken;
+  out = q.out ∙ ap (λ g. given_after g y.out) p.out ∙ given_after-given_after a.out x.out y.out;
+  err = q.err ∙ ap (λ g. given_after g y.err) p.err ∙ given_after-given_after a.err x.err y.err;
+}
+
+-- From old to now a program went on for n steps from its start. What it took and put is act.
+pub record Reaches (low high : ℕ) (start : State) (old now : World) (n : ℕ) : Type 0 where
+  pub act : Act
+  pub acts : Acts old.outside now.outside act
+  pub run : (rest : List ℕ) → MayCome now rest → progress low high (first_position start low (act.taken ++ rest)) n ≡ On (position_in now rest act)
+  pub known : KnowsEnd now
+  pub same_low : now.kept.low ≡ low
+  pub same_high : now.kept.high ≡ high
+  pub steps : now.steps ≡ old.steps + n
+
+-- a program that has not begun
+pub Reaches-start : (w : World) → KnowsEnd w → w.kept.brk ≡ w.kept.low → Reaches w.kept.low w.kept.high w.state w w 0
+unfolding progress
+Reaches-start w known brk = record {
+  act = nothing;
+  acts = Acts-nothing w.outside;
+  run = λ rest _. ap (λ b. On (record { state = w.state; brk = b; left = rest; act = nothing })) (sym brk);
+  known = known;
+  same_low = refl;
+  same_high = refl;
+  steps = omega arith;
+}
+
+-- one step more
+progress-next_progress : (low high n m : ℕ) (r : Position) (p : Progress) → m ≡ n + 1 → progress low high r n ≡ p → progress low high r m ≡ next_progress low high n p
+unfolding progress
+progress-next_progress low high n m r p e h = rw (e, add-one) (ap (λ q. next_progress low high n q) h)
+
+-- what is taken first comes first
+first_position-joint_act : (low : ℕ) (start : State) (x y : Act) (rest : List ℕ) → first_position start low ((joint_act x y).taken ++ rest) ≡ first_position start low (x.taken ++ (y.taken ++ rest))
+first_position-joint_act low start x y rest = ap (λ left. first_position start low left) (append_assoc x.taken y.taken rest)
+
+-- one turn more, from where a program has come: plain execution comes to where the turn does
+progress-turn : (low high : ℕ) (start : State) (old now new : World) (n m d : ℕ) (ended : Option Ended) (r : Reaches low high start old now n) (t : Turns now new n d ended)
+    → m ≡ n + 1 → (rest : List ℕ) → MayCome new rest
+    → IsAt ended d (position_in new rest (joint_act r.act t.act)) (progress low high (first_position start low ((joint_act r.act t.act).taken ++ rest)) m)
+progress-turn low high start old now new n m d ended r t e rest may =
+    let before = progress-next_progress low high n m (first_position start low (r.act.taken ++ (t.act.taken ++ rest))) _ e (r.run (t.act.taken ++ rest) (t.came rest may)) in
+    let same : progress low high (first_position start low ((joint_act r.act t.act).taken ++ rest)) m ≡ next_progress now.kept.low now.kept.high n (On (position_in now (t.act.taken ++ rest) r.act)) =
+    rw (first_position-joint_act low start r.act t.act rest, r.same_low, r.same_high) before in
+    subst (λ p. IsAt ended d (position_in new rest (joint_act r.act t.act)) p) (sym same) (t.turn r.act rest may)
+
+-- a turn after which the program goes on
+pub Reaches-turn : (low high : ℕ) (start : State) (old now new : World) (n d : ℕ) → Reaches low high start old now n → Turns now new n d None → Reaches low high start old new d
+Reaches-turn low high start old now new n d r t = record {
+  act = joint_act r.act t.act;
+  acts = Acts-joint_act old.outside now.outside new.outside r.act t.act r.acts t.acts;
+  run = λ rest may. progress-turn low high start old now new n d d None r t (t.one refl) rest may;
+  known = t.known r.known;
+  same_low = t.low ∙ r.same_low;
+  same_high = t.high ∙ r.same_high;
+  steps = omega (arith, t.one refl, t.steps, r.steps);
+}
+
+-- a run that has ended stays so
+progress-off : (low high : ℕ) (r : Position) (n k count : ℕ) (ended : Ended) (last : Position) → progress low high r n ≡ Off count ended last → progress low high r (k + n) ≡ Off count ended last
+unfolding progress
+progress-off low high r n zero count ended last h = rw zero-add h
+progress-off low high r n (suc k) count ended last h = rw suc-add (ap (λ q. next_progress low high (k + n) q) (progress-off low high r n k count ended last h))
+
+progress-later : (low high : ℕ) (r : Position) (n m count : ℕ) (ended : Ended) (last : Position) → n ≤ m → progress low high r n ≡ Off count ended last → progress low high r m ≡ Off count ended last
+progress-later low high r n m count ended last le h =
+    let e : m ≡ (m - n) + n = omega arith in
+    rw e (progress-off low high r n (m - n) count ended last h)
+
+-- the run of an ended program
+run_of-IsAt : (limit count : ℕ) (r : Position) (p : Progress) (ended : Ended) → IsAt (Some ended) count r p → run_of limit p ≡ record { ended = ended; count = count; act = r.act }
+run_of-IsAt limit count r p ended h =
+    ap (λ q. run_of limit q) h.1 ∙ ap (λ a. record { ended = ended; count = count; act = a }) h.2
+
+-- a turn that ends the program below its limit
+pub Follows-turn : (limit : ℕ) (old now new : World) (n d : ℕ) (ended : Ended) → Reaches old.kept.low old.kept.high old.state old now n → n < limit → Turns now new n d (Some ended) → Follows limit old new d ended
+unfolding exec
+Follows-turn limit old now new n d ended r below t = record {
+  act = joint_act r.act t.act;
+  acts = Acts-joint_act old.outside now.outside new.outside r.act t.act r.acts t.acts;
+  run = λ rest may.
+      let at = progress-turn old.kept.low old.kept.high old.state old now new n (n + 1) d (Some ended) r t refl rest may in
+      run_of-IsAt limit d (position_in new rest (joint_act r.act t.act)) _ ended
+      (at.0, progress-later old.kept.low old.kept.high _ (n + 1) limit d ended at.0 (omega arith) at.1, at.2);
+  known = t.known r.known;
+  steps = omega (arith, t.steps, r.steps);
+}
+
+-- a program that goes on at its limit
+pub Follows-limit : (limit : ℕ) (old now : World) (n : ℕ) → Reaches old.kept.low old.kept.high old.state old now n → n ≡ limit → Follows limit old now n Limit
+unfolding exec
+Follows-limit limit old now n r e = record {
+  act = r.act;
+  acts = r.acts;
+  run = λ rest may.
+      ap (λ m. exec m old.kept.low old.kept.high old.state (r.act.taken ++ rest)) (sym e)
+      ∙ ap (λ p. run_of n p) (r.run rest may);
+  known = r.known;
+  steps = r.steps;
+}
+
+-- a program that has not begun, and has found no end of its input
+pub Reaches-first_position : (w : World) (n : ℕ) → w.kept.ended ≡ false → w.kept.brk ≡ w.kept.low → n ≡ 0 → Reaches w.kept.low w.kept.high w.state w w n
+Reaches-first_position w n going brk none = rw none (Reaches-start w (λ known. absurd (cc)) brk)

@@ -1,0 +1,133 @@
+-- The turns of a program: a step that goes on, a fault, and a call.
+use Rattle.std.proofs.Common.{◌≡◌, ℕ, ◌+◌, List, [], ◌++◌, Option, Some, None, IsTrue, Bool, true, false, MatchBool, refl, sym, ap, ◌∙◌, arith, length, drop}
+use Rattle.std.proofs.lemmas.Bool.{false≢true}
+use Rattle.std.proofs.lemmas.List.{append-nil, drop_at}
+use Rattle.asc_model.specs.declared.fault.Fault.{Fault}
+use Rattle.asc_model.specs.State.{State}
+use Rattle.asc_model.specs.Step.{At, Call, Bad, next}
+use Rattle.asc_shape.specs.Outside.{Given, Takes, IsAtEnd}
+use Rattle.asc_calls.specs.declared.calls.Served.{Served}
+use Rattle.asc_calls.specs.declared.calls.Served.TheVariants as served
+use Rattle.asc_calls.specs.GuestCall.{Act, nothing, joint_act}
+use Rattle.asc_calls.specs.World.{CallState, outside, World, world, Acts, Agrees, MayCome}
+use Rattle.asc_calls.specs.Serving.{Serves, call_of}
+use Rattle.asc_run.specs.declared.walk.Ended.{Ended}
+use Rattle.asc_run.specs.declared.walk.Ended.TheVariants as ends
+use Rattle.asc_run.specs.Plain.{On, progress_after_step, progress_after_call}
+use Rattle.asc_run.specs.Turn.{position_in, IsAt, Turns}
+use Rattle.asc_run.proofs.Reach.{Acts-nothing}
+
+-- nothing more behind an act
+pub joint_act-nothing : (act : Act) → joint_act act nothing ≡ act
+joint_act-nothing act = λ i. record { taken = append-nil act.taken i; out = append-nil act.out i; err = append-nil act.err i }
+
+-- devices that stay took and were given nothing, whatever the counter of steps did
+Acts-kept : (left : Option (List ℕ)) (out err : Given) (n m : ℕ) → Acts (outside left out err n) (outside left out err m) nothing
+Acts-kept left out err n m =
+    let a = Acts-nothing (outside left out err n) in record { taken = a.taken; out = a.out; err = a.err }
+
+-- a step that goes on
+pub Turns-at : (s t : State) (kept : CallState) (left : Option (List ℕ)) (out err : Given) (n k : ℕ) → next s ≡ At t
+    → Turns (world s kept left out err n) (world t kept left out err (n + 1)) k (k + 1) None
+Turns-at s t kept left out err n k e = record {
+  act = nothing;
+  acts = Acts-kept left out err n (n + 1);
+  turn = λ first rest may.
+      ap (λ x. progress_after_step kept.low kept.high k (record { state = s; brk = kept.brk; left = rest; act = first }) x) e
+      ∙ ap (λ a. On (record { state = t; brk = kept.brk; left = rest; act = a })) (sym (joint_act-nothing first));
+  came = λ rest may. may;
+  known = λ known. known;
+  low = refl;
+  high = refl;
+  steps = omega arith;
+  most = omega arith;
+  one = λ _. refl;
+}
+
+-- a fault
+pub Turns-bad : (s : State) (kept : CallState) (left : Option (List ℕ)) (out err : Given) (n k : ℕ) (fault : Fault) → next s ≡ Bad fault
+    → Turns (world s kept left out err n) (world s kept left out err n) k k (Some (ends.Fault fault))
+Turns-bad s kept left out err n k fault e = record {
+  act = nothing;
+  acts = Acts-kept left out err n n;
+  turn = λ first rest may. (
+    record { state = s; brk = kept.brk; left = rest; act = first },
+    ap (λ x. progress_after_step kept.low kept.high k (record { state = s; brk = kept.brk; left = rest; act = first }) x) e,
+    sym (joint_act-nothing first),
+  );
+  came = λ rest may. may;
+  known = λ known. known;
+  low = refl;
+  high = refl;
+  steps = omega arith;
+  most = omega arith;
+  one = λ h. absurd (cc);
+}
+
+-- how a call ended the program
+abbrev pub end_of : Served → Option Ended
+end_of served.Went = None
+end_of (served.Exit code) = Some (ends.Exit code)
+
+-- an input that agrees with what is left after bytes were taken agrees, behind them, with what was left before
+Agrees-before : (before now : Option (List ℕ)) (taken rest : List ℕ) → Takes before now taken → Agrees now rest → Agrees before (taken ++ rest)
+Agrees-before (Some before) (Some now) taken rest t a = t ∙ ap (λ x. taken ++ x) a
+Agrees-before (Some before) None taken rest t a = absurd t
+Agrees-before None now taken rest t a = tt
+
+-- no input agrees with a told end
+Agrees-end : (left : Option (List ℕ)) (rest : List ℕ) → IsAtEnd left → rest ≡ [] → Agrees left rest
+Agrees-end (Some told) rest at_end none = at_end ∙ sym none
+Agrees-end None rest at_end none = tt
+
+-- what calls may still meet after a call, behind the bytes taken, is what they could meet before it
+came_before : (before after : Bool) (old_left new_left : Option (List ℕ)) (taken rest : List ℕ) → (IsTrue before → IsTrue after × (taken ≡ []))
+    → ((IsTrue before → IsAtEnd old_left) → IsTrue after → IsAtEnd new_left) → Takes old_left new_left taken
+    → MatchBool after (rest ≡ []) (Agrees new_left rest) → MatchBool before (taken ++ rest ≡ []) (Agrees old_left (taken ++ rest))
+came_before true true old_left new_left taken rest ended known takes may = ap (λ x. x ++ rest) (ended refl).1 ∙ may
+came_before true false old_left new_left taken rest ended known takes may = absurd (false≢true (ended refl).0)
+came_before false true old_left new_left taken rest ended known takes may =
+    Agrees-before old_left new_left taken rest takes (Agrees-end new_left rest (known (λ e. absurd (false≢true e)) refl) may)
+came_before false false old_left new_left taken rest ended known takes may = Agrees-before old_left new_left taken rest takes may
+
+MayCome-before : (old new : World) (answer : Served) (s : Serves old new answer) (rest : List ℕ) → MayCome new rest → MayCome old (s.act.taken ++ rest)
+MayCome-before old new answer s rest may =
+    came_before old.kept.ended new.kept.ended old.left new.left s.act.taken rest s.ended s.known s.acts.taken may
+
+-- the bytes taken, and then what was left
+drop-taken : (taken rest : List ℕ) → drop (length taken) (taken ++ rest) ≡ rest
+drop-taken taken rest = drop_at taken rest (length taken) refl
+
+-- plain execution at a call
+progress_after_step-call : (old : World) (left : List ℕ) (first : Act) (k : ℕ) → next old.state ≡ Call
+    → progress_after_step old.kept.low old.kept.high k (position_in old left first) (next old.state) ≡ progress_after_call k (position_in old left first) (call_of old left)
+progress_after_step-call old left first k e = ap (λ x. progress_after_step old.kept.low old.kept.high k (position_in old left first) x) e
+
+-- plain execution comes to where a call that is served does
+IsAt-call : (old new : World) (answer : Served) (s : Serves old new answer) (k : ℕ) → next old.state ≡ Call → (first : Act) (rest : List ℕ) → MayCome new rest
+    → IsAt (end_of answer) (k + 1) (position_in new rest (joint_act first s.act)) (progress_after_step old.kept.low old.kept.high k (position_in old (s.act.taken ++ rest) first) (next old.state))
+IsAt-call old new served.Went s k e first rest may =
+    progress_after_step-call old (s.act.taken ++ rest) first k e
+    ∙ ap (λ x. progress_after_call k (position_in old (s.act.taken ++ rest) first) x) (s.call rest may)
+    ∙ ap (λ x. On (record { state = new.state; brk = new.kept.brk; left = x; act = joint_act first s.act })) (drop-taken s.act.taken rest)
+IsAt-call old new (served.Exit code) s k e first rest may = (
+  position_in old (s.act.taken ++ rest) first,
+  progress_after_step-call old (s.act.taken ++ rest) first k e
+      ∙ ap (λ x. progress_after_call k (position_in old (s.act.taken ++ rest) first) x) (s.call rest may),
+  sym (ap (λ a. joint_act first a) s.exit.2 ∙ joint_act-nothing first),
+)
+
+-- a call that was served
+pub Turns-call : (old new : World) (answer : Served) (k : ℕ) → next old.state ≡ Call → Serves old new answer → Turns old new k (k + 1) (end_of answer)
+Turns-call old new answer k e s = record {
+  act = s.act;
+  acts = s.acts;
+  turn = IsAt-call old new answer s k e;
+  came = MayCome-before old new answer s;
+  known = s.known;
+  low = s.low;
+  high = s.high;
+  steps = omega (arith, s.steps);
+  most = omega arith;
+  one = λ _. refl;
+}

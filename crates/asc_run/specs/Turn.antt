@@ -1,0 +1,32 @@
+-- What one turn of a program does to the world: one step, or one guest call.
+use Rattle.std.specs.Prelude.{◌≡◌, ℕ, ◌+◌, ◌≤◌, List, ◌++◌, Option, Some, None, IsNone}
+use Rattle.asc_calls.specs.GuestCall.{Act, joint_act}
+use Rattle.asc_calls.specs.World.{World, Acts, MayCome, KnowsEnd}
+use Rattle.asc_run.specs.declared.walk.Ended.{Ended}
+use Rattle.asc_run.specs.Plain.{Position, Progress, On, Off, next_progress}
+
+-- where a program stands in a world, over this input, if it took and put act so far
+abbrev pub position_in : World → List ℕ → Act → Position
+position_in w left act = record { state = w.state; brk = w.kept.brk; left = left; act = act }
+
+-- the run goes on as r, or it ended so after this count of steps, with what r took and put
+abbrev pub IsAt : Option Ended → (count : ℕ) → Position → Progress → Type 0
+IsAt None count r progress = progress ≡ On r
+IsAt (Some ended) count r progress = (last : Position) × (progress ≡ Off count ended last) × (last.act ≡ r.act)
+
+-- From old to new a program made one turn, before which it had done some steps, and done after it. What the turn took
+-- and put is act.
+pub record Turns (old new : World) (before done : ℕ) (ended : Option Ended) : Type 0 where
+  pub act : Act
+  pub acts : Acts old.outside new.outside act
+  -- plain execution does just that, over the bytes taken, with whatever input may still come behind them
+  pub turn : (first : Act) (rest : List ℕ) → MayCome new rest
+      → IsAt ended done (position_in new rest (joint_act first act)) (next_progress old.kept.low old.kept.high before (On (position_in old (act.taken ++ rest) first)))
+  -- what may come afterwards may come before, behind the bytes taken
+  pub came : (rest : List ℕ) → MayCome new rest → MayCome old (act.taken ++ rest)
+  pub known : KnowsEnd old → KnowsEnd new
+  pub low : new.kept.low ≡ old.kept.low
+  pub high : new.kept.high ≡ old.kept.high
+  pub steps : new.steps + before ≡ old.steps + done
+  pub most : done ≤ before + 1
+  pub one : IsNone ended → done ≡ before + 1

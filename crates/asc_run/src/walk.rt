@@ -1,0 +1,160 @@
+ghost use Rattle.std.specs.Prelude.{◌≡◌, ◌≤◌, ◌^◌, List, ℕ, IfOk, IfSome, IsNone, Some};
+
+use crate::process::Process;
+use asc_calls::Calls;
+use asc_elf::Image;
+use asc_shape::{Memory, Sink, Source, State, Steps};
+use asc_step::Fault;
+use std::alloc::Global;
+use std::marker::Model;
+use std::sync::ledger::Ledger;
+
+/// How a run ended.
+#[derive(Clone, Copy, Debug, PartialEq, Eq)]
+pub enum Ended {
+    /// The program ended with this code.
+    Exit(u8),
+    /// An instruction met a fault. It counts no step, and its state stands as before it.
+    Fault(Fault),
+    /// The limit on steps was reached.
+    Limit,
+}
+
+/// How a program is run.
+#[derive(Clone, Copy, Debug, PartialEq, Eq)]
+pub struct Settings {
+    /// The greatest number of steps, at most 2^40.
+    pub limit: u64,
+}
+
+impl Default for Settings {
+    ghost use Rattle.std.specs.Prelude.{◌≡◌, ◌^◌};
+
+    ghost is_default = { λ s. s.limit ≡ 2 ^ 40 };
+
+    /// The limit of 2^40 steps.
+    fn default() -> Settings {
+        Settings { limit: 1 << 40 }
+    }
+}
+
+/// The numbers of a run: `count` is `executed` and `skipped` together.
+#[derive(Clone, Copy, Debug, PartialEq, Eq)]
+pub struct Counts {
+    /// Steps done and steps jumped over.
+    pub count: u64,
+    /// Steps done.
+    pub executed: u64,
+    /// Steps jumped over.
+    pub skipped: u64,
+    /// Visits at which a jump was asked for.
+    pub asked: u64,
+    /// Jumps.
+    pub hits: u64,
+}
+
+/// One run of a program, from its image's first state.
+#[derive(Drop)]
+pub struct Walk {
+    process: Process,
+    limit: u64,
+    ended: Option<Ended>,
+}
+
+impl Model for Walk {
+    ghost use Rattle.std.specs.Prelude.{◌≡◌, ◌≤◌, ◌^◌, None};
+    ghost use Rattle.asc_run.specs.Walk as model;
+
+    ghost Value = { model.Walk };
+
+    ghost view = { λ w. record {
+      state = w.process.state;
+      kept = w.process.calls;
+      limit = w.limit;
+      count = w.process.count;
+      ended = w.ended;
+    } };
+
+    ghost invariant = { λ w. (w.limit ≤ 2 ^ 40) × (w.process.count ≤ w.limit) × (w.ended ≡ None → model.HasNotBegun w.process.count w.process.calls) };
+}
+
+impl Walk {
+    ghost use Rattle.asc_run.specs.Walk.{new_walk, world_of, Follows};
+
+    /// A walk that has not begun. It takes the memory of one state.
+    pub fn new(alloc: Global, image: &Image<'_>, settings: Settings) -> Result<Walk, Memory>
+        requires { settings.limit ≤ 2 ^ 40 }
+        ensures { IfOk result (λ walk. walk ≡ new_walk image.now settings.limit) }
+    {
+        let shape = image.shape();
+        let mut state = State::new(alloc, shape)?;
+        image.put(&mut state);
+        let low = image.low();
+        let high = low.max(shape.base() + (shape.size() - 65_536));
+        Ok(Walk {
+            process: Process {
+                state,
+                calls: Calls::new(low, high),
+                count: 0,
+            },
+            limit: settings.limit,
+            ended: None,
+        })
+    }
+
+    /// Runs the program to its end or its limit. It takes no memory.
+    ///
+    /// A second call answers as the first did, and changes nothing.
+    pub fn go<I: Source, O: Sink, E: Sink, L: Ledger>(
+        &mut self,
+        input: &mut I,
+        out: &mut O,
+        err: &mut E,
+        steps: &mut Steps<L>,
+    ) -> Ended
+        // The first call goes as plain execution does.
+        ensures plain { IsNone self.old.ended → Follows self.old.limit
+            (world_of self.old (I.left input.old) (O.given out.old) (E.given err.old) steps.old)
+            (world_of self.new (I.left input.new) (O.given out.new) (E.given err.new) steps.new)
+            self.new.count result }
+        ensures limit { self.new.count ≤ self.old.limit }
+        ensures kept { self.new.ended ≡ Some result }
+
+        // A second one answers the same, and changes nothing.
+        ensures again { IfSome self.old.ended (λ ended. result ≡ ended) }
+        ensures same { IfSome self.old.ended (λ _. self.new ≡ self.old) }
+        ensures same_world { IfSome self.old.ended (λ _.
+            world_of self.new (I.left input.new) (O.given out.new) (E.given err.new) steps.new
+            ≡ world_of self.old (I.left input.old) (O.given out.old) (E.given err.old) steps.old) }
+
+        // No device is asked for anything.
+        ensures input_faults { I.faults input.new ≡ I.faults input.old }
+        ensures out_faults { O.faults out.new ≡ O.faults out.old }
+        ensures err_faults { E.faults err.new ≡ E.faults err.old }
+    {
+        if let Some(ended) = self.ended {
+            return ended;
+        }
+        let ended = self.process.run(self.limit, input, out, err, steps);
+        self.ended = Some(ended);
+        ended
+    }
+
+    /// The numbers so far. Without a helper every step is executed.
+    pub fn counts(&self) -> Counts
+        ensures count { result.count ≡ self.now.count }
+        ensures executed { result.executed ≡ self.now.count }
+        ensures skipped { result.skipped ≡ 0 }
+        ensures asked { result.asked ≡ 0 }
+        ensures hits { result.hits ≡ 0 }
+    {
+        let count = self.process.count;
+        Counts {
+            count,
+            executed: count,
+            skipped: 0,
+            asked: 0,
+            hits: 0,
+        }
+    }
+}

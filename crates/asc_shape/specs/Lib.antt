@@ -1,0 +1,6 @@
+pub mod Shape
+pub mod State
+pub mod Face
+pub mod Outside
+pub mod Course
+pub mod Lists

@@ -1,0 +1,89 @@
+-- What the sources, sinks and stores in memory are to contracts.
+use Rattle.std.specs.Prelude.{◌≡◌, ◌⊎◌, ℕ, ◌-◌, ◌^◌, ◌==◌, ◌++◌, min, List, length, take, drop, map, nat_lt, string_bytes, Option, Some, None, Result, Ok, Err, if◌then◌else◌}
+use Rattle.asc_shape.specs.declared.outside.Loaded.{Loaded}
+use Rattle.asc_shape.specs.declared.outside.Loaded.TheVariants.{Whole, Longer}
+use Rattle.asc_shape.specs.declared.outside.StoreFault.{StoreFault}
+use Rattle.asc_shape.specs.declared.outside.StoreFault.TheVariants.{Failed, Memory}
+use Rattle.std.specs.declared.vec.Vec.{Vec}
+use Rattle.std.specs.declared.string.String.{String}
+use Rattle.std.specs.declared.alloc.Global.{Global}
+use Rattle.asc_shape.specs.Outside.{Given, File, content_of}
+use Rattle.asc_shape.specs.Course.{Course, fails_next, called, failed}
+
+-- a source: the bytes that are left, at most how many it gives a call, and how its calls go
+pub record Reading : Type 0 where
+  pub left : List ℕ
+  pub most : ℕ
+  pub course : Course
+
+-- how many bytes a source gives into a buffer of this length
+abbrev pub gives : Reading → ℕ → ℕ
+gives source room = if fails_next source.course then 0 else min source.most (min room (length source.left))
+
+-- a source after a call with a buffer of this length
+abbrev pub after_take : Reading → ℕ → Reading
+after_take source room = record {
+  left = drop (gives source room) source.left;
+  most = source.most;
+  course = called source.course;
+}
+
+-- what a sink that keeps only a number was given
+abbrev pub numbered : ℕ → Given
+numbered n = record { bytes = None; number = Some n }
+
+-- a sink: its bytes, how many more it has room for, at most how many it takes a call, and how its calls go
+pub record Writing : Type 0 where
+  pub bytes : List ℕ
+  pub room : ℕ
+  pub most : ℕ
+  pub course : Course
+
+-- what a sink was given; its number stops at 2 ^ 64 - 1
+abbrev pub told : Writing → Given
+told sink = record { bytes = Some sink.bytes; number = Some (min (length sink.bytes) (2 ^ 64 - 1)) }
+
+-- how many bytes of a piece of this length a sink takes; where none, the call fails
+abbrev pub accepts : Writing → ℕ → ℕ
+accepts sink n = if fails_next sink.course then 0 else min sink.most (min n sink.room)
+
+-- how its calls went after one with a piece of this length
+abbrev pub course_after_put : Writing → ℕ → Course
+course_after_put sink n =
+    if fails_next sink.course then called sink.course else (if accepts sink n == 0 then failed (called sink.course) else called sink.course)
+
+-- a sink after a call with this piece
+abbrev pub after_put : Writing → List ℕ → Writing
+after_put sink piece = record {
+  bytes = sink.bytes ++ take (accepts sink (length piece)) piece;
+  room = sink.room - accepts sink (length piece);
+  most = sink.most;
+  course = course_after_put sink (length piece);
+}
+
+-- a store: its files, and how its calls go
+pub record Stock : Type 0 where
+  pub files : List File
+  pub course : Course
+
+-- what a store answers where it has this content
+abbrev pub answer_of : Option (List ℕ) → ℕ → Result Loaded StoreFault
+answer_of None most = Err Failed
+answer_of (Some content) most = if nat_lt most (length content) then Ok Longer else Ok Whole
+
+-- what a store answers, but for want of memory
+abbrev pub answer : Stock → List ℕ → ℕ → Result Loaded StoreFault
+answer store name most = if fails_next store.course then Err Failed else answer_of (content_of store.files name) most
+
+-- a store answers so: as it must, or, where it must give the whole file, that it wants memory
+abbrev pub Answers : Stock → List ℕ → ℕ → Result Loaded StoreFault → Type 0
+Answers store name most result = (result ≡ answer store name most) ⊎ ((result ≡ Err Memory) × (answer store name most ≡ Ok Whole))
+
+-- the files of a list of names and contents
+abbrev pub files_of : List (String Global × Vec ℕ Global) → List File
+files_of files = map (λ file. record { name = string_bytes file.0; content = file.1.items }) files
+
+-- how the calls of a store went after one that was answered so
+abbrev pub course_after_read : Course → Option (List ℕ) → Course
+course_after_read course (Some content) = called course
+course_after_read course None = if fails_next course then called course else failed (called course)

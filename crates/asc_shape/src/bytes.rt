@@ -1,0 +1,76 @@
+ghost use Rattle.std.specs.Prelude.{◌≡◌, ◌+◌, ◌<◌, ◌≤◌, ℕ, [], ◌∷◌, length, slice_index};
+ghost use Rattle.asc_model.specs.Number.{bytes_of, word_at};
+ghost use Rattle.asc_model.specs.State.{IsState};
+ghost use Rattle.asc_model.specs.Places.{places_from, cells};
+ghost use Rattle.asc_shape.specs.Face.{Face, FitPlaces, face_after_read, face_after_put, face_after_reads, face_after_puts, untouched_count};
+
+use crate::Shape;
+
+/// A state that code reads and writes byte by byte.
+///
+/// Its face is the state, and how each place was touched where the type tells that. A type may have room for a
+/// limited number of touched places; one whose room falls tells its marks.
+pub trait Bytes {
+    /// The state, and how its places were touched.
+    ghost face: { Self → Face };
+
+    /// How many more places may be touched.
+    ghost room: { Self → ℕ };
+
+    fn shape(&self) -> Shape
+        ensures shape { result ≡ (face self.now).state.shape }
+        ensures state { IsState (face self.now).state }
+        ensures marks { FitPlaces (length (face self.now).state.bytes) (face self.now).marks };
+
+    fn room(&self) -> usize
+        ensures { result ≡ room self.now };
+
+    /// The byte at a place.
+    fn get(&mut self, place: u32) -> u8
+        requires place { place < length (face self.old).state.bytes }
+        requires room { 1 ≤ room self.old }
+        ensures byte { result ≡ slice_index (face self.old).state.bytes place }
+        ensures face { face self.new ≡ face_after_read (face self.old) place }
+        ensures room { room self.old ≤ room self.new + untouched_count (face self.old).marks (place ∷ []) };
+
+    /// Puts a byte at a place.
+    fn put(&mut self, place: u32, byte: u8)
+        requires place { place < length (face self.old).state.bytes }
+        requires room { 1 ≤ room self.old }
+        ensures face { face self.new ≡ face_after_put (face self.old) place byte }
+        ensures room { room self.old ≤ room self.new + untouched_count (face self.old).marks (place ∷ []) };
+
+    /// The word in the four bytes from a place on, the lowest byte first.
+    fn get_word(&mut self, place: u32) -> u32
+        requires place { place + 4 ≤ length (face self.old).state.bytes }
+        requires room { 4 ≤ room self.old }
+        ensures word { result ≡ word_at (face self.old).state.bytes place }
+        ensures face { face self.new ≡ face_after_reads (face self.old) (places_from place 4) }
+        ensures room { room self.old ≤ room self.new + untouched_count (face self.old).marks (places_from place 4) }
+    {
+        // Its shape bounds the places of a state, so that the sums below fit.
+        let _ = self.shape();
+        u32::from_le_bytes([
+            self.get(place),
+            self.get(place + 1),
+            self.get(place + 2),
+            self.get(place + 3),
+        ])
+    }
+
+    /// Puts a word in the four bytes from a place on, the lowest byte first.
+    fn put_word(&mut self, place: u32, word: u32)
+        requires place { place + 4 ≤ length (face self.old).state.bytes }
+        requires room { 4 ≤ room self.old }
+        ensures face { face self.new ≡ face_after_puts (face self.old) (cells place (bytes_of 4 word)) }
+        ensures room { room self.old ≤ room self.new + untouched_count (face self.old).marks (places_from place 4) }
+    {
+        // Its shape bounds the places of a state, so that the sums below fit.
+        let _ = self.shape();
+        let [first, second, third, fourth] = word.to_le_bytes();
+        self.put(place, first);
+        self.put(place + 1, second);
+        self.put(place + 2, third);
+        self.put(place + 3, fourth);
+    }
+}

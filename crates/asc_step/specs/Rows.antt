@@ -1,0 +1,13 @@
+-- The rows of the instruction table by opcode.
+use Rattle.std.specs.Prelude.{ℕ, ◌==◌, List, [], ◌∷◌, if◌then◌else◌}
+use Rattle.asc_model.specs.Instruction.{Key, Minor, Whole, Row, opcode}
+
+-- the opcode of the words that a row is for
+abbrev pub opcode_of : Key → ℕ
+opcode_of (Minor op f3) = op
+opcode_of (Whole word) = opcode word
+
+-- the rows of an opcode
+abbrev pub rows_of : ℕ → List Row → List Row
+rows_of op [] = []
+rows_of op (row ∷ rows) = if opcode_of row.key == op then row ∷ rows_of op rows else rows_of op rows

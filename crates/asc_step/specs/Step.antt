@@ -1,0 +1,30 @@
+-- What a step answers, and what it leaves.
+use Rattle.std.specs.Prelude.{ℕ}
+use Rattle.asc_model.specs.State.{State}
+use Rattle.asc_model.specs.Places.{places_read, writes}
+use Rattle.asc_model.specs.Step.{Next, At, Call, Bad}
+use Rattle.asc_shape.specs.Face.{Face, face_after_reads, face_after_puts}
+use Rattle.asc_step.specs.declared.stepped.Stepped.{Stepped}
+use Rattle.asc_step.specs.declared.stepped.Stepped.TheVariants as answers
+
+-- the answer of a step
+abbrev pub stepped_of : Next → Stepped
+stepped_of (At after) = answers.Went
+stepped_of Call = answers.Call
+stepped_of (Bad fault) = answers.Fault fault
+
+-- the state after a step: a step that calls or faults leaves it
+abbrev pub state_after_step : Next → State → State
+state_after_step (At state) before = state
+state_after_step Call before = before
+state_after_step (Bad fault) before = before
+
+-- the face after a step: the places read, in order, and then the places written
+abbrev pub face_after : Face → Face
+face_after f = face_after_puts (face_after_reads f (places_read f.state)) (writes f.state)
+
+-- how many steps an answer counts
+abbrev pub counted_steps : Stepped → ℕ
+counted_steps answers.Went = 1
+counted_steps answers.Call = 0
+counted_steps (answers.Fault fault) = 0

@@ -1,0 +1,17 @@
+//! One step of the machine, over any state that code reads and writes through `Bytes`.
+#![tactic(auto)]
+
+mod addresses;
+mod decode;
+mod effect;
+mod execute;
+mod fields;
+mod places;
+mod stepped;
+mod stepping;
+#[cfg(test)]
+mod tests;
+
+pub use asc_model::{Fault, FaultKind};
+pub use stepped::Stepped;
+pub use stepping::{step, try_step};

@@ -1,0 +1,73 @@
+//! One step of the machine.
+ghost use Rattle.std.specs.Prelude.{◌≡◌, ◌+◌, ◌≤◌};
+ghost use Rattle.asc_model.specs.Step.{next};
+ghost use Rattle.asc_step.specs.Execute.{fetch_fault};
+ghost use Rattle.asc_step.specs.Step.{stepped_of, state_after_step, face_after, counted_steps};
+
+use crate::addresses::{holds, place_of};
+use crate::decode::decode;
+use crate::execute::execute;
+use crate::places::read_word;
+use crate::{Fault, FaultKind, Stepped};
+use asc_shape::{Bytes, Shape, Steps};
+use std::sync::ledger::Ledger;
+
+/// Takes one step, where the program goes on: the instruction at the pc is fetched, decoded and carried out.
+///
+/// All that the step reads is read before anything is put. A step that calls or faults puts nothing.
+#[inline]
+pub fn try_step<B: Bytes>(bytes: &mut B) -> Stepped
+    requires room { 32 ≤ B.room bytes.old }
+    ensures answer { result ≡ stepped_of (next (B.face bytes.old).state) }
+    ensures state { (B.face bytes.new).state ≡ state_after_step (next (B.face bytes.old).state) (B.face bytes.old).state }
+
+    // The places read, in order, and then the places written.
+    ensures places { B.face bytes.new ≡ face_after (B.face bytes.old) }
+{
+    let shape = bytes.shape();
+    let pc = read_word(bytes, 0);
+    if let Some(kind) = fetch_fault(shape, pc) {
+        return fault(kind, pc, pc);
+    }
+    let word = read_word(bytes, place_of(shape, pc));
+    match decode(word, shape.version()) {
+        Some(instruction) => execute(bytes, pc, instruction),
+        None => fault(FaultKind::Illegal, pc, word),
+    }
+}
+
+/// Takes one step as `try_step` does, and counts it where the program went on.
+#[inline]
+pub fn step<B: Bytes, L: Ledger>(bytes: &mut B, steps: &mut Steps<L>) -> Stepped
+    requires room { 32 ≤ B.room bytes.old }
+    ensures answer { result ≡ stepped_of (next (B.face bytes.old).state) }
+    ensures state { (B.face bytes.new).state ≡ state_after_step (next (B.face bytes.old).state) (B.face bytes.old).state }
+    ensures places { B.face bytes.new ≡ face_after (B.face bytes.old) }
+    ensures counter { steps.new ≡ steps.old + counted_steps result }
+{
+    let stepped = try_step(bytes);
+    if let Stepped::Went = stepped {
+        steps.tick();
+    }
+    stepped
+}
+
+/// Why the word at this pc cannot be fetched. The pc is tested first.
+#[inline]
+fn fetch_fault(shape: Shape, pc: u32) -> Option<FaultKind>
+    ensures { result ≡ fetch_fault shape pc }
+{
+    if !pc.is_multiple_of(4) {
+        return Some(FaultKind::Misaligned);
+    }
+    if !holds(shape, pc, 4) {
+        return Some(FaultKind::FetchOutside);
+    }
+    None
+}
+
+fn fault(kind: FaultKind, pc: u32, value: u32) -> Stepped
+    ensures { result ≡ Stepped.Fault (record { kind = kind; pc = pc; value = value }) }
+{
+    Stepped::Fault(Fault { kind, pc, value })
+}

@@ -1,0 +1,87 @@
+-- What a walk did, as what its file means.
+use Rattle.std.proofs.Common.{◌≡◌, ℕ, ◌≤◌, Bool, true, false, Option, Some, None, List, [], ◌++◌, length, IsTrue, MatchBool, Ok, Err, refl, sym, ◌∙◌, ap, subst, arith}
+use Rattle.asc_model.specs.declared.version.Version.TheVariants.{Two}
+use Rattle.asc_shape.specs.Outside.{Takes, IsAtEnd}
+use Rattle.asc_shape.proofs.Streams.{given_after-nil, Takes-nil}
+use Rattle.asc_elf.specs.declared.fault.ElfFault.{ElfFault}
+use Rattle.asc_elf.specs.Image as loader
+use Rattle.asc_calls.specs.World.{Outside, World, Agrees, MayCome, KnowsEnd}
+use Rattle.asc_run.specs.declared.walk.Ended.{Ended}
+use Rattle.asc_run.specs.Plain.{Run}
+use Rattle.asc_run.specs.Walk.{run_from, Follows}
+use Rattle.asc_top.specs.declared.answer.Answer.TheVariants as answers
+use Rattle.asc_top.specs.Program.{file_limit, memory_size, step_limit, answer_at, result_of_run, result_of_load, run_of_image, meaning, Gives, Means}
+use Rattle.asc_top.proofs.Causes.{meaning-within}
+
+-- an input that may come after a run: it agrees with what is told then
+record Rest (w : World) : Type 0 where
+  rest : List ℕ
+  may : MayCome w rest
+  agrees : Agrees w.left rest
+
+rest_from : (w : World) (ended : Bool) (left : Option (List ℕ)) → w.kept.ended ≡ ended → w.left ≡ left → (IsTrue ended → IsAtEnd left) → Rest w
+rest_from w true (Some told) is_ended is_left known = record {
+  rest = told;
+  may = subst (λ b. MatchBool b (told ≡ []) (Agrees w.left told)) (sym is_ended) (known refl);
+  agrees = subst (λ l. Agrees l told) (sym is_left) refl;
+}
+rest_from w false (Some told) is_ended is_left known = record {
+  rest = told;
+  may = subst (λ b. MatchBool b (told ≡ []) (Agrees w.left told)) (sym is_ended) (subst (λ l. Agrees l told) (sym is_left) refl);
+  agrees = subst (λ l. Agrees l told) (sym is_left) refl;
+}
+rest_from w true None is_ended is_left known = record {
+  rest = [];
+  may = subst (λ (b : Bool). let n : List ℕ = [] in MatchBool b (n ≡ []) (Agrees w.left [])) (sym is_ended) refl;
+  agrees = subst (λ l. Agrees l []) (sym is_left) tt;
+}
+rest_from w false None is_ended is_left known = record {
+  rest = [];
+  may = subst (λ (b : Bool). let n : List ℕ = [] in MatchBool b (n ≡ []) (Agrees w.left [])) (sym is_ended) (subst (λ l. Agrees l []) (sym is_left) tt);
+  agrees = subst (λ l. Agrees l []) (sym is_left) tt;
+}
+
+rest_of : (w : World) → KnowsEnd w → Rest w
+rest_of w known = rest_from w w.kept.ended w.left refl refl known
+
+-- the input before is what was taken and what is left
+agrees_before : (old now : Option (List ℕ)) (taken rest : List ℕ) → Takes old now taken → Agrees now rest → Agrees old (taken ++ rest)
+agrees_before (Some before) (Some now) taken rest takes agrees = takes ∙ ap (λ (l : List ℕ). taken ++ l) agrees
+agrees_before None None taken rest takes agrees = tt
+agrees_before (Some before) None taken rest takes agrees = absurd takes
+agrees_before None (Some now) taken rest takes agrees = absurd takes
+
+-- a walk from an image's start did what its file means
+pub means_walk : (content : List ℕ) (image : loader.Image) (old new : World) (count : ℕ) (ended : Ended) → length content ≤ file_limit
+    → loader.image_of content memory_size Two ≡ Ok image → ((left : List ℕ) → run_from step_limit old left ≡ run_of_image image left)
+    → Follows step_limit old new count ended → Means old.outside new.outside (answer_at ended count) content
+means_walk content image old new count how within loads from f =
+    let r = rest_of new f.known in
+    let left = f.act.taken ++ r.rest in
+    let run : run_of_image image left ≡ record { ended = how; count = count; act = f.act } = sym (from left) ∙ f.run r.rest r.may in
+    let gives : Gives old.outside new.outside (answer_at how count) (result_of_run (record { ended = how; count = count; act = f.act })) =
+    record { answer = refl; acts = f.acts; steps = f.steps } in
+    let is : meaning content left ≡ result_of_run (run_of_image image left) = meaning-within content left within ∙ ap (λ i. result_of_load i left) loads in
+    record {
+      left = left;
+      agrees = agrees_before old.left new.left f.act.taken r.rest f.acts.taken r.agrees;
+      gives = subst (λ x. Gives old.outside new.outside (answer_at how count) x) (sym is)
+          (subst (λ (x : Run). Gives old.outside new.outside (answer_at how count) (result_of_run x)) (sym run) gives);
+    }
+
+-- an input that agrees with what is told
+some_left : (told : Option (List ℕ)) → (left : List ℕ) × Agrees told left
+some_left (Some told) = (told, refl)
+some_left None = ([], tt)
+
+-- a file that is no image is refused, and nothing happens
+pub means_image : (content : List ℕ) (fault : ElfFault) (o : Outside) → length content ≤ file_limit → loader.image_of content memory_size Two ≡ Err fault
+    → Means o o (answers.Image fault) content
+means_image content fault o within loads =
+    let input = some_left o.left in
+    record {
+      left = input.0;
+      agrees = input.1;
+      gives = subst (λ x. Gives o o (answers.Image fault) x) (sym (meaning-within content input.0 within ∙ ap (λ i. result_of_load i input.0) loads))
+          (record { answer = refl; acts = record { taken = Takes-nil o.left; out = sym (given_after-nil o.out); err = sym (given_after-nil o.err) }; steps = omega arith });
+    }

@@ -1,0 +1,137 @@
+ghost use Rattle.std.specs.Prelude.{◌≡◌, ◌≢◌, ◌↔◌, ◌<◌, ◌≤◌, ℕ, List, map, length, Some, None, Err};
+ghost use Rattle.std.specs.String.{string_bytes};
+ghost use Rattle.asc_model.specs.declared.fault.Fault.{Fault};
+ghost use Rattle.asc_model.specs.declared.version.Version.TheVariants.{Two};
+ghost use Rattle.asc_elf.specs.declared.fault.ElfFault.{ElfFault};
+ghost use Rattle.asc_elf.specs.Image.{image_of};
+ghost use Rattle.asc_shape.specs.Outside.{Rose};
+ghost use Rattle.asc_calls.specs.World.{outside};
+ghost use Rattle.asc_top.specs.Line.{image_name};
+ghost use Rattle.asc_top.specs.Program.{Gives, Means, HasFile, Runs, IsHeld, IsRefusal, ComesOfFile, Completes, meaning, answer_at, file_limit, memory_size};
+
+use crate::answer::{Answer, Bad};
+use crate::line::image_name as name_of;
+use asc_elf::read;
+use asc_run::{Ended, Settings, Walk};
+use asc_shape::{Gate, Loaded, Sink, Source, Steps, Store, StoreFault, Version};
+use std::alloc::Global;
+use std::sync::ledger::Ledger;
+
+/// The greatest file that is read, in bytes.
+const MOST: usize = 67_108_864;
+
+/// The guest's memory, in bytes.
+const MEMORY: u32 = 1_048_576;
+
+/// Runs the program that the words of a command line ask for, over the outside that is handed in.
+///
+/// The words are the program's own name, `run`, and the name of an image in the store that does not begin with `-`.
+/// The guest has 1024 KiB of memory and at most 2^40 steps.
+pub fn top<F: Store, I: Source, O: Sink, E: Sink, R: Sink, G: Gate, L: Ledger>(
+    alloc: Global,
+    words: &[String],
+    store: &mut F,
+    input: &mut I,
+    out: &mut O,
+    err: &mut E,
+    report: &mut R,
+    gate: &G,
+    steps: &mut Steps<L>,
+) -> Answer
+    // The headline: for a file and an input that are told, the answer, what is taken and put and the rise of the
+    // counter are plain execution's.
+    ensures headline { (name content left : List ℕ) → image_name (map string_bytes words.now) ≡ Some name
+        → IsHeld (F.files store.old) name content → I.left input.old ≡ Some left → Completes result
+        → Gives (outside (I.left input.old) (O.given out.old) (E.given err.old) steps.old)
+        (outside (I.left input.new) (O.given out.new) (E.given err.new) steps.new)
+        result (meaning content left) }
+
+    // Told or not, there is such a file and such an input.
+    ensures plain { ComesOfFile result → HasFile (map string_bytes words.now) (F.files store.old)
+        (Means (outside (I.left input.old) (O.given out.old) (E.given err.old) steps.old)
+        (outside (I.left input.new) (O.given out.new) (E.given err.new) steps.new)
+        result) }
+
+    // When each answer comes
+    ensures exit { (code : ℕ) → result ≡ Answer.Exit code → HasFile (map string_bytes words.now) (F.files store.old)
+        (Runs (I.left input.old) (λ run. run.ended ≡ Ended.Exit code)) }
+    ensures limit { (count : ℕ) → result ≡ Answer.Limit count → HasFile (map string_bytes words.now) (F.files store.old)
+        (Runs (I.left input.old) (λ run. (run.ended ≡ Ended.Limit) × (run.count ≡ count))) }
+    ensures fault { (fault : Fault) (count : ℕ) → result ≡ Answer.Fault fault count
+        → HasFile (map string_bytes words.now) (F.files store.old)
+        (Runs (I.left input.old) (λ run. (run.ended ≡ Ended.Fault fault) × (run.count ≡ count))) }
+    ensures usage { (result ≡ Answer.Usage Bad.Words) ↔ (image_name (map string_bytes words.now) ≡ None) }
+    ensures image { (fault : ElfFault) → result ≡ Answer.Image fault
+        → HasFile (map string_bytes words.now) (F.files store.old)
+        (λ content. (length content ≤ file_limit) × (image_of content memory_size Two ≡ Err fault)) }
+    ensures too_long { result ≡ Answer.TooLong
+        → HasFile (map string_bytes words.now) (F.files store.old) (λ content. file_limit < length content) }
+    ensures store_fault { result ≡ Answer.StoreFault → Rose (F.faults store.old) (F.faults store.new) }
+
+    // Where the guest is not run, nothing is taken, put or counted.
+    ensures refused { IsRefusal result
+        → outside (I.left input.new) (O.given out.new) (E.given err.new) steps.new
+        ≡ outside (I.left input.old) (O.given out.old) (E.given err.old) steps.old }
+    ensures report { R.given report.new ≡ R.given report.old }
+    ensures files { F.files store.new ≡ F.files store.old }
+
+    // No device but the store is asked for anything.
+    ensures store_faults { result ≢ Answer.StoreFault → F.faults store.new ≡ F.faults store.old }
+    ensures input_faults { I.faults input.new ≡ I.faults input.old }
+    ensures out_faults { O.faults out.new ≡ O.faults out.old }
+    ensures err_faults { E.faults err.new ≡ E.faults err.old }
+    ensures report_faults { R.faults report.new ≡ R.faults report.old }
+{
+    let Some(name) = name_of(words) else {
+        return Answer::Usage(Bad::Words);
+    };
+    let mut file = Vec::new(alloc);
+    match store.read(name, &mut file, MOST) {
+        Err(StoreFault::Failed) => Answer::StoreFault,
+        Err(StoreFault::Memory) => Answer::Memory,
+        Ok(Loaded::Longer) => Answer::TooLong,
+        Ok(Loaded::Whole) => run(alloc, &file, input, out, err, steps),
+    }
+}
+
+/// Runs a file.
+fn run<I: Source, O: Sink, E: Sink, L: Ledger>(
+    alloc: Global,
+    file: &[u8],
+    input: &mut I,
+    out: &mut O,
+    err: &mut E,
+    steps: &mut Steps<L>,
+) -> Answer
+    requires { length file.now ≤ file_limit }
+    ensures means { result ≢ Answer.Memory → Means (outside (I.left input.old) (O.given out.old) (E.given err.old) steps.old)
+        (outside (I.left input.new) (O.given out.new) (E.given err.new) steps.new)
+        result file.now }
+    ensures refused { IsRefusal result
+        → outside (I.left input.new) (O.given out.new) (E.given err.new) steps.new
+        ≡ outside (I.left input.old) (O.given out.old) (E.given err.old) steps.old }
+    ensures input_faults { I.faults input.new ≡ I.faults input.old }
+    ensures out_faults { O.faults out.new ≡ O.faults out.old }
+    ensures err_faults { E.faults err.new ≡ E.faults err.old }
+{
+    let image = match read(file, MEMORY, Version::Two) {
+        Ok(image) => image,
+        Err(fault) => return Answer::Image(fault),
+    };
+    let Ok(mut walk) = Walk::new(alloc, &image, Settings::default()) else {
+        return Answer::Memory;
+    };
+    let ended = walk.go(input, out, err, steps);
+    answer_at(ended, walk.counts().count)
+}
+
+/// The answer of a run that ended so after `count` steps.
+fn answer_at(ended: Ended, count: u64) -> Answer
+    ensures { result ≡ answer_at ended count }
+{
+    match ended {
+        Ended::Exit(code) => Answer::Exit(code),
+        Ended::Fault(fault) => Answer::Fault(fault, count),
+        Ended::Limit => Answer::Limit(count),
+    }
+}
