@@ -1,5 +1,5 @@
 -- What one guest call does. Numbers and registers are those of Linux for RISC-V: the number is in a7, which is x17, and
--- the arguments in a0 to a2, which are x10 to x12 (RISC-V ELF psABI, chapter "Procedure Calling Convention").
+-- the arguments in a0 to a2, which are x10 to x12 (RISC-V ELF psABI, chapter "Register Convention").
 use Rattle.std.specs.Prelude.{ℕ, ◌-◌, ◌%◌, ◌^◌, ◌==◌, ◌||◌, List, [], ◌∷◌, ◌++◌, if◌then◌else◌}
 use Rattle.asc_model.specs.State.{State}
 use Rattle.asc_model.specs.Machine.{Machine, register, Pc, Register, view_of}

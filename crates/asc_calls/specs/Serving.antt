@@ -9,10 +9,10 @@ use Rattle.asc_calls.specs.World.{World, Acts, MayCome, KnowsEnd}
 abbrev pub call_of : World → List ℕ → CallResult
 call_of w left = guest_call w.kept.low w.kept.high w.state w.kept.brk left
 
--- the call that an answer stands for, from how the world is afterwards and what was taken and put
-abbrev pub result_shown : Served → World → Act → CallResult
-result_shown served.Went new act = Went new.state new.kept.brk act
-result_shown (served.Exit code) new act = Exit code
+-- what an answer says that the call came to, from how the world is afterwards and what was taken and put
+abbrev pub result_of_answer : Served → World → Act → CallResult
+result_of_answer served.Went new act = Went new.state new.kept.brk act
+result_of_answer (served.Exit code) new act = Exit code
 
 -- an exit changes nothing of the state and the calls, and takes and puts nothing
 abbrev pub IsStillAtExit : Served → World → World → Act → Type 0
@@ -24,7 +24,7 @@ IsStillAtExit (served.Exit code) old new act = (new.state ≡ old.state) × (new
 pub record Serves (old new : World) (answer : Served) : Type 0 where
   pub act : Act
   pub acts : Acts old.outside new.outside act
-  pub call : (rest : List ℕ) → MayCome new rest → call_of old (act.taken ++ rest) ≡ result_shown answer new act
+  pub call : (rest : List ℕ) → MayCome new rest → call_of old (act.taken ++ rest) ≡ result_of_answer answer new act
   pub exit : IsStillAtExit answer old new act
   -- once the end of the input was found, nothing is taken
   pub ended : IsTrue old.kept.ended → IsTrue new.kept.ended × (act.taken ≡ [])

@@ -15,7 +15,7 @@ pub enum Served {
 }
 
 /// The guest calls of one run, with what they keep from call to call.
-#[derive(Clone, Copy, Debug)]
+#[derive(Debug, Drop)]
 pub struct Calls {
     low: u32,
     high: u32,
@@ -29,8 +29,6 @@ impl Model for Calls {
     ghost Value = { model.CallState };
 
     ghost view = { λ c. record { low = c.low; high = c.high; brk = c.brk; ended = c.ended } };
-
-    ghost inverse = { λ k. record { low = k.low; high = k.high; brk = k.brk; ended = k.ended } };
 }
 
 impl Calls {

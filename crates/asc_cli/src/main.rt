@@ -1,10 +1,12 @@
 //! The program: the words of its command line are run over the files and the standard streams of the system.
 #![tactic(auto)]
 
-ghost use Rattle.std.specs.Prelude.{◌≡◌, ◌<◌, map, None};
+ghost use Rattle.std.specs.Prelude.{◌≡◌, ◌≢◌, ◌⊎◌, ◌<◌, map, None, IfErr};
 ghost use Rattle.std.specs.Process.{exit_status};
 ghost use Rattle.std.specs.String.{string_bytes};
-ghost use Rattle.asc_top.specs.Line.{image_name};
+ghost use Rattle.asc_top.specs.declared.answer.Answer.{Answer};
+ghost use Rattle.asc_top.specs.Answer.{code_of};
+ghost use Rattle.asc_top.specs.Line.{line_of};
 
 mod sink;
 mod source;
@@ -31,7 +33,9 @@ fn main(rt: HostRuntime) -> ExitCode {
 }
 
 /// The words of the command line. Where they are not all text, they are no command's.
-fn words(rt: &HostRuntime) -> Result<Vec<String>, Answer> {
+fn words(rt: &HostRuntime) -> Result<Vec<String>, Answer>
+    ensures { IfErr result (λ answer. (answer ≡ Answer.Memory) ⊎ (answer ≡ Answer.Usage Bad.Words)) }
+{
     match env::args(rt) {
         Ok(words) => words.collect(rt.alloc()).map_err(|_| Answer::Memory),
         Err(error) if error.kind() == ErrorKind::OutOfMemory => Err(Answer::Memory),
@@ -44,7 +48,9 @@ fn run<L: Ledger>(rt: &HostRuntime, words: &[String], blank: Blank) -> ExitCode
     requires name { blank.name ≡ L.name }
     requires parts { blank.parts ≡ L.parts }
     requires some { 0 < L.parts }
-    ensures usage { image_name (map string_bytes words.now) ≡ None → exit_status result ≡ 64 }
+    // The status is the code of an answer, which is that for wrong words where they are wrong.
+    ensures { (answer : Answer) × (exit_status result ≡ code_of answer)
+        × (line_of (map string_bytes words.now) ≡ None → answer ≢ Answer.Memory → answer ≡ Answer.Usage Bad.Words) }
 {
     let mut store = FileStore::new(rt);
     let mut input = StreamSource::new(rt.stdin());

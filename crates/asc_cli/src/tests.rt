@@ -92,6 +92,12 @@ fn puts_what_the_writer_takes(rt: HostRuntime) {
         let mut sink = StreamSink::new(Fake { way });
         assert_eq!(rt; sink.put(b"ab"), want);
     }
+    let mut room = [b'-'; 3];
+    {
+        let mut sink = StreamSink::new(room.as_mut_slice());
+        assert_eq!(rt; sink.put(b"ab"), Ok(2));
+    }
+    assert_eq!(rt; room, *b"ab-");
 }
 
 #[test]

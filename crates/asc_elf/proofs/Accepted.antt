@@ -1,9 +1,9 @@
 -- Lemmas on what no fault says of a file, and on the place of its segments.
-use Rattle.std.proofs.Common.{◌≡◌, ℕ, suc, ◌+◌, ◌-◌, ◌*◌, ◌<◌, ◌≤◌, Bool, true, false, not, cond, ◌||◌, nat_lt, List, [], ◌∷◌, ◌++◌, length, Option, Some, None, is_some, IsTrue, refl, sym, ap, ◌∙◌, subst, arith}
+use Rattle.std.proofs.Common.{◌≡◌, ℕ, suc, ◌+◌, ◌*◌, ◌<◌, ◌≤◌, Bool, true, false, not, cond, ◌||◌, nat_lt, List, [], ◌∷◌, ◌++◌, length, Option, Some, None, is_some, refl, sym, ap, ◌∙◌, subst, arith}
 use Rattle.std.specs.List.{filter, list_any, position_or_len}
 use Rattle.std.specs.Option.{option_or}
 use Rattle.std.proofs.lemmas.Bool.Decides.{nat_tests}
-use Rattle.asc_model.specs.Shape.{Shape, holds}
+use Rattle.asc_model.specs.Shape.{Shape}
 use Rattle.asc_elf.specs.declared.fault.ElfFault.{ElfFault}
 use Rattle.asc_elf.specs.File.{e_phoff, e_phnum, Header, headers, is_segment, segments}
 use Rattle.asc_elf.specs.Image.{Case, first_fault, header_cases, table_cases, segment_cases, layout_cases, cases, is_interp, is_cut, cut_header, lowest_address, highest_end, shape_for, stack_of}
@@ -132,8 +132,3 @@ HasPlace-segment file shape h segment place =
     let above = subst (λ b. shape.base ≤ lowest_address (cond b (h ∷ []) [])) segment place.above in
     let below = subst (λ b. highest_end (cond b (h ∷ []) []) ≤ stack_of shape) segment place.below in
     (omega arith, omega arith)
-
--- where zeros are put
-pub holds_zeros : (shape : Shape) (address size memory : ℕ) → shape.base ≤ address → size ≤ memory → address + memory ≤ stack_of shape
-    → IsTrue (holds shape (address + size) (memory - size))
-holds_zeros shape address size memory above least below = grind (arith, nat_tests)

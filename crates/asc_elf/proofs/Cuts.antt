@@ -17,7 +17,7 @@ use Rattle.asc_elf.specs.declared.fault.ElfFault.TheVariants as faults
 use Rattle.asc_elf.specs.File.{ei_class, ei_data, ei_version, e_type, e_machine, e_entry, e_phoff, e_flags, e_phentsize, e_phnum, half, word, Header, header_at, headers_from, headers, is_load, is_segment, segments}
 use Rattle.asc_elf.specs.Image.{first_fault, magic, header_cases, table_cases, segment_cases, layout_cases, cases, is_interp, is_cut, cut_header, lowest_address, highest_end, shape_for, stack_of, segment_changes, start_state, Image, image_for, image_of}
 use Rattle.asc_elf.specs.Checked.{IsWhole}
-use Rattle.asc_elf.specs.Laws.{IsCutOr, PrefixesAreCut}
+use Rattle.asc_elf.specs.Laws.{IsCutOrSame, PrefixesAreCut}
 use Rattle.asc_elf.proofs.Accepted.{NoFault-cases, or_first, or_second, not_cut}
 use Rattle.asc_elf.proofs.Faults.{first_fault-cases, image_of-header, image_of-table, image_of-segments, image_of-Ok, image_of-Ok_parts}
 
@@ -202,7 +202,7 @@ image-whole file size version k long whole same none =
 -- a prefix with the whole table
 prefix-table : (file : List ℕ) (size : ℕ) (version : Version) (k : ℕ) → 52 ≤ k → first_fault (header_cases (take k file)) ≡ None → first_fault (table_cases (take k file)) ≡ None
     → headers (take k file) ≡ headers file → first_fault (cases file (shape_for file size version)) ≡ None
-    → IsCutOr (image_for file (shape_for file size version)) (image_of (take k file) size version)
+    → IsCutOrSame (image_for file (shape_for file size version)) (image_of (take k file) size version)
 unfolding segments
 prefix-table file size version k long header table same e =
     let prefix : List ℕ = take k file in
@@ -211,13 +211,13 @@ prefix-table file size version k long header table same e =
     let segment : first_fault (segment_cases prefix) ≡ segment_fault (list_any is_interp (headers file)) (cut_header prefix) (nat_lt 0 (length (filter is_segment (headers file)))) =
     λ i. segment_fault (list_any is_interp (same i)) (cut_header prefix) (nat_lt 0 (length (filter is_segment (same i)))) in
     elim (segment_fault_cut (list_any is_interp (headers file)) (nat_lt 0 (length (filter is_segment (headers file)))) (cut_header file) (cut_header prefix) none.third) [
-      | inl cut ↦ subst (IsCutOr image) (sym (image_of-segments prefix size version (faults.Segment cut.0) header table (segment ∙ cut.1))) tt
-      | inr whole ↦ subst (IsCutOr image) (sym (image-whole file size version k long (record { header = header; table = table; segments = segment ∙ whole }) same none.fourth)) refl
+      | inl cut ↦ subst (IsCutOrSame image) (sym (image_of-segments prefix size version (faults.Segment cut.0) header table (segment ∙ cut.1))) tt
+      | inr whole ↦ subst (IsCutOrSame image) (sym (image-whole file size version k long (record { header = header; table = table; segments = segment ∙ whole }) same none.fourth)) refl
     ]
 
 -- a prefix with the whole header
 prefix-header : (file : List ℕ) (size : ℕ) (version : Version) (k : ℕ) → 52 ≤ length (take k file) → first_fault (cases file (shape_for file size version)) ≡ None
-    → IsCutOr (image_for file (shape_for file size version)) (image_of (take k file) size version)
+    → IsCutOrSame (image_for file (shape_for file size version)) (image_of (take k file) size version)
 prefix-header file size version k long e =
     let prefix : List ℕ = take k file in
     let image = image_for file (shape_for file size version) in
@@ -231,7 +231,7 @@ prefix-header file size version k long e =
     let table : first_fault (table_cases prefix) ≡ table_fault (e_phentsize file) (e_phnum file) (e_phoff file) (length prefix) =
     λ i. table_fault (size_is i) (n i) (at i) (length prefix) in
     elim (table_fault_cut (e_phentsize file) (e_phnum file) (e_phoff file) (length file) (length prefix) none.second) [
-      | inl cut ↦ subst (IsCutOr image) (sym (image_of-table prefix size version faults.Table header (table ∙ cut))) tt
+      | inl cut ↦ subst (IsCutOrSame image) (sym (image_of-table prefix size version faults.Table header (table ∙ cut))) tt
       | inr whole ↦ prefix-table file size version k enough header (table ∙ whole.0)
           (headers-take k file enough (λ some. omega (arith, whole.1 some, length-take k file))) e
     ]
@@ -240,9 +240,9 @@ prefix-header file size version k long e =
 pub prefixes_are_cut : PrefixesAreCut
 prefixes_are_cut file size version k image e =
     let parts = image_of-Ok_parts file size version image e in
-    subst (λ (i : Image). IsCutOr i (image_of (take k file) size version)) (sym parts.1)
+    subst (λ (i : Image). IsCutOrSame i (image_of (take k file) size version)) (sym parts.1)
     (elim (cases_lt (length (take k file)) 52) [
-      | inl short ↦ subst (IsCutOr (image_for file (shape_for file size version)))
+      | inl short ↦ subst (IsCutOrSame (image_for file (shape_for file size version)))
           (sym (image_of-header (take k file) size version faults.Short (header-short (take k file) short))) tt
       | inr long ↦ prefix-header file size version k long parts.0
     ])

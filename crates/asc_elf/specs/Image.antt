@@ -1,5 +1,5 @@
 -- What an executable file means for a machine: its first fault, or the image (System V ABI, edition 4.1, chapters 4
--- and 5; RISC-V ELF psABI, chapter "ELF Object File").
+-- and 5; RISC-V ELF psABI, chapter "ELF Object Files").
 use Rattle.std.specs.Prelude.{ℕ, ◌+◌, ◌-◌, ◌*◌, ◌/◌, ◌%◌, ◌^◌, min, max, nat_eq, Bool, not, ◌==◌, ◌&&◌, ◌||◌, nat_lt, List, [], ◌∷◌, ◌++◌, length, take, drop, replicate, position, Option, Some, None, is_some, unwrap_or, Result, Ok, Err, if◌then◌else◌}
 use Rattle.std.specs.List.{flat_map, list_any, starts_with}
 use Rattle.asc_model.specs.declared.version.Version.{Version}

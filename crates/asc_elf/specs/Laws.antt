@@ -25,11 +25,11 @@ IsCutFault TooLarge = ⊥
 IsCutFault Entry = ⊥
 
 -- such a fault, or this image
-abbrev pub IsCutOr : Image → Result Image ElfFault → Type 0
-IsCutOr image (Ok other) = other ≡ image
-IsCutOr image (Err fault) = IsCutFault fault
+abbrev pub IsCutOrSame : Image → Result Image ElfFault → Type 0
+IsCutOrSame image (Ok other) = other ≡ image
+IsCutOrSame image (Err fault) = IsCutFault fault
 
 -- the first k bytes of an image are never another image: they are cut short, or the image itself
 abbrev pub PrefixesAreCut : Type 0
 PrefixesAreCut = (file : List ℕ) (size : ℕ) (version : Version) (k : ℕ) (image : Image)
-    → image_of file size version ≡ Ok image → IsCutOr image (image_of (take k file) size version)
+    → image_of file size version ≡ Ok image → IsCutOrSame image (image_of (take k file) size version)

@@ -7,27 +7,31 @@ ghost use Rattle.asc_elf.specs.Image.{first_fault, header_cases, table_cases, se
 ghost use Rattle.asc_elf.specs.Checked.{HasTable};
 
 use crate::ElfFault;
-use crate::file::{Header, count, half, word};
+use crate::file::{
+    EF_RISCV_TSO, EI_CLASS, EI_DATA, EI_VERSION, ELF_HEADER_SIZE, ELFCLASS32, ELFDATA2LSB,
+    EM_RISCV, ET_EXEC, EV_CURRENT, Header, PROGRAM_HEADER_SIZE, e_flags, e_machine, e_phentsize,
+    e_phnum, e_phoff, e_type,
+};
 
 /// The first fault of the header.
 pub(crate) fn header_fault(file: &[u8]) -> Option<ElfFault>
     ensures { result ≡ first_fault (header_cases file.now) }
 {
-    if file.len() < 52 {
+    if file.len() < ELF_HEADER_SIZE {
         Some(ElfFault::Short)
     } else if !file.starts_with(b"\x7FELF") {
         Some(ElfFault::Magic)
-    } else if file[4] != 1 {
+    } else if file[EI_CLASS] != ELFCLASS32 {
         Some(ElfFault::Class)
-    } else if file[5] != 1 {
+    } else if file[EI_DATA] != ELFDATA2LSB {
         Some(ElfFault::Data)
-    } else if file[6] != 1 {
+    } else if file[EI_VERSION] != EV_CURRENT {
         Some(ElfFault::Version)
-    } else if half(file, 16) != 2 {
+    } else if e_type(file) != ET_EXEC {
         Some(ElfFault::FileType)
-    } else if half(file, 18) != 243 {
+    } else if e_machine(file) != EM_RISCV {
         Some(ElfFault::Machine)
-    } else if !matches!(word(file, 36), 0 | 0x10) {
+    } else if !matches!(e_flags(file), 0 | EF_RISCV_TSO) {
         Some(ElfFault::Flags)
     } else {
         None
@@ -39,12 +43,12 @@ pub(crate) fn table_fault(file: &[u8]) -> Option<ElfFault>
     requires { 52 ≤ length file.now }
     ensures { result ≡ first_fault (table_cases file.now) }
 {
-    let count = count(file) as usize;
+    let count = e_phnum(file) as usize;
     if count == 0 {
         None
-    } else if half(file, 42) != 32 {
+    } else if usize::from(e_phentsize(file)) != PROGRAM_HEADER_SIZE {
         Some(ElfFault::HeaderSize)
-    } else if file.len() < word(file, 28) as usize + 32 * count {
+    } else if file.len() < e_phoff(file) as usize + PROGRAM_HEADER_SIZE * count {
         Some(ElfFault::Table)
     } else {
         None
@@ -73,7 +77,7 @@ fn has_interp(file: &[u8]) -> bool
     requires { HasTable file.now }
     ensures { result ≡ list_any is_interp (headers file.now) }
 {
-    for index in 0..count(file) {
+    for index in 0..e_phnum(file) {
         if Header::nth(file, index).is_interp() {
             return true;
         }
@@ -87,7 +91,7 @@ fn cut_header(file: &[u8]) -> Option<u32>
     requires { HasTable file.now }
     ensures { result ≡ cut_header file.now }
 {
-    for index in 0..count(file) {
+    for index in 0..e_phnum(file) {
         if Header::nth(file, index).is_cut(file) {
             return Some(index);
         }
@@ -101,7 +105,7 @@ fn has_segment(file: &[u8]) -> bool
     requires { HasTable file.now }
     ensures { result ≡ nat_lt 0 (length (segments file.now)) }
 {
-    for index in 0..count(file) {
+    for index in 0..e_phnum(file) {
         if Header::nth(file, index).is_segment() {
             return true;
         }

@@ -1,4 +1,4 @@
-/// Why a file is no image: the first of these that stands. Users see them numbered from 1 in this order.
+/// Why a file is no image: the first of these, in this order, that stands.
 #[derive(Clone, Copy, Debug, PartialEq, Eq)]
 pub enum ElfFault {
     /// Fewer than 52 bytes.

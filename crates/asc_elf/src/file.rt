@@ -2,7 +2,8 @@
 
 ghost use Rattle.std.specs.Prelude.{◌≡◌, ◌+◌, ◌<◌, ◌≤◌, true, false, [], ◌∷◌, length, take, drop};
 ghost use Rattle.asc_shape.specs.State.{state_after_all};
-ghost use Rattle.asc_elf.specs.File.{half, word, e_phnum, header_at, headers, is_load, is_segment};
+ghost use Rattle.asc_elf.specs.File.{half, word, e_type, e_machine, e_entry, e_phoff, e_flags, e_phentsize, e_phnum};
+ghost use Rattle.asc_elf.specs.File.{header_at, headers, is_load, is_segment};
 ghost use Rattle.asc_elf.specs.Image.{is_interp, is_cut, segment_changes};
 ghost use Rattle.asc_elf.specs.Checked.{HasTable, HasPlace};
 
@@ -10,8 +11,49 @@ use asc_shape::State;
 use byteorder::{ByteOrder, LittleEndian};
 use std::marker::Model;
 
+// The names are those of the System V ABI and the RISC-V ELF psABI, but for those of the two sizes.
+
+/// The bytes of an ELF header.
+pub(crate) const ELF_HEADER_SIZE: usize = 52;
+
+/// The bytes of a program header.
+pub(crate) const PROGRAM_HEADER_SIZE: usize = 32;
+
+/// The place of the class in a file.
+pub(crate) const EI_CLASS: usize = 4;
+
+/// The place of the byte order.
+pub(crate) const EI_DATA: usize = 5;
+
+/// The place of the file version.
+pub(crate) const EI_VERSION: usize = 6;
+
+/// The class of 32-bit files.
+pub(crate) const ELFCLASS32: u8 = 1;
+
+/// The byte order that begins with the least byte.
+pub(crate) const ELFDATA2LSB: u8 = 1;
+
+/// The only file version.
+pub(crate) const EV_CURRENT: u8 = 1;
+
+/// The type of executable files.
+pub(crate) const ET_EXEC: u16 = 2;
+
+/// The machine RISC-V.
+pub(crate) const EM_RISCV: u16 = 243;
+
+/// The flag of programs that rely on total store order.
+pub(crate) const EF_RISCV_TSO: u32 = 0x10;
+
+/// The type of headers to load.
+const PT_LOAD: u32 = 1;
+
+/// The type of headers that ask for an interpreter.
+const PT_INTERP: u32 = 3;
+
 /// The number in the two bytes from a place on.
-pub(crate) fn half(file: &[u8], at: usize) -> u16
+fn half(file: &[u8], at: usize) -> u16
     requires { at + 2 ≤ length file.now }
     ensures { result ≡ half file.now at }
 {
@@ -19,11 +61,67 @@ pub(crate) fn half(file: &[u8], at: usize) -> u16
 }
 
 /// The number in the four bytes from a place on.
-pub(crate) fn word(file: &[u8], at: usize) -> u32
+fn word(file: &[u8], at: usize) -> u32
     requires { at + 4 ≤ length file.now }
     ensures { result ≡ word file.now at }
 {
     LittleEndian::read_u32(&file[at..])
+}
+
+/// The kind of file.
+pub(crate) fn e_type(file: &[u8]) -> u16
+    requires { 52 ≤ length file.now }
+    ensures { result ≡ e_type file.now }
+{
+    half(file, 16)
+}
+
+/// The machine that it is for.
+pub(crate) fn e_machine(file: &[u8]) -> u16
+    requires { 52 ≤ length file.now }
+    ensures { result ≡ e_machine file.now }
+{
+    half(file, 18)
+}
+
+/// The address at which its program begins.
+pub(crate) fn e_entry(file: &[u8]) -> u32
+    requires { 52 ≤ length file.now }
+    ensures { result ≡ e_entry file.now }
+{
+    word(file, 24)
+}
+
+/// The place of the table of program headers.
+pub(crate) fn e_phoff(file: &[u8]) -> u32
+    requires { 52 ≤ length file.now }
+    ensures { result ≡ e_phoff file.now }
+{
+    word(file, 28)
+}
+
+/// The flags of its machine.
+pub(crate) fn e_flags(file: &[u8]) -> u32
+    requires { 52 ≤ length file.now }
+    ensures { result ≡ e_flags file.now }
+{
+    word(file, 36)
+}
+
+/// The bytes of a program header.
+pub(crate) fn e_phentsize(file: &[u8]) -> u16
+    requires { 52 ≤ length file.now }
+    ensures { result ≡ e_phentsize file.now }
+{
+    half(file, 42)
+}
+
+/// The number of program headers.
+pub(crate) fn e_phnum(file: &[u8]) -> u32
+    requires { 52 ≤ length file.now }
+    ensures { result ≡ e_phnum file.now }
+{
+    u32::from(half(file, 44))
 }
 
 /// A program header, without the fields that are passed over. The names are those of the System V ABI.
@@ -71,20 +169,22 @@ impl Header {
         requires index { index < e_phnum file.now }
         ensures { drop index (headers file.now) ≡ result ∷ drop (index + 1) (headers file.now) }
     {
-        let table = word(file, 28) as usize;
-        Header::at(file, table + 32 * index as usize)
+        let table = e_phoff(file) as usize;
+        Header::at(file, table + PROGRAM_HEADER_SIZE * index as usize)
     }
 
+    /// Whether it asks for an interpreter.
     pub(crate) fn is_interp(&self) -> bool
         ensures { result ≡ is_interp self.now }
     {
-        self.p_type == 3
+        self.p_type == PT_INTERP
     }
 
+    /// Whether it is a header to load.
     pub(crate) fn is_load(&self) -> bool
         ensures { result ≡ is_load self.now }
     {
-        self.p_type == 1
+        self.p_type == PT_LOAD
     }
 
     /// Whether it loads something, which takes memory.
@@ -126,6 +226,7 @@ impl Header {
         s.write_zeros(self.p_vaddr + self.p_filesz, self.p_memsz - self.p_filesz);
     }
 
+    /// The address of its first byte in memory.
     pub(crate) fn address(&self) -> u32
         ensures { result ≡ self.now.p_vaddr }
     {
@@ -138,12 +239,4 @@ impl Header {
     {
         u64::from(self.p_vaddr) + u64::from(self.p_memsz)
     }
-}
-
-/// The number of program headers.
-pub(crate) fn count(file: &[u8]) -> u32
-    requires { 52 ≤ length file.now }
-    ensures { result ≡ e_phnum file.now }
-{
-    u32::from(half(file, 44))
 }

@@ -6,7 +6,7 @@ ghost use Rattle.asc_elf.specs.Checked.{IsWhole};
 
 use crate::ElfFault;
 use crate::cases::{header_fault, segment_fault, table_fault};
-use crate::file::word;
+use crate::file::e_entry;
 use crate::segment::{highest, lowest, put_segments};
 use asc_shape::{Shape, State, Version};
 use std::marker::Model;
@@ -65,8 +65,8 @@ fn laid_out(file: &[u8], size: u32, version: Version) -> Result<Image<'_>, ElfFa
     if end - 64 < highest {
         return Err(ElfFault::TooLarge);
     }
-    let entry = word(file, 24);
-    if entry % 4 != 0 || entry < shape.base() || end < u64::from(entry) + 4 {
+    let entry = e_entry(file);
+    if !entry.is_multiple_of(4) || entry < shape.base() || end < u64::from(entry) + 4 {
         return Err(ElfFault::Entry);
     }
     Ok(Image {

@@ -7,7 +7,7 @@ ghost use Rattle.asc_elf.specs.File.{headers, segments};
 ghost use Rattle.asc_elf.specs.Image.{lowest_address, highest_end, segment_changes};
 ghost use Rattle.asc_elf.specs.Checked.{HasTable, HasPlace};
 
-use crate::file::{Header, count};
+use crate::file::{Header, e_phnum};
 use asc_shape::State;
 
 /// The lowest address of a file's segments.
@@ -18,7 +18,7 @@ pub(crate) fn lowest(file: &[u8]) -> u32
     ensures { result ≡ lowest_address (segments file.now) }
 {
     let mut lowest = u32::MAX;
-    for index in 0..count(file) {
+    for index in 0..e_phnum(file) {
         let header = Header::nth(file, index);
         if header.is_segment() {
             lowest = lowest.min(header.address());
@@ -34,7 +34,7 @@ pub(crate) fn highest(file: &[u8]) -> u64
     ensures { result ≡ highest_end (segments file.now) }
 {
     let mut highest = 0;
-    for index in 0..count(file) {
+    for index in 0..e_phnum(file) {
         let header = Header::nth(file, index);
         if header.is_segment() {
             highest = highest.max(header.end());
@@ -48,9 +48,10 @@ pub(crate) fn highest(file: &[u8]) -> u64
 pub(crate) fn put_segments(file: &[u8], s: &mut State)
     requires table { HasTable file.now }
     requires place { HasPlace file.now s.old.shape (headers file.now) }
-    ensures { s.new ≡ state_after_all s.old (flat_map (segment_changes file.now) (segments file.now)) }
+    ensures { s.new
+        ≡ state_after_all s.old (flat_map (segment_changes file.now) (segments file.now)) }
 {
-    for index in 0..count(file) {
+    for index in 0..e_phnum(file) {
         let segment = Header::nth(file, index);
         if segment.is_segment() {
             segment.put(file, s);

@@ -14,7 +14,7 @@ const FIRST: [u8; 96] = [
     0x04, 0x00, 0x00, 0x00, 0x93, 0x08, 0xD0, 0x05, 0x13, 0x05, 0x70, 0x00, 0x73, 0x00, 0x00, 0x00,
 ];
 
-// The part of a file that is written over, from a place on.
+// Puts bytes over a file, from a place on.
 fn patch(file: &mut [u8], place: u8, bytes: &[u8]) {
     let from = place as usize;
     if let Some(part) = file.get_mut(from..)
@@ -37,9 +37,11 @@ fn image_faults(rt: HostRuntime) {
         (36, &[0x10][..], None),
         (42, &[0x21][..], Some(ElfFault::HeaderSize)),
         (44, &[0x00][..], Some(ElfFault::NoLoad)),
+        (44, &[0x02][..], Some(ElfFault::Table)),
         (52, &[0x03][..], Some(ElfFault::Interp)),
         (72, &[0x0B][..], Some(ElfFault::Segment(0))),
         (24, &[0x02][..], Some(ElfFault::Entry)),
+        (24, &[0x00, 0x00, 0x02, 0x00][..], Some(ElfFault::Entry)),
         (72, &[0xC0, 0xFF][..], None),
         (72, &[0xC1, 0xFF][..], Some(ElfFault::TooLarge)),
     ] {

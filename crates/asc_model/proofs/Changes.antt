@@ -8,10 +8,21 @@ use Rattle.asc_model.specs.declared.version.Version.TheVariants.{One, Two}
 use Rattle.asc_model.specs.Shape.{Shape, start_of, length_of, place_of, holds}
 use Rattle.asc_model.specs.Number.{AreBytes, number_of, bytes_of, word_at}
 use Rattle.asc_model.specs.State.{State, IsState}
-use Rattle.asc_model.specs.Machine.{Machine, IsMachine, Change, Pc, Register, Memory, IsChange, AreChanges, splice, after_change, after_changes, words, view_of, state_of}
+use Rattle.asc_model.specs.Machine.{Machine, IsMachine, Change, Pc, Register, Memory, splice, after_change, after_changes, words, view_of, state_of}
 use Rattle.asc_model.specs.Places.{cells, cells_of, bytes_after}
 use Rattle.asc_model.proofs.Numbers.{word_at-below, bytes_of-number_of, number_of-bytes_of_4, AreBytes-bytes_of, AreBytes-append, AreBytes-take, AreBytes-drop, bytes_after-append, bytes_after-cells}
 use Rattle.asc_model.proofs.Views.{length-words, words-below}
+
+-- what a change may be: registers are 0 to 31, values are words, and bytes go into memory
+abbrev pub IsChange : Shape → Change → Type 0
+IsChange shape (Pc value) = value < 2 ^ 32
+IsChange shape (Register k value) = (k ≤ 31) × (value < 2 ^ 32)
+IsChange shape (Memory address bytes) = IsTrue (holds shape address (length bytes)) × AreBytes bytes
+
+-- each change of the list may be
+abbrev pub AreChanges : Shape → List Change → Type 0
+AreChanges shape [] = Unit {0}
+AreChanges shape (first ∷ rest) = IsChange shape first × AreChanges shape rest
 
 -- ---- splices
 
@@ -268,13 +279,6 @@ state_of-change_bytes shape m (Memory address new) good h =
     sym (splice-append_right front m.memory (address - shape.base) new)
     ∙ ap (λ n. splice (front ++ m.memory) (n + (address - shape.base)) new) (length-front shape m good)
     ∙ sym (bytes_after-cells (state_of shape m).bytes (place_of shape address) new (omega (arith, length-state_of shape m good, parts.0, parts.1)))
-
--- the state of a machine after a change, by its bytes
-pub state_of-change_machine : (shape : Shape) (m : Machine) (c : Change) → IsMachine shape m → IsChange shape c → state_of shape (after_change shape m c) ≡ record (state_of shape m) { bytes = bytes_after (state_of shape m).bytes (cells_of shape c) }
-unfolding state_of
-state_of-change_machine shape m c good h =
-    let e = state_of-change_bytes shape m c good h in
-    λ i. record (state_of shape m) { bytes = e i }
 
 -- ---- lists of changes
 

@@ -1,5 +1,7 @@
 -- The laws, from the lemmas on views, changes and steps.
-use Rattle.std.proofs.Common.{◌≡◌, refl, sym, ap, subst}
+use Rattle.std.proofs.Common.{◌≡◌, ◌≢◌, ℕ, suc, List, [], ◌∷◌, map, All, slice_index, slice_set, refl, sym, ap, subst, ◌∙◌, arith}
+use Rattle.std.proofs.lemmas.List.{get_or-set_other}
+use Rattle.asc_model.specs.Places.{writes, bytes_after}
 use Rattle.asc_model.specs.State.{State, IsState}
 use Rattle.asc_model.specs.Machine.{after_changes, view_of, state_of}
 use Rattle.asc_model.specs.Step.{Outcome, Goes, Calls, Fails, outcome, At, next_of, next}
@@ -13,11 +15,22 @@ views_determine_states s good = (IsMachine-view_of s good, state_of-view_of s go
 pub states_determine_views : StatesDetermineViews
 states_determine_views shape m good = (IsState-state_of shape m good, view_of-state_of shape m good)
 
+-- a place that is not written keeps its byte
+bytes_after-other : (bytes : List ℕ) (list : List (ℕ × ℕ)) (place : ℕ) → All (λ written. written ≢ place) (map (λ cell. cell.0) list) → slice_index (bytes_after bytes list) place ≡ slice_index bytes place
+bytes_after-other bytes [] place apart = refl
+bytes_after-other bytes (cell ∷ list) place apart =
+    let first : place ≢ cell.0 = λ e. apart 0 0 (omega arith) (sym e) in
+    bytes_after-other (slice_set bytes cell.0 cell.1) list place (λ k d h. apart (suc k) d (omega arith))
+    ∙ get_or-set_other bytes cell.0 place cell.1 0 first
+
 by_outcome : (s : State) → IsState s → (o : Outcome) → outcome s.shape (view_of s) ≡ o → WritesOfStep s
 by_outcome s good (Goes list) e =
     let n = next-goes s list good e in
     record {
       goes = λ after h. cc;
+      others = λ after place h apart.
+          let same : after ≡ record s { bytes = bytes_after s.bytes (writes s) } = cc in
+          ap (λ (t : State). slice_index t.bytes place) same ∙ bytes_after-other s.bytes (writes s) place apart;
       calls = λ h. absurd (cc);
       fails = λ fault h. absurd (cc);
     }
@@ -25,6 +38,7 @@ by_outcome s good Calls e =
     let n = next-calls s e in
     record {
       goes = λ after h. absurd (cc);
+      others = λ after place h apart. absurd (cc);
       calls = λ h. writes-calls s e;
       fails = λ fault h. absurd (cc);
     }
@@ -32,6 +46,7 @@ by_outcome s good (Fails kind) e =
     let n = next-fails s kind e in
     record {
       goes = λ after h. absurd (cc);
+      others = λ after place h apart. absurd (cc);
       calls = λ h. absurd (cc);
       fails = λ fault h. writes-fails s kind e;
     }

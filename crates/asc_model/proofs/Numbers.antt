@@ -81,9 +81,6 @@ AreBytes-bytes_of (suc n) v (suc i) = AreBytes-bytes_of n (v / 2 ^ 8) i
 
 -- ---- lists of bytes
 
-pub AreBytes-nil : AreBytes []
-AreBytes-nil i = omega arith
-
 pub AreBytes-take : (n : ℕ) (bytes : List ℕ) → AreBytes bytes → AreBytes (take n bytes)
 AreBytes-take zero bytes h i = omega arith
 AreBytes-take (suc n) [] h i = omega arith
@@ -131,13 +128,6 @@ AreCells-cells place (byte ∷ bytes) h = (h 0, AreCells-cells (place + 1) bytes
 pub AreBytes-bytes_after : (bytes : List ℕ) (list : List (ℕ × ℕ)) → AreCells list → AreBytes bytes → AreBytes (bytes_after bytes list)
 AreBytes-bytes_after bytes [] p h = h
 AreBytes-bytes_after bytes (cell ∷ rest) p h = AreBytes-bytes_after (slice_set bytes cell.0 cell.1) rest p.1 (AreBytes-set bytes cell.0 cell.1 p.0 h)
-
--- four writes in a row
-pub bytes_after-cells_4 : (bytes : List ℕ) (place b0 b1 b2 b3 : ℕ) → bytes_after bytes (cells place (b0 ∷ b1 ∷ b2 ∷ b3 ∷ [])) ≡ slice_set (slice_set (slice_set (slice_set bytes place b0) (place + 1) b1) (place + 2) b2) (place + 3) b3
-bytes_after-cells_4 bytes place b0 b1 b2 b3 =
-    let p : place + 1 + 1 ≡ place + 2 = omega arith in
-    let q : place + 1 + 1 + 1 ≡ place + 3 = omega arith in
-    λ i. slice_set (slice_set (slice_set (slice_set bytes place b0) (place + 1) b1) (p i) b2) (q i) b3
 
 -- writes in a row are one splice
 pub bytes_after-cells : (bytes : List ℕ) (place : ℕ) (new : List ℕ) → place + length new ≤ length bytes → bytes_after bytes (cells place new) ≡ splice bytes place new

@@ -1,7 +1,6 @@
 -- What one step makes of a state, by the places that it writes.
 use Rattle.std.proofs.Common.{◌≡◌, ℕ, zero, suc, ◌+◌, ◌-◌, ◌*◌, ◌/◌, ◌^◌, ◌<◌, ◌≤◌, Bool, true, false, nat_lt, not, List, [], ◌∷◌, length, Option, Some, None, if◌then◌else◌, take, drop, refl, sym, ap, ◌∙◌, subst, arith, pow_mono, pow_pos}
 use Rattle.std.specs.Prelude.{⊤}
-use Rattle.std.specs.List.{flat_map}
 use Rattle.std.proofs.lemmas.List.{length-take}
 use Rattle.std.proofs.lemmas.Nat.{mod_below, pow-add}
 use Rattle.std.proofs.Math.Nat.{pow-zero, pow-suc}
@@ -14,13 +13,13 @@ use Rattle.asc_model.specs.declared.instruction.Instr.{Instr}
 use Rattle.asc_model.specs.Shape.{Shape, holds}
 use Rattle.asc_model.specs.Number.{number_of, bytes_of, bits, sign_extend}
 use Rattle.asc_model.specs.State.{State, IsState}
-use Rattle.asc_model.specs.Machine.{Machine, IsMachine, register, load, Change, Pc, Register, Memory, AreChanges, view_of}
+use Rattle.asc_model.specs.Machine.{Machine, IsMachine, register, load, Change, Pc, Register, Memory, view_of}
 use Rattle.asc_model.specs.Instruction.{Format, I, Plain, Row, operands, fits, find, table, decode, rd_of, rs1_of, rs2_of, imm_of, op_of}
 use Rattle.asc_model.specs.Effect.{Effect, Set, Load, Store, Jump, GuestCall, Breakpoint, effect, ◌+w◌}
-use Rattle.asc_model.specs.Step.{Outcome, Goes, Calls, Fails, fault_outcome, is_aligned, extend, effect_of, outcome_of, fetch, outcome_of_word, outcome, At, Call, Bad, next_of, next}
-use Rattle.asc_model.specs.Places.{cells_of, cells_of_outcome, writes, bytes_after}
+use Rattle.asc_model.specs.Step.{Outcome, Goes, Calls, Fails, fault_outcome, is_aligned, loaded_word, effect_of, outcome_of, fetch, outcome_of_word, outcome, At, Call, Bad, next_of, next}
+use Rattle.asc_model.specs.Places.{cells_of_outcome, writes, bytes_after}
 use Rattle.asc_model.proofs.Numbers.{number_of-below, length-bytes_of, AreBytes-bytes_of, AreBytes-take, AreBytes-drop}
-use Rattle.asc_model.proofs.Changes.{IsMachine-view_of, state_of-after_changes}
+use Rattle.asc_model.proofs.Changes.{AreChanges, IsMachine-view_of, state_of-after_changes}
 
 -- what holds of both branches
 by_branch : {A : Type 0} (P : A → Type 0) (b : Bool) (x y : A) → (b ≡ true → P x) → (b ≡ false → P y) → P (if b then x else y)
@@ -116,9 +115,9 @@ load-below shape m n address good =
     omega arith
 
 -- a loaded number of at most four bytes, extended, is a word
-extend-below : (n number : ℕ) (signed : Bool) → n ≤ 4 → number < 2 ^ (8 * n) → extend n signed number < 2 ^ 32
-extend-below n number true h small = sign_extend-below (8 * n) number (omega arith) small
-extend-below n number false h small = let most : 2 ^ (8 * n) ≤ 2 ^ 32 = pow_mono {i = 8 * n} {j = 32} (omega arith) in omega arith
+loaded_word-below : (n number : ℕ) (signed : Bool) → n ≤ 4 → number < 2 ^ (8 * n) → loaded_word n signed number < 2 ^ 32
+loaded_word-below n number true h small = sign_extend-below (8 * n) number (omega arith) small
+loaded_word-below n number false h small = let most : 2 ^ (8 * n) ≤ 2 ^ 32 = pow_mono {i = 8 * n} {j = 32} (omega arith) in omega arith
 
 -- ---- outcomes
 
@@ -132,8 +131,8 @@ IsOutcome shape (Fails fault) = ⊤
 pub outcome_of-IsOutcome : (shape : Shape) (m : Machine) (rd : ℕ) (e : Effect) → IsMachine shape m → rd ≤ 31 → IsEffect e → IsOutcome shape (outcome_of shape m rd e)
 outcome_of-IsOutcome shape m rd (Set value) good hrd h = (add_words-below m.pc 4, ((hrd, h), tt))
 outcome_of-IsOutcome shape m rd (Load n signed address) good hrd h =
-    by_branch (IsOutcome shape) (holds shape address n) (Goes (Pc (m.pc +w 4) ∷ Register rd (extend n signed (load shape m n address)) ∷ [])) (fault_outcome m LoadOutside address)
-    (λ e. (add_words-below m.pc 4, ((hrd, extend-below n (load shape m n address) signed h (load-below shape m n address good)), tt))) (λ e. tt)
+    by_branch (IsOutcome shape) (holds shape address n) (Goes (Pc (m.pc +w 4) ∷ Register rd (loaded_word n signed (load shape m n address)) ∷ [])) (fault_outcome m LoadOutside address)
+    (λ e. (add_words-below m.pc 4, ((hrd, loaded_word-below n (load shape m n address) signed h (load-below shape m n address good)), tt))) (λ e. tt)
 outcome_of-IsOutcome shape m rd (Store n address value) good hrd h =
     by_branch (IsOutcome shape) (holds shape address n) (Goes (Pc (m.pc +w 4) ∷ Memory address (bytes_of n value) ∷ [])) (fault_outcome m StoreOutside address)
     (λ e. (add_words-below m.pc 4, ((ap (holds shape address) (length-bytes_of n value) ∙ e, AreBytes-bytes_of n value), tt))) (λ e. tt)
@@ -184,11 +183,6 @@ next-calls s e = ap (next_of s.shape (view_of s)) e
 pub next-fails : (s : State) (fault : Fault) → outcome s.shape (view_of s) ≡ Fails fault → next s ≡ Bad fault
 unfolding next
 next-fails s fault e = ap (next_of s.shape (view_of s)) e
-
--- what a step writes, by its outcome
-pub writes-goes : (s : State) (list : List Change) → outcome s.shape (view_of s) ≡ Goes list → writes s ≡ flat_map (cells_of s.shape) list
-unfolding writes
-writes-goes s list e = ap (cells_of_outcome s.shape) e
 
 pub writes-calls : (s : State) → outcome s.shape (view_of s) ≡ Calls → writes s ≡ []
 unfolding writes

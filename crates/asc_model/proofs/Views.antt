@@ -36,9 +36,6 @@ pub view_of-pc : (s : State) → (view_of s).pc ≡ word_at s.bytes 0
 unfolding view_of
 view_of-pc s = refl
 
-pub view_of-register_0 : (s : State) → register (view_of s) 0 ≡ 0
-view_of-register_0 s = refl
-
 pub view_of-register_suc : (s : State) (k : ℕ) → k < 31 → register (view_of s) (suc k) ≡ word_at s.bytes (4 * suc k)
 unfolding view_of
 view_of-register_suc s k h =
@@ -57,10 +54,6 @@ view_of-memory s n address = ap (take n) (drop-drop (address - s.shape.base) (st
 
 pub view_of-load : (s : State) (n address : ℕ) → load s.shape (view_of s) n address ≡ number_at n s.bytes (place_of s.shape address)
 view_of-load s n address = ap number_of (view_of-memory s n address)
-
-pub view_of-pc_below : (s : State) → IsState s → (view_of s).pc < 2 ^ 32
-unfolding view_of
-view_of-pc_below s good = word_at-below s.bytes 0 good.bytes
 
 pub view_of-register_below : (s : State) (k : ℕ) → IsState s → register (view_of s) k < 2 ^ 32
 unfolding view_of

@@ -1,7 +1,7 @@
 -- The machine that a state stands for (RISC-V unprivileged manual 20191213, section 2.1).
-use Rattle.std.specs.Prelude.{◌≡◌, ℕ, zero, suc, ◌+◌, ◌-◌, ◌^◌, ◌<◌, ◌≤◌, IsTrue, ⊤, List, [], ◌∷◌, ◌++◌, length, take, drop, slice_index, slice_set}
+use Rattle.std.specs.Prelude.{◌≡◌, ℕ, zero, suc, ◌+◌, ◌-◌, ◌^◌, ◌<◌, List, [], ◌∷◌, ◌++◌, length, take, drop, slice_index, slice_set}
 use Rattle.std.specs.List.{flat_map}
-use Rattle.asc_model.specs.Shape.{Shape, IsShape, start_of, holds}
+use Rattle.asc_model.specs.Shape.{Shape, IsShape, start_of}
 use Rattle.asc_model.specs.Number.{AreBytes, number_of, number_at, bytes_of, word_at}
 use Rattle.asc_model.specs.State.{State}
 
@@ -43,17 +43,6 @@ after_change shape m (Memory address bytes) = record m { memory = splice m.memor
 abbrev pub after_changes : Shape → Machine → List Change → Machine
 after_changes shape m [] = m
 after_changes shape m (first ∷ rest) = after_changes shape (after_change shape m first) rest
-
--- what a change may be: registers are 0 to 31, values are words, and bytes go into memory
-abbrev pub IsChange : Shape → Change → Type 0
-IsChange shape (Pc value) = value < 2 ^ 32
-IsChange shape (Register k value) = (k ≤ 31) × (value < 2 ^ 32)
-IsChange shape (Memory address bytes) = IsTrue (holds shape address (length bytes)) × AreBytes bytes
-
--- each change of the list may be
-abbrev pub AreChanges : Shape → List Change → Type 0
-AreChanges shape [] = ⊤
-AreChanges shape (first ∷ rest) = IsChange shape first × AreChanges shape rest
 
 -- the first n words of a list of bytes
 unfoldable pub words : ℕ → List ℕ → List ℕ

@@ -25,8 +25,8 @@ abbrev pub is_aligned : ℕ → Bool
 is_aligned address = address % 4 == 0
 
 -- a loaded number of n bytes as a word
-abbrev pub extend : ℕ → Bool → ℕ → ℕ
-extend n signed number = if signed then sign_extend (8 * n) number else number
+abbrev pub loaded_word : ℕ → Bool → ℕ → ℕ
+loaded_word n signed number = if signed then sign_extend (8 * n) number else number
 
 -- the effect of an instruction, as the machine stands
 abbrev pub effect_of : Machine → Instr → Effect
@@ -36,7 +36,7 @@ effect_of m i = effect (op_of i) m.pc (register m (rs1_of i)) (register m (rs2_o
 abbrev pub outcome_of : Shape → Machine → (rd : ℕ) → Effect → Outcome
 outcome_of shape m rd (Set value) = Goes (Pc (m.pc +w 4) ∷ Register rd value ∷ [])
 outcome_of shape m rd (Load n signed address) =
-    if holds shape address n then Goes (Pc (m.pc +w 4) ∷ Register rd (extend n signed (load shape m n address)) ∷ [])
+    if holds shape address n then Goes (Pc (m.pc +w 4) ∷ Register rd (loaded_word n signed (load shape m n address)) ∷ [])
     else fault_outcome m LoadOutside address
 outcome_of shape m rd (Store n address value) =
     if holds shape address n then Goes (Pc (m.pc +w 4) ∷ Memory address (bytes_of n value) ∷ [])

@@ -1,7 +1,7 @@
 //! The laws that tie states, their machines and their steps to one another. Each function stands for the law that it
 //! ensures, and does nothing.
 
-ghost use Rattle.asc_model.specs.Laws.{ViewsDetermineStates, StatesDetermineViews, StepWritesBytes, StepsKeepStates};
+ghost use Rattle.asc_model.specs.Laws.{ViewsDetermineStates, StatesDetermineViews, StepWritesBytes, StepsKeepStates, StepsTouchPlaces, PlainStepsJoin, PlainStepsKeepStates, RowsDiffer};
 
 /// A state is known from its machine: turned into its machine and back, it is the same state.
 pub fn views_determine_states()
@@ -22,4 +22,26 @@ pub fn step_writes_bytes()
 /// A step leads from a state to a state, and the shape stays the same.
 pub fn steps_keep_states()
     ensures { StepsKeepStates }
+{}
+
+/// A step reads and writes places of its state alone: each place that it reads, and each place that it writes, is below
+/// the number of bytes of the state.
+pub fn steps_touch_places()
+    ensures { StepsTouchPlaces }
+{}
+
+/// Plain steps may be taken in parts: where `m` of them reach a state, `m + n` of them come to what `n` steps of that
+/// state come to, be it a state, a guest call or a fault.
+pub fn plain_steps_join()
+    ensures { PlainStepsJoin }
+{}
+
+/// However many plain steps are taken, they lead from a state to a state, and the shape stays the same.
+pub fn plain_steps_keep_states()
+    ensures { PlainStepsKeepStates }
+{}
+
+/// No word is for two rows of a version's instruction table. So it is the same which row is asked first.
+pub fn rows_differ()
+    ensures { RowsDiffer }
 {}

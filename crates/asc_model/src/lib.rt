@@ -13,7 +13,8 @@ mod version;
 pub use fault::{Fault, FaultKind};
 pub use instruction::{Instr, Op};
 pub use laws::{
-    states_determine_views, step_writes_bytes, steps_keep_states, views_determine_states,
+    plain_steps_join, plain_steps_keep_states, rows_differ, states_determine_views,
+    step_writes_bytes, steps_keep_states, steps_touch_places, views_determine_states,
 };
 pub use status::Status;
 pub use version::Version;

@@ -17,7 +17,7 @@ pub(crate) const HEADER: usize = 52;
 
 pub(crate) const CODE: usize = 84;
 
-/// Some bytes, with others put over them.
+/// A word, and the place in a file over which it is put.
 #[derive(Clone, Copy)]
 pub(crate) struct Patch {
     pub(crate) at: usize,

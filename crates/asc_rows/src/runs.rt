@@ -10,13 +10,13 @@ use std::marker::Brand;
 use std::sync::ledger::{Blank, Ledger};
 use std::test::Fail;
 
-/// A program that is handed a store with one file, `image`, no input, and outputs that count.
+/// What `top` answers where the store has one file, `image`, and there is no input, and how many bytes it put out.
 fn answer_on<L: Ledger>(
     alloc: Global,
     words: &[String],
     file: Vec<u8>,
     blank: Blank,
-) -> Result<Answer, AllocError>
+) -> Result<(Answer, u64), AllocError>
     requires name { blank.name ≡ L.name }
     requires parts { blank.parts ≡ L.parts }
     requires some { 0 < L.parts }
@@ -24,21 +24,26 @@ fn answer_on<L: Ledger>(
     let mut files = Vec::new(alloc);
     files.push((String::from_str(alloc, "image")?, file))?;
     let mut store = ListStore::new(files, Vec::new(alloc));
+    let mut out = CountSink::new();
+    let mut err = CountSink::new();
+    let mut report = CountSink::new();
     let mut steps = Steps::<L>::new(blank);
-    Ok(top(
+    let answer = top(
         alloc,
         words,
         &mut store,
         &mut SureSource::new(Vec::new(alloc)),
-        &mut CountSink::new(),
-        &mut CountSink::new(),
-        &mut CountSink::new(),
+        &mut out,
+        &mut err,
+        &mut report,
         &Open,
         &mut steps,
-    ))
+    );
+    let put = out.count().max(err.count()).max(report.count());
+    Ok((answer, put))
 }
 
-fn answer_to(alloc: Global, words: &[&str], file: Vec<u8>) -> Result<Answer, AllocError> {
+fn answer_to(alloc: Global, words: &[&str], file: Vec<u8>) -> Result<(Answer, u64), AllocError> {
     let mut owned = Vec::new(alloc);
     for word in words {
         owned.push(String::from_str(alloc, word)?)?;
@@ -47,20 +52,21 @@ fn answer_to(alloc: Global, words: &[&str], file: Vec<u8>) -> Result<Answer, All
 }
 
 /// What `asc run image` answers where the image is this file.
-fn run_of(alloc: Global, file: Vec<u8>) -> Result<Answer, AllocError> {
+fn run_of(alloc: Global, file: Vec<u8>) -> Result<(Answer, u64), AllocError> {
     answer_to(alloc, &["asc", "run", "image"], file)
 }
 
 /// What `asc run image` answers where the image is `FIRST` with words put over it.
-fn run_of_patched(alloc: Global, patches: &[Patch]) -> Result<Answer, AllocError> {
+fn run_of_patched(alloc: Global, patches: &[Patch]) -> Result<(Answer, u64), AllocError> {
     run_of(alloc, patched(alloc, patches)?)
 }
 
 #[test]
 fn exit_seven(rt: HostRuntime) -> Result<(), Fail> {
     let alloc = rt.alloc();
-    let answer = run_of(alloc, FIRST.to_vec(alloc)?)?;
+    let (answer, put) = run_of(alloc, FIRST.to_vec(alloc)?)?;
     assert_eq!(rt; answer, Answer::Exit(7));
+    assert_eq!(rt; put, 0);
     assert_eq!(rt; answer.code(), 7);
     Ok(())
 }
@@ -82,8 +88,8 @@ fn bad_words(rt: HostRuntime) -> Result<(), Fail> {
         (&["asc", "run", ""], Answer::StoreFault),
     ];
     for (words, want) in cases {
-        let answer = answer_to(alloc, words, FIRST.to_vec(alloc)?)?;
-        assert_eq!(rt; answer, want, "at {words:?}");
+        let got = answer_to(alloc, words, FIRST.to_vec(alloc)?)?;
+        assert_eq!(rt; got, (want, 0), "at {words:?}");
     }
     Ok(())
 }
@@ -121,7 +127,7 @@ fn hostile_images(rt: HostRuntime) -> Result<(), Fail> {
         value: 0,
     };
     // e_phoff, e_phnum with e_phentsize, p_offset, p_offset without file bytes, p_vaddr and e_entry
-    let cases: [(&[Patch], Answer); 6] = [
+    let cases: [(&[Patch], Answer); 7] = [
         (&[word(28, 0xFFFF_FFFF)], Answer::Image(ElfFault::Table)),
         (&[word(44, 0x0000_FFFF)], Answer::Image(ElfFault::Table)),
         (
@@ -138,9 +144,11 @@ fn hostile_images(rt: HostRuntime) -> Result<(), Fail> {
         ),
         // The second word is ADDI x10,x0,9.
         (&[word(88, 0x0090_0513)], Answer::Exit(9)),
+        // The flag TSO.
+        (&[word(36, 0x10)], Answer::Exit(7)),
     ];
     for (patches, want) in cases {
-        assert_eq!(rt; run_of_patched(alloc, patches)?, want);
+        assert_eq!(rt; run_of_patched(alloc, patches)?, (want, 0));
     }
     Ok(())
 }
@@ -155,8 +163,8 @@ fn cut_images(rt: HostRuntime) -> Result<(), Fail> {
             52..84 => ElfFault::Table,
             _ => ElfFault::Segment(0),
         };
-        let answer = run_of(alloc, FIRST[..length].to_vec(alloc)?)?;
-        assert_eq!(rt; answer, Answer::Image(want), "at {length}");
+        let got = run_of(alloc, FIRST[..length].to_vec(alloc)?)?;
+        assert_eq!(rt; got, (Answer::Image(want), 0), "at {length}");
     }
     Ok(())
 }
@@ -174,7 +182,7 @@ fn overlapping_segments(rt: HostRuntime) -> Result<(), Fail> {
             put_header(&mut file, HEADER, 128, 0x10004, 4);
             put_header(&mut file, CODE, 116, 0x10000, 12);
         }
-        assert_eq!(rt; run_of(alloc, file)?, Answer::Exit(want));
+        assert_eq!(rt; run_of(alloc, file)?, (Answer::Exit(want), 0));
     }
     Ok(())
 }
@@ -208,7 +216,7 @@ fn put_header(file: &mut Vec<u8>, at: usize, offset: u32, address: u32, size: u3
 #[test]
 fn too_long(rt: HostRuntime) -> Result<(), Fail> {
     let alloc = rt.alloc();
-    let answer = run_of(alloc, vec![in alloc; 0; 67_108_865]?)?;
-    assert_eq!(rt; answer, Answer::TooLong);
+    let got = run_of(alloc, vec![in alloc; 0; 67_108_865]?)?;
+    assert_eq!(rt; got, (Answer::TooLong, 0));
     Ok(())
 }

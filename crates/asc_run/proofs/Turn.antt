@@ -70,7 +70,7 @@ end_of served.Went = None
 end_of (served.Exit code) = Some (ends.Exit code)
 
 -- an input that agrees with what is left after bytes were taken agrees, behind them, with what was left before
-Agrees-before : (before now : Option (List ℕ)) (taken rest : List ℕ) → Takes before now taken → Agrees now rest → Agrees before (taken ++ rest)
+pub Agrees-before : (before now : Option (List ℕ)) (taken rest : List ℕ) → Takes before now taken → Agrees now rest → Agrees before (taken ++ rest)
 Agrees-before (Some before) (Some now) taken rest t a = t ∙ ap (λ x. taken ++ x) a
 Agrees-before (Some before) None taken rest t a = absurd t
 Agrees-before None now taken rest t a = tt

@@ -1,3 +1,4 @@
 pub mod Plain
 pub mod Turn
 pub mod Walk
+pub mod Laws

@@ -21,22 +21,22 @@ pub data Progress : Type 0 where
 
 -- at a call: one that is served and goes on, or one that ends the program, counts one step
 abbrev pub progress_after_call : ℕ → Position → called.CallResult → Progress
-progress_after_call count r (called.Went state brk act) = On (record {
+progress_after_call count position (called.Went state brk act) = On (record {
   state = state;
   brk = brk;
-  left = drop (length act.taken) r.left;
-  act = joint_act r.act act;
+  left = drop (length act.taken) position.left;
+  act = joint_act position.act act;
 })
-progress_after_call count r (called.Exit code) = Off (count + 1) (ends.Exit code) r
+progress_after_call count position (called.Exit code) = Off (count + 1) (ends.Exit code) position
 
 -- one more step after this count; a fault counts none
 abbrev pub progress_after_step : (low high count : ℕ) → Position → Next → Progress
-progress_after_step low high count r (At state) = On (record r { state = state })
-progress_after_step low high count r Call = progress_after_call count r (guest_call low high r.state r.brk r.left)
-progress_after_step low high count r (Bad fault) = Off count (ends.Fault fault) r
+progress_after_step low high count position (At state) = On (record position { state = state })
+progress_after_step low high count position Call = progress_after_call count position (guest_call low high position.state position.brk position.left)
+progress_after_step low high count position (Bad fault) = Off count (ends.Fault fault) position
 
 abbrev pub next_progress : (low high count : ℕ) → Progress → Progress
-next_progress low high count (On r) = progress_after_step low high count r (next r.state)
+next_progress low high count (On position) = progress_after_step low high count position (next position.state)
 next_progress low high count (Off n ended last) = Off n ended last
 
 -- how far a program comes in n steps
@@ -52,7 +52,7 @@ pub record Run : Type 0 where
 
 -- a run that goes on when its limit is reached ends there
 abbrev pub run_of : ℕ → Progress → Run
-run_of limit (On r) = record { ended = ends.Limit; count = limit; act = r.act }
+run_of limit (On position) = record { ended = ends.Limit; count = limit; act = position.act }
 run_of limit (Off count ended last) = record { ended = ended; count = count; act = last.act }
 
 -- where a program begins: its break is at low

@@ -14,7 +14,7 @@ use std::sync::ledger::Ledger;
 pub enum Ended {
     /// The program ended with this code.
     Exit(u8),
-    /// An instruction met a fault. It counts no step, and its state stands as before it.
+    /// An instruction met a fault. It counts no step.
     Fault(Fault),
     /// The limit on steps was reached.
     Limit,
@@ -75,7 +75,8 @@ impl Model for Walk {
       ended = w.ended;
     } };
 
-    ghost invariant = { λ w. (w.limit ≤ 2 ^ 40) × (w.process.count ≤ w.limit) × (w.ended ≡ None → model.HasNotBegun w.process.count w.process.calls) };
+    ghost invariant = { λ w. (w.limit ≤ 2 ^ 40) × (w.process.count ≤ w.limit)
+        × (w.ended ≡ None → model.HasNotBegun w.process.count w.process.calls) };
 }
 
 impl Walk {

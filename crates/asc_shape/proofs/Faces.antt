@@ -11,21 +11,11 @@ use Rattle.asc_model.specs.Places.{bytes_after, places_from, cells}
 use Rattle.asc_model.proofs.Numbers.{word_at-from_le_bytes}
 use Rattle.asc_shape.specs.Face.{Face, Marks, Untold, Told, status_at, is_untouched, status_after_read, status_after_write, marks_after, face_after_read, face_after_put, face_after_reads, face_after_puts, untouched_count}
 
--- a read leaves the state
-pub state-read : (f : Face) (place : ℕ) → (face_after_read f place).state ≡ f.state
-unfolding face_after_read
-state-read f place = refl
-
 -- reads leave the state
 pub state-reads : (f : Face) (places : List ℕ) → (face_after_reads f places).state ≡ f.state
 unfolding face_after_reads face_after_read
 state-reads f [] = refl
 state-reads f (place ∷ places) = state-reads (face_after_read f place) places
-
--- a put writes its byte
-pub state-put : (f : Face) (place byte : ℕ) → (face_after_put f place byte).state ≡ record f.state { bytes = slice_set f.state.bytes place byte }
-unfolding face_after_put
-state-put f place byte = refl
 
 -- puts write their bytes
 pub state-puts : (f : Face) (cells : List (ℕ × ℕ)) → (face_after_puts f cells).state ≡ record f.state { bytes = bytes_after f.state.bytes cells }
@@ -80,11 +70,6 @@ pub untouched_count-le-length : (marks : Marks) (places : List ℕ) → untouche
 unfolding untouched_count
 untouched_count-le-length Untold places = omega arith
 untouched_count-le-length (Told statuses touched) places = count_by-le-length _ places
-
--- nothing is fresh where marks are not told
-pub untouched_count_untold : (marks : Marks) (places : List ℕ) → marks ≡ Untold → untouched_count marks places ≡ 0
-unfolding untouched_count
-untouched_count_untold marks places e = rw e refl
 
 -- the fresh places of two lists
 pub untouched_count-append : (marks : Marks) (a b : List ℕ) → untouched_count marks (a ++ b) ≡ untouched_count marks a + untouched_count marks b
@@ -149,28 +134,6 @@ untouched_count-read-le f place places = untouched_count-marks_after-le status_a
 pub untouched_count-put-le : (f : Face) (place byte : ℕ) (places : List ℕ) → untouched_count (face_after_put f place byte).marks places ≤ untouched_count f.marks places
 unfolding face_after_put
 untouched_count-put-le f place byte places = untouched_count-marks_after-le status_after_write touched-status_after_write f.marks place _ places
-
--- reads make no place fresh
-pub untouched_count-reads-le : (f : Face) (touched places : List ℕ) → untouched_count (face_after_reads f touched).marks places ≤ untouched_count f.marks places
-unfolding face_after_reads
-untouched_count-reads-le f [] places = omega arith
-untouched_count-reads-le f (place ∷ touched) places = omega (arith, untouched_count-read-le f place places, untouched_count-reads-le (face_after_read f place) touched places)
-
--- puts make no place fresh
-pub untouched_count-puts-le : (f : Face) (cells : List (ℕ × ℕ)) (places : List ℕ) → untouched_count (face_after_puts f cells).marks places ≤ untouched_count f.marks places
-unfolding face_after_puts
-untouched_count-puts-le f [] places = omega arith
-untouched_count-puts-le f (cell ∷ cells) places = omega (arith, untouched_count-put-le f cell.0 cell.1 places, untouched_count-puts-le (face_after_put f cell.0 cell.1) cells places)
-
--- room for reads in two parts
-pub room-reads : (f : Face) (a b : List ℕ) (before between after : ℕ) → before ≤ between + untouched_count f.marks a → between ≤ after + untouched_count (face_after_reads f a).marks b
-    → before ≤ after + untouched_count f.marks (a ++ b)
-room-reads f a b before between after first second = omega (arith, untouched_count-append f.marks a b, untouched_count-reads-le f a b)
-
--- room for puts in two parts
-pub room-puts : (f : Face) (cells : List (ℕ × ℕ)) (a b : List ℕ) (before between after : ℕ) → before ≤ between + untouched_count f.marks a
-    → between ≤ after + untouched_count (face_after_puts f cells).marks b → before ≤ after + untouched_count f.marks (a ++ b)
-room-puts f cells a b before between after first second = omega (arith, untouched_count-append f.marks a b, untouched_count-puts-le f cells b)
 
 -- a read leaves the number of bytes
 pub length-read : (f after : Face) (place : ℕ) → after ≡ face_after_read f place → length after.state.bytes ≡ length f.state.bytes

@@ -1,5 +1,4 @@
 pub mod Faces
-pub mod Lengths
 pub mod States
 pub mod Streams
 pub mod Lists

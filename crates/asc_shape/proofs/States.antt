@@ -1,16 +1,16 @@
 -- Lemmas on states: a change of the machine as what it writes, and what a write to a part of a `Vec` leaves.
-use Rattle.std.proofs.Common.{◌≡◌, ◌≢◌, ℕ, zero, suc, ◌+◌, ◌*◌, ◌≤◌, ◌<◌, ◌^◌, List, [], IsTrue, ◌++◌, length, take, drop, replicate, refl, sym, ap, ◌∙◌, arith, append_assoc, length-append, length-take, length-drop}
+use Rattle.std.proofs.Common.{◌≡◌, ◌≢◌, ℕ, zero, suc, ◌+◌, ◌*◌, ◌≤◌, ◌<◌, ◌^◌, List, [], ◌++◌, length, take, drop, replicate, refl, sym, ap, ◌∙◌, arith, append_assoc, length-append, length-take, length-drop}
 use Rattle.std.specs.Global.{Vec}
 use Rattle.std.specs.Vec.{with_items, with_items_from}
-use Rattle.std.proofs.lemmas.List.{with_items_is, drop-drop, drop_all, append-nil, take_all}
+use Rattle.std.proofs.lemmas.List.{with_items_is, drop-drop, drop_all, append-nil}
 use borrow.Rule.Slice.PartMut.{put_mid}
-use Rattle.asc_model.specs.Shape.{Shape, place_of, holds}
+use Rattle.asc_model.specs.Shape.{Shape, place_of}
 use Rattle.asc_model.specs.State.{State, IsState}
 use Rattle.asc_model.specs.Number.{AreBytes, bytes_of}
-use Rattle.asc_model.specs.Machine.{Change, IsChange, Register, Memory, splice, state_of}
+use Rattle.asc_model.specs.Machine.{Change, Register, splice, state_of}
 use Rattle.asc_model.specs.Places.{cells, cells_of, bytes_after}
 use Rattle.asc_model.proofs.Numbers.{bytes_after-cells}
-use Rattle.asc_model.proofs.Changes.{state_of-after_change, length-splice, holds-parts}
+use Rattle.asc_model.proofs.Changes.{IsChange, state_of-after_change, length-splice}
 use Rattle.asc_model.proofs.Views.{view_of-memory}
 use Rattle.asc_shape.specs.State.{state_after, memory_at, with_memory}
 
@@ -87,22 +87,6 @@ with_memory_left s shape v from address new is place within =
     ap (λ (list : List ℕ). let t : State = record { shape = shape; bytes = list } in t)
     (items-with_items_from v from new within ∙ ap (λ p. take (length v.items) (splice v.items p new)) place)
     ∙ ap (λ (t : State). with_memory t address new) is
-
--- bytes in memory, as writes
-pub with_memory_written : (s : State) (address : ℕ) (bytes : List ℕ) → IsState s → IsTrue (holds s.shape address (length bytes))
-    → with_memory s address bytes ≡ record s { bytes = bytes_after s.bytes (cells (place_of s.shape address) bytes) }
-with_memory_written s address bytes good held =
-    let parts = holds-parts s.shape address (length bytes) held in
-    let within : place_of s.shape address + length bytes ≤ length s.bytes = omega (arith, good.length) in
-    let full : length (splice s.bytes (place_of s.shape address) bytes) ≡ length s.bytes = length-splice s.bytes (place_of s.shape address) bytes within in
-    ap (λ (list : List ℕ). record s { bytes = list })
-    (take_all (length s.bytes) (splice s.bytes (place_of s.shape address) bytes) (omega arith) ∙ sym (bytes_after-cells s.bytes (place_of s.shape address) bytes within))
-
--- bytes in memory, as a change of the machine
-pub with_memory_changed : (s : State) (address : ℕ) (bytes : List ℕ) → IsState s → IsTrue (holds s.shape address (length bytes)) → AreBytes bytes
-    → with_memory s address bytes ≡ state_after s (Memory address bytes)
-with_memory_changed s address bytes good held fit =
-    with_memory_written s address bytes good held ∙ sym (changed_is s (Memory address bytes) good (held, fit))
 
 -- zeros are bytes
 pub AreBytes-replicate_0 : (n : ℕ) → AreBytes (replicate n 0)

@@ -20,13 +20,13 @@ course_of fails = record { fails = fails; calls = 0; faults = 0 }
 abbrev pub fails_next : Course → Bool
 fails_next course = list_any (λ n. n == one_more course.calls) course.fails
 
--- with a failure more
-abbrev pub failed : Course → Course
-failed course = record course { faults = one_more course.faults }
+-- the course with a failure more
+abbrev pub course_after_failure : Course → Course
+course_after_failure course = record course { faults = one_more course.faults }
 
--- with a call more, and with a failure more where that call is one that fails
-abbrev pub called : Course → Course
-called course = record {
+-- the course with a call more, and with a failure more where that call is one that fails
+abbrev pub course_after_call : Course → Course
+course_after_call course = record {
   fails = course.fails;
   calls = one_more course.calls;
   faults = if fails_next course then one_more course.faults else course.faults;

@@ -8,7 +8,7 @@ use Rattle.std.specs.declared.vec.Vec.{Vec}
 use Rattle.std.specs.declared.string.String.{String}
 use Rattle.std.specs.declared.alloc.Global.{Global}
 use Rattle.asc_shape.specs.Outside.{Given, File, content_of}
-use Rattle.asc_shape.specs.Course.{Course, fails_next, called, failed}
+use Rattle.asc_shape.specs.Course.{Course, fails_next, course_after_call, course_after_failure}
 
 -- a source: the bytes that are left, at most how many it gives a call, and how its calls go
 pub record Reading : Type 0 where
@@ -17,20 +17,21 @@ pub record Reading : Type 0 where
   pub course : Course
 
 -- how many bytes a source gives into a buffer of this length
-abbrev pub gives : Reading → ℕ → ℕ
-gives source room = if fails_next source.course then 0 else min source.most (min room (length source.left))
+abbrev pub given_count : Reading → ℕ → ℕ
+given_count source room =
+    if fails_next source.course then 0 else min source.most (min room (length source.left))
 
 -- a source after a call with a buffer of this length
 abbrev pub after_take : Reading → ℕ → Reading
 after_take source room = record {
-  left = drop (gives source room) source.left;
+  left = drop (given_count source room) source.left;
   most = source.most;
-  course = called source.course;
+  course = course_after_call source.course;
 }
 
 -- what a sink that keeps only a number was given
-abbrev pub numbered : ℕ → Given
-numbered n = record { bytes = None; number = Some n }
+abbrev pub given_number : ℕ → Given
+given_number n = record { bytes = None; number = Some n }
 
 -- a sink: its bytes, how many more it has room for, at most how many it takes a call, and how its calls go
 pub record Writing : Type 0 where
@@ -40,23 +41,25 @@ pub record Writing : Type 0 where
   pub course : Course
 
 -- what a sink was given; its number stops at 2 ^ 64 - 1
-abbrev pub told : Writing → Given
-told sink = record { bytes = Some sink.bytes; number = Some (min (length sink.bytes) (2 ^ 64 - 1)) }
+abbrev pub given_to : Writing → Given
+given_to sink = record { bytes = Some sink.bytes; number = Some (min (length sink.bytes) (2 ^ 64 - 1)) }
 
 -- how many bytes of a piece of this length a sink takes; where none, the call fails
-abbrev pub accepts : Writing → ℕ → ℕ
-accepts sink n = if fails_next sink.course then 0 else min sink.most (min n sink.room)
+abbrev pub accepted_count : Writing → ℕ → ℕ
+accepted_count sink n = if fails_next sink.course then 0 else min sink.most (min n sink.room)
 
 -- how its calls went after one with a piece of this length
 abbrev pub course_after_put : Writing → ℕ → Course
 course_after_put sink n =
-    if fails_next sink.course then called sink.course else (if accepts sink n == 0 then failed (called sink.course) else called sink.course)
+    if fails_next sink.course then course_after_call sink.course
+    else (if accepted_count sink n == 0 then course_after_failure (course_after_call sink.course)
+    else course_after_call sink.course)
 
 -- a sink after a call with this piece
 abbrev pub after_put : Writing → List ℕ → Writing
 after_put sink piece = record {
-  bytes = sink.bytes ++ take (accepts sink (length piece)) piece;
-  room = sink.room - accepts sink (length piece);
+  bytes = sink.bytes ++ take (accepted_count sink (length piece)) piece;
+  room = sink.room - accepted_count sink (length piece);
   most = sink.most;
   course = course_after_put sink (length piece);
 }
@@ -85,5 +88,6 @@ files_of files = map (λ file. record { name = string_bytes file.0; content = fi
 
 -- how the calls of a store went after one that was answered so
 abbrev pub course_after_read : Course → Option (List ℕ) → Course
-course_after_read course (Some content) = called course
-course_after_read course None = if fails_next course then called course else failed (called course)
+course_after_read course (Some content) = course_after_call course
+course_after_read course None =
+    if fails_next course then course_after_call course else course_after_failure (course_after_call course)

@@ -1,6 +1,6 @@
 ghost use Rattle.std.specs.Prelude.{◌≡◌, ◌+◌, ◌-◌, ◌^◌, ◌≤◌, ◌<◌, min, Some, None, Ok, IfOk, OnErr, length, take};
 ghost use Rattle.asc_shape.specs.Outside.{HasCause, given_after};
-ghost use Rattle.asc_shape.specs.Lists.{numbered};
+ghost use Rattle.asc_shape.specs.Lists.{given_number};
 
 use crate::{Failed, Sink};
 use std::marker::Model;
@@ -38,7 +38,7 @@ impl CountSink {
 }
 
 impl Sink for CountSink {
-    ghost given = { numbered };
+    ghost given = { given_number };
 
     ghost faults = { λ _. 0 };
 
@@ -47,8 +47,9 @@ impl Sink for CountSink {
         ensures takes { result ≡ Ok (length piece.now) }
         ensures some { IfOk result (λ k. 0 < k) }
         ensures count { IfOk result (λ k. k ≤ length piece.now) }
-        ensures given { IfOk result (λ k. numbered self.new ≡ given_after (numbered self.old) (take k piece.now)) }
-        ensures nothing { OnErr result (numbered self.new ≡ numbered self.old) }
+        ensures given { IfOk result
+            (λ k. given_number self.new ≡ given_after (given_number self.old) (take k piece.now)) }
+        ensures nothing { OnErr result (given_number self.new ≡ given_number self.old) }
         ensures cause { HasCause 0 0 result }
     {
         self.count = self.count.saturating_add(piece.len() as u64);

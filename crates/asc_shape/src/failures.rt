@@ -1,6 +1,6 @@
 ghost use Rattle.std.specs.Prelude.{◌≡◌, ◌≤◌, is_err};
 ghost use Rattle.asc_shape.specs.Outside.{HasCause, Rose};
-ghost use Rattle.asc_shape.specs.Course.{course_of, fails_next, failed, called};
+ghost use Rattle.asc_shape.specs.Course.{course_of, fails_next, course_after_failure, course_after_call};
 
 use crate::Failed;
 use std::marker::Model;
@@ -38,7 +38,7 @@ impl Failures {
     /// Counts a call. The error is that the call is one that fails, and it is counted.
     pub(crate) fn call(&mut self) -> Result<(), Failed>
         ensures fails { is_err result ≡ fails_next self.old }
-        ensures after { self.new ≡ called self.old }
+        ensures after { self.new ≡ course_after_call self.old }
         ensures cause { HasCause self.old.faults self.new.faults result }
     {
         self.calls = self.calls.saturating_add(1);
@@ -50,7 +50,7 @@ impl Failures {
 
     /// Counts a failure of a call that was counted.
     pub(crate) fn fail(&mut self) -> Failed
-        ensures after { self.new ≡ failed self.old }
+        ensures after { self.new ≡ course_after_failure self.old }
         ensures later { self.old.faults ≤ self.new.faults }
         ensures rose { Rose self.old.faults self.new.faults }
     {

@@ -1,7 +1,7 @@
 ghost use Rattle.std.specs.Prelude.{◌≡◌, ◌≤◌, ◌<◌, [], IfOk, OnErr, length, take};
 ghost use Rattle.asc_shape.specs.Outside.{HasCause, given_after};
 ghost use Rattle.asc_shape.specs.Course.{course_of};
-ghost use Rattle.asc_shape.specs.Lists.{told, accepts, after_put};
+ghost use Rattle.asc_shape.specs.Lists.{given_to, accepted_count, after_put};
 
 use crate::failures::Failures;
 use crate::{Failed, Memory, Sink};
@@ -54,18 +54,19 @@ impl ListSink {
 }
 
 impl Sink for ListSink {
-    ghost given = { told };
+    ghost given = { given_to };
 
     ghost faults = { λ s. s.course.faults };
 
     fn put(&mut self, piece: &[u8]) -> Result<usize, Failed>
-        ensures accepts { IfOk result (λ k. k ≡ accepts self.old (length piece.now)) }
-        ensures fails { OnErr result (accepts self.old (length piece.now) ≡ 0) }
+        ensures accepts { IfOk result (λ k. k ≡ accepted_count self.old (length piece.now)) }
+        ensures fails { OnErr result (accepted_count self.old (length piece.now) ≡ 0) }
         ensures after { self.new ≡ after_put self.old piece.now }
         ensures some { IfOk result (λ k. 0 < k) }
         ensures count { IfOk result (λ k. k ≤ length piece.now) }
-        ensures given { IfOk result (λ k. told self.new ≡ given_after (told self.old) (take k piece.now)) }
-        ensures nothing { OnErr result (told self.new ≡ told self.old) }
+        ensures given { IfOk result
+            (λ k. given_to self.new ≡ given_after (given_to self.old) (take k piece.now)) }
+        ensures nothing { OnErr result (given_to self.new ≡ given_to self.old) }
         ensures cause { HasCause self.old.course.faults self.new.course.faults result }
     {
         self.failures.call()?;

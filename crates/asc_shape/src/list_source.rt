@@ -1,7 +1,7 @@
 ghost use Rattle.std.specs.Prelude.{◌≡◌, ◌≤◌, ◌<◌, Some, IfOk, OnErr, is_err, length, take, drop};
 ghost use Rattle.asc_shape.specs.Outside.{HasCause, Takes, IsAtEnd};
 ghost use Rattle.asc_shape.specs.Course.{course_of, fails_next};
-ghost use Rattle.asc_shape.specs.Lists.{gives, after_take};
+ghost use Rattle.asc_shape.specs.Lists.{given_count, after_take};
 
 use crate::failures::Failures;
 use crate::{Failed, Source};
@@ -50,7 +50,7 @@ impl Source for ListSource {
 
     fn take(&mut self, into: &mut [u8]) -> Result<usize, Failed>
         ensures fails { is_err result ≡ fails_next self.old.course }
-        ensures gives { IfOk result (λ k. k ≡ gives self.old (length into.old)) }
+        ensures gives { IfOk result (λ k. k ≡ given_count self.old (length into.old)) }
         ensures after { self.new ≡ after_take self.old (length into.old) }
         ensures count { IfOk result (λ k. k ≤ length into.old) }
         ensures taken { IfOk result (λ k. Takes (Some self.old.left) (Some self.new.left) (take k into.new)) }

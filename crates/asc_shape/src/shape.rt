@@ -1,6 +1,6 @@
-ghost use Rattle.std.specs.Prelude.{◌≡◌, ◌↔◌, IsTrue};
+ghost use Rattle.std.specs.Prelude.{◌≡◌, ◌+◌, ◌≤◌};
 ghost use Rattle.asc_shape.specs.Shape.{shape_of, is_size};
-ghost use Rattle.asc_model.specs.Shape.{IsShape, start_of};
+ghost use Rattle.asc_model.specs.Shape.{IsShape, start_of, place_of, holds};
 ghost use Rattle.asc_model.specs.declared.version.Version.TheVariants.{One, Two};
 
 use asc_model::Version;
@@ -91,6 +91,7 @@ impl Shape {
         self.size
     }
 
+    /// The version of the machine, which says where memory begins.
     pub fn version(&self) -> Version
         ensures { result ≡ self.now.version }
     {
@@ -105,5 +106,26 @@ impl Shape {
             Version::One => 128,
             Version::Two => 136,
         }
+    }
+
+    /// Whether the `n` bytes from an address on are all in memory. The sums do not wrap.
+    ///
+    /// No bytes at all are in memory from its base to its end, both included.
+    #[inline]
+    pub fn holds(&self, at: u32, n: u32) -> bool
+        ensures { result ≡ holds self.now at n }
+    {
+        self.base <= at
+            && u64::from(at) + u64::from(n) <= u64::from(self.base) + u64::from(self.size)
+    }
+
+    /// The place of an address from the base of memory to its end, both included.
+    #[inline]
+    pub fn place_of(&self, at: u32) -> u32
+        requires least { self.now.base ≤ at }
+        requires most { at ≤ self.now.base + self.now.size }
+        ensures { result ≡ place_of self.now at }
+    {
+        self.start() + (at - self.base)
     }
 }

@@ -48,8 +48,8 @@ impl State {
         })
     }
 
-    #[inline]
     /// The shape. A caller's proof learns from it that this is a state.
+    #[inline]
     pub fn shape(&self) -> Shape
         ensures shape { result ≡ self.now.shape }
         ensures state { IsState self.now }
@@ -122,13 +122,12 @@ impl State {
         }
     }
 
-    /// Whether the n bytes from an address on are all in memory. The sum does not wrap.
+    /// Whether the n bytes from an address on are all in memory. The sums do not wrap.
     #[inline]
     pub fn holds(&self, at: u32, n: u32) -> bool
         ensures { result ≡ holds self.now.shape at n }
     {
-        let base = self.shape.base();
-        base <= at && u64::from(at) + u64::from(n) <= u64::from(base) + u64::from(self.shape.size())
+        self.shape.holds(at, n)
     }
 
     /// The n bytes of memory from an address on.
@@ -188,13 +187,14 @@ impl State {
         self.bytes.copy_from_slice(&from.bytes);
     }
 
-    // The place of an address of memory.
+    // The place of an address from the base of memory to its end, as an index.
     #[inline]
     fn place(&self, at: u32) -> usize
-        requires { self.now.shape.base ≤ at }
+        requires least { self.now.shape.base ≤ at }
+        requires most { at ≤ self.now.shape.base + self.now.shape.size }
         ensures { result ≡ place_of self.now.shape at }
     {
-        self.shape.start() as usize + (at - self.shape.base()) as usize
+        self.shape.place_of(at) as usize
     }
 
     #[inline]

@@ -36,6 +36,11 @@ fn shapes(rt: HostRuntime) {
         (one.version(), two.version()),
         (Version::One, Version::Two)
     );
+    assert!(rt; one.holds(0x1FFFC, 4) && !one.holds(0x1FFFD, 4));
+    assert_eq!(rt;
+        (one.place_of(0x10000), two.place_of(0x1FFFC)),
+        (128, 65_668)
+    );
 }
 
 #[test]

@@ -17,7 +17,7 @@ decode-base Two word = refl
 
 -- a word that a row is for has the row's opcode
 fits-opcode : (key : Key) (word : ℕ) → fits key word ≡ true → opcode word ≡ opcode_of key
-fits-opcode (Minor op f3) word h = eqb-true _ _ (and_parts _ _ h).0
+fits-opcode (Minor major minor) word h = eqb-true _ _ (and_parts _ _ h).0
 fits-opcode (Whole whole) word h = ap opcode (eqb-true _ _ h)
 
 -- no row of another opcode is for a word

@@ -1,11 +1,10 @@
 -- Lemmas on the places that registers and effects touch.
-use Rattle.std.proofs.Common.{◌≡◌, ℕ, zero, suc, ◌+◌, ◌*◌, ◌<◌, ◌≤◌, List, [], ◌∷◌, ◌++◌, length, refl, sym, ap, ◌∙◌, arith, append-nil, true, nat_le}
+use Rattle.std.proofs.Common.{◌≡◌, ℕ, zero, suc, ◌+◌, ◌*◌, ◌<◌, ◌≤◌, List, [], ◌∷◌, ◌++◌, length, refl, sym, ap, ◌∙◌, arith, append-nil}
 use Rattle.asc_model.specs.declared.instruction.Instr.{Instr}
 use Rattle.asc_model.specs.declared.instruction.Op.{Op}
-use Rattle.std.proofs.lemmas.Bool.{and_parts, leb-true}
-use Rattle.asc_model.specs.Shape.{Shape, place_of, holds}
+use Rattle.asc_model.specs.Shape.{Shape}
 use Rattle.asc_model.specs.Number.{bytes_of, word_at}
-use Rattle.asc_model.specs.State.{State, IsState}
+use Rattle.asc_model.specs.State.{State}
 use Rattle.asc_model.specs.Machine.{Machine, Pc, Register, register, view_of}
 use Rattle.asc_model.specs.Instruction.{op_of, rd_of, rs1_of, rs2_of, imm_of}
 use Rattle.asc_model.specs.Effect.{Effect, effect, ◌+w◌}
@@ -114,9 +113,3 @@ execute_face f0 f1 f2 g i e op pc a b rd rs1 rs2 immediate parts p va vb e1 e2 e
     execute_face_at f0 f1 f2 g i e
     (e1 ∙ ap (λ k. face_after_reads f0 (register_places k)) parts.rs1) (e2 ∙ ap (λ k. face_after_reads f1 (register_places k)) parts.rs2) whole
     (e4 ∙ ap (λ k. face_after_puts (face_after_reads f2 (data_places f2.state.shape e)) (cells_of_outcome f2.state.shape (outcome_of f2.state.shape (view_of f2.state) k e))) parts.rd)
-
--- the place of an address in memory is a place
-pub place_of_within : (s : State) (address n : ℕ) → IsState s → holds s.shape address n ≡ true → place_of s.shape address + n ≤ length s.bytes
-place_of_within s address n good h =
-    let parts = and_parts (nat_le s.shape.base address) (nat_le (address + n) (s.shape.base + s.shape.size)) h in
-    omega (arith, good.length, leb-true _ _ parts.0, leb-true _ _ parts.1)

@@ -4,10 +4,11 @@ use Rattle.asc_model.specs.Instruction.{Key, Minor, Whole, Row, opcode}
 
 -- the opcode of the words that a row is for
 abbrev pub opcode_of : Key → ℕ
-opcode_of (Minor op f3) = op
+opcode_of (Minor major minor) = major
 opcode_of (Whole word) = opcode word
 
 -- the rows of an opcode
 abbrev pub rows_of : ℕ → List Row → List Row
-rows_of op [] = []
-rows_of op (row ∷ rows) = if opcode_of row.key == op then row ∷ rows_of op rows else rows_of op rows
+rows_of major [] = []
+rows_of major (row ∷ rows) =
+    if opcode_of row.key == major then row ∷ rows_of major rows else rows_of major rows

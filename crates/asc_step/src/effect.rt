@@ -27,11 +27,11 @@ pub(crate) struct Operands {
 
 /// The effect of an operation on its operands.
 #[inline]
-pub(crate) fn effect_of(op: Op, with: Operands) -> Effect
-    ensures { model_effect result ≡ effect op with.pc with.a with.b with.immediate }
+pub(crate) fn effect_of(op: Op, operands: Operands) -> Effect
+    ensures { model_effect result ≡ effect op operands.pc operands.a operands.b operands.immediate }
 {
     match op {
-        Op::Addi => Effect::Set(with.a.wrapping_add(with.immediate)),
+        Op::Addi => Effect::Set(operands.a.wrapping_add(operands.immediate)),
         Op::Ecall => Effect::Call,
     }
 }

@@ -3,10 +3,9 @@ ghost use Rattle.std.specs.Prelude.{◌≡◌, ◌+◌, ◌<◌, ◌≤◌, Some
 ghost use Rattle.asc_model.specs.State.{IsState};
 ghost use Rattle.asc_model.specs.Machine.{view_of};
 ghost use Rattle.asc_model.specs.Instruction.{op_of, rd_of, rs1_of, rs2_of, imm_of};
-ghost use Rattle.asc_model.specs.Places.{operand_places, data_places, cells_of_outcome};
+ghost use Rattle.asc_model.specs.Places.{operand_places, data_places};
 ghost use Rattle.asc_model.specs.Step.{outcome_of_word, outcome_of};
-ghost use Rattle.asc_shape.specs.Face.{face_after_reads, face_after_puts};
-ghost use Rattle.asc_step.specs.Execute.{HasRegisters, answer_of, model_effect};
+ghost use Rattle.asc_step.specs.Execute.{HasRegisters, answer_of, face_after_outcome, model_effect};
 
 use crate::Stepped;
 use crate::effect::{Effect, Operands, effect_of};
@@ -57,9 +56,13 @@ fn finish<B: Bytes>(bytes: &mut B, pc: u32, rd: u8, effect: Effect) -> Stepped
     requires state { IsState (B.face bytes.old).state }
     requires pc { pc ≡ (view_of (B.face bytes.old).state).pc }
     requires room { 8 ≤ B.room bytes.old }
-    ensures answer { let s = (B.face bytes.old).state in result ≡ answer_of (outcome_of s.shape (view_of s) rd (model_effect effect)) }
+    ensures answer { let s = (B.face bytes.old).state in
+        result ≡ answer_of (outcome_of s.shape (view_of s) rd (model_effect effect)) }
     ensures face { let s = (B.face bytes.old).state in
-        B.face bytes.new ≡ face_after_puts (face_after_reads (B.face bytes.old) (data_places s.shape (model_effect effect))) (cells_of_outcome s.shape (outcome_of s.shape (view_of s) rd (model_effect effect))) }
+        B.face bytes.new ≡ face_after_outcome (B.face bytes.old)
+        (data_places s.shape (model_effect effect))
+        (outcome_of s.shape (view_of s) rd (model_effect effect)) }
+    ensures room { B.room bytes.old ≤ B.room bytes.new + 8 }
 {
     match effect {
         Effect::Set(value) => {
@@ -78,9 +81,13 @@ pub(crate) fn execute<B: Bytes>(bytes: &mut B, pc: u32, instruction: Instr) -> S
     requires state { IsState (B.face bytes.old).state }
     requires pc { pc ≡ (view_of (B.face bytes.old).state).pc }
     requires room { 16 ≤ B.room bytes.old }
-    ensures answer { let s = (B.face bytes.old).state in result ≡ answer_of (outcome_of_word s.shape (view_of s) (Some instruction)) }
+    ensures answer { let s = (B.face bytes.old).state in
+        result ≡ answer_of (outcome_of_word s.shape (view_of s) (Some instruction)) }
     ensures face { let s = (B.face bytes.old).state in
-        B.face bytes.new ≡ face_after_puts (face_after_reads (B.face bytes.old) (operand_places s.shape (view_of s) (Some instruction))) (cells_of_outcome s.shape (outcome_of_word s.shape (view_of s) (Some instruction))) }
+        B.face bytes.new ≡ face_after_outcome (B.face bytes.old)
+        (operand_places s.shape (view_of s) (Some instruction))
+        (outcome_of_word s.shape (view_of s) (Some instruction)) }
+    ensures room { B.room bytes.old ≤ B.room bytes.new + 16 }
 {
     let Parts {
         op,

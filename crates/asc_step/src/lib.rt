@@ -1,7 +1,6 @@
 //! One step of the machine, over any state that code reads and writes through `Bytes`.
 #![tactic(auto)]
 
-mod addresses;
 mod decode;
 mod effect;
 mod execute;

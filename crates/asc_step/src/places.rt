@@ -46,7 +46,9 @@ pub(crate) fn set_register<B: Bytes>(bytes: &mut B, k: u8, value: u32)
     requires k { k < 32 }
     requires length { 128 ≤ length (B.face bytes.old).state.bytes }
     requires room { 4 ≤ B.room bytes.old }
-    ensures face { B.face bytes.new ≡ face_after_puts (B.face bytes.old) (cells_of (B.face bytes.old).state.shape (Register k value)) }
+    ensures face { let f = B.face bytes.old in
+        B.face bytes.new ≡ face_after_puts f (cells_of f.state.shape (Register k value)) }
+    ensures room { B.room bytes.old ≤ B.room bytes.new + 4 }
 {
     if k != 0 {
         bytes.put_word(4 * u32::from(k), value);

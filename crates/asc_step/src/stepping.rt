@@ -4,7 +4,6 @@ ghost use Rattle.asc_model.specs.Step.{next};
 ghost use Rattle.asc_step.specs.Execute.{fetch_fault};
 ghost use Rattle.asc_step.specs.Step.{stepped_of, state_after_step, face_after, counted_steps};
 
-use crate::addresses::{holds, place_of};
 use crate::decode::decode;
 use crate::execute::execute;
 use crate::places::read_word;
@@ -19,17 +18,21 @@ use std::sync::ledger::Ledger;
 pub fn try_step<B: Bytes>(bytes: &mut B) -> Stepped
     requires room { 32 ≤ B.room bytes.old }
     ensures answer { result ≡ stepped_of (next (B.face bytes.old).state) }
-    ensures state { (B.face bytes.new).state ≡ state_after_step (next (B.face bytes.old).state) (B.face bytes.old).state }
+    ensures state { let s = (B.face bytes.old).state in
+        (B.face bytes.new).state ≡ state_after_step (next s) s }
 
     // The places read, in order, and then the places written.
     ensures places { B.face bytes.new ≡ face_after (B.face bytes.old) }
+
+    // At most 32 places are touched for the first time.
+    ensures room { B.room bytes.old ≤ B.room bytes.new + 32 }
 {
     let shape = bytes.shape();
     let pc = read_word(bytes, 0);
     if let Some(kind) = fetch_fault(shape, pc) {
         return fault(kind, pc, pc);
     }
-    let word = read_word(bytes, place_of(shape, pc));
+    let word = read_word(bytes, shape.place_of(pc));
     match decode(word, shape.version()) {
         Some(instruction) => execute(bytes, pc, instruction),
         None => fault(FaultKind::Illegal, pc, word),
@@ -41,8 +44,10 @@ pub fn try_step<B: Bytes>(bytes: &mut B) -> Stepped
 pub fn step<B: Bytes, L: Ledger>(bytes: &mut B, steps: &mut Steps<L>) -> Stepped
     requires room { 32 ≤ B.room bytes.old }
     ensures answer { result ≡ stepped_of (next (B.face bytes.old).state) }
-    ensures state { (B.face bytes.new).state ≡ state_after_step (next (B.face bytes.old).state) (B.face bytes.old).state }
+    ensures state { let s = (B.face bytes.old).state in
+        (B.face bytes.new).state ≡ state_after_step (next s) s }
     ensures places { B.face bytes.new ≡ face_after (B.face bytes.old) }
+    ensures room { B.room bytes.old ≤ B.room bytes.new + 32 }
     ensures counter { steps.new ≡ steps.old + counted_steps result }
 {
     let stepped = try_step(bytes);
@@ -60,7 +65,7 @@ fn fetch_fault(shape: Shape, pc: u32) -> Option<FaultKind>
     if !pc.is_multiple_of(4) {
         return Some(FaultKind::Misaligned);
     }
-    if !holds(shape, pc, 4) {
+    if !shape.holds(pc, 4) {
         return Some(FaultKind::FetchOutside);
     }
     None

@@ -29,15 +29,15 @@ meaning-long content left long =
     ap (λ (b : Bool). cond b (refusal answers.TooLong) (result_of_load (loader.image_of content memory_size Two) left)) is
 
 -- the image of a load, and the answer of its run
-record RunOf (result : Result loader.Image ElfFault) (left : List ℕ) (given : Answer) : Type 0 where
+record RunOf (result : Result loader.Image ElfFault) (left : List ℕ) (answered : Answer) : Type 0 where
   image : loader.Image
   loads : result ≡ Ok image
-  answer : given ≡ answer_at (run_of_image image left).ended (run_of_image image left).count
+  answer : answered ≡ answer_at (run_of_image image left).ended (run_of_image image left).count
 
 -- an answer that is no refusal is an image's
-run_of-answer : (result : Result loader.Image ElfFault) (left : List ℕ) (given : Answer) → (IsRefusal given → ⊥) → given ≡ (result_of_load result left).answer → RunOf result left given
-run_of-answer (Ok image) left given runs is = record { image = image; loads = refl; answer = is }
-run_of-answer (Err fault) left given runs is = absurd (runs (subst (λ a. IsRefusal a) (sym is) tt))
+run_of-answer : (result : Result loader.Image ElfFault) (left : List ℕ) (answered : Answer) → (IsRefusal answered → ⊥) → answered ≡ (result_of_load result left).answer → RunOf result left answered
+run_of-answer (Ok image) left answered runs is = record { image = image; loads = refl; answer = is }
+run_of-answer (Err fault) left answered runs is = absurd (runs (subst (λ a. IsRefusal a) (sym is) tt))
 
 exit_of : (how : Ended) (count code : ℕ) → answers.Exit code ≡ answer_at how count → how ≡ ends.Exit code
 exit_of (ends.Exit c) count code is = cc
@@ -84,46 +84,46 @@ image_of-answer : (result : Result loader.Image ElfFault) (left : List ℕ) (fau
 image_of-answer (Err f) left fault is = cc
 image_of-answer (Ok image) left fault is = absurd (image_of_run (run_of_image image left).ended (run_of_image image left).count fault is)
 
-module _ (content : List ℕ) (within : length content ≤ file_limit) (old new : Outside) (given : Answer) (m : Means old new given content) where
-  answer : given ≡ (result_of_load (loader.image_of content memory_size Two) m.left).answer
-  answer = subst (λ r. given ≡ r.answer) (meaning-within content m.left within) m.gives.answer
+module _ (content : List ℕ) (within : length content ≤ file_limit) (old new : Outside) (answered : Answer) (m : Means old new answered content) where
+  answer : answered ≡ (result_of_load (loader.image_of content memory_size Two) m.left).answer
+  answer = subst (λ r. answered ≡ r.answer) (meaning-within content m.left within) m.gives.answer
 
-  runs : (P : Run → Type 0) → (IsRefusal given → ⊥) → ((image : loader.Image) (left : List ℕ) → given ≡ answer_at (run_of_image image left).ended (run_of_image image left).count → P (run_of_image image left)) → Runs old.left P content
+  runs : (P : Run → Type 0) → (IsRefusal answered → ⊥) → ((image : loader.Image) (left : List ℕ) → answered ≡ answer_at (run_of_image image left).ended (run_of_image image left).count → P (run_of_image image left)) → Runs old.left P content
   runs P no_refusal holds =
-      let o = run_of-answer (loader.image_of content memory_size Two) m.left given no_refusal answer in
+      let o = run_of-answer (loader.image_of content memory_size Two) m.left answered no_refusal answer in
       record {
         within = within;
         image = o.image;
         loads = o.loads;
         left = m.left;
         agrees = m.agrees;
-        is = holds o.image m.left o.answer;
+        holds = holds o.image m.left o.answer;
       }
 
-  pub runs-exit : (code : ℕ) → given ≡ answers.Exit code → Runs old.left (λ run. run.ended ≡ ends.Exit code) content
+  pub runs-exit : (code : ℕ) → answered ≡ answers.Exit code → Runs old.left (λ run. run.ended ≡ ends.Exit code) content
   runs-exit code is =
       runs _ (λ refused. subst (λ a. IsRefusal a) is refused) (λ image left answer. exit_of (run_of_image image left).ended (run_of_image image left).count code (sym is ∙ answer))
 
-  pub runs-limit : (count : ℕ) → given ≡ answers.Limit count → Runs old.left (λ run. (run.ended ≡ ends.Limit) × (run.count ≡ count)) content
+  pub runs-limit : (count : ℕ) → answered ≡ answers.Limit count → Runs old.left (λ run. (run.ended ≡ ends.Limit) × (run.count ≡ count)) content
   runs-limit count is =
       runs _ (λ refused. subst (λ a. IsRefusal a) is refused) (λ image left answer. limit_of (run_of_image image left).ended (run_of_image image left).count count (sym is ∙ answer))
 
-  pub runs-fault : (fault : Fault) (count : ℕ) → given ≡ answers.Fault fault count → Runs old.left (λ run. (run.ended ≡ ends.Fault fault) × (run.count ≡ count)) content
+  pub runs-fault : (fault : Fault) (count : ℕ) → answered ≡ answers.Fault fault count → Runs old.left (λ run. (run.ended ≡ ends.Fault fault) × (run.count ≡ count)) content
   runs-fault fault count is =
       runs _ (λ refused. subst (λ a. IsRefusal a) is refused) (λ image left answer. fault_of (run_of_image image left).ended (run_of_image image left).count count fault (sym is ∙ answer))
 
-  pub image-is : (fault : ElfFault) → given ≡ answers.Image fault → (length content ≤ file_limit) × (loader.image_of content memory_size Two ≡ Err fault)
+  pub image-is : (fault : ElfFault) → answered ≡ answers.Image fault → (length content ≤ file_limit) × (loader.image_of content memory_size Two ≡ Err fault)
   image-is fault is = (within, image_of-answer (loader.image_of content memory_size Two) m.left fault (sym is ∙ answer))
 
-  of_load : IsOfLoad given
+  of_load : IsOfLoad answered
   of_load = subst (λ a. IsOfLoad a) (sym answer) (IsOfLoad-answer (loader.image_of content memory_size Two) m.left)
 
   -- answers that no file that was read gives
-  pub usage-never : given ≡ answers.Usage Words → ⊥
+  pub usage-never : answered ≡ answers.Usage Words → ⊥
   usage-never is = subst (λ a. IsOfLoad a) is of_load
 
-  pub too_long-never : given ≡ answers.TooLong → ⊥
+  pub too_long-never : answered ≡ answers.TooLong → ⊥
   too_long-never is = subst (λ a. IsOfLoad a) is of_load
 
-  pub store_fault-never : given ≡ answers.StoreFault → ⊥
+  pub store_fault-never : answered ≡ answers.StoreFault → ⊥
   store_fault-never is = subst (λ a. IsOfLoad a) is of_load

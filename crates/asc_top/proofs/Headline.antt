@@ -1,14 +1,12 @@
 -- The headline, at each way in which an answer comes.
-use Rattle.std.proofs.Common.{◌≡◌, ℕ, ◌+◌, ◌<◌, Option, Some, None, List, [], length, replicate, refl, sym, subst, arith}
+use Rattle.std.proofs.Common.{◌≡◌, ◌≢◌, ℕ, ◌+◌, ◌<◌, ◌≤◌, Option, Some, None, List, length, replicate, subst, arith}
 use Rattle.std.proofs.lemmas.List.{length-replicate}
 use Rattle.asc_shape.specs.Outside.{File, MayHold, MayHoldLonger}
-use Rattle.asc_shape.proofs.Streams.{given_after-nil, Takes-nil}
-use Rattle.asc_calls.specs.GuestCall.{nothing}
-use Rattle.asc_calls.specs.World.{Outside, Acts, Agrees}
+use Rattle.asc_calls.specs.World.{Outside, Agrees}
 use Rattle.asc_top.specs.declared.answer.Answer.{Answer}
 use Rattle.asc_top.specs.declared.answer.Answer.TheVariants as answers
-use Rattle.asc_top.specs.Program.{file_limit, meaning, Gives, Means, IsHeld}
-use Rattle.asc_top.proofs.Causes.{meaning-long}
+use Rattle.asc_top.specs.Line.{line_of}
+use Rattle.asc_top.specs.Program.{file_limit, meaning, Gives, Means, HasFile, IsHeld}
 
 -- words ask for one name
 pub same_name : (asked : Option (List ℕ)) (name own : List ℕ) → asked ≡ Some name → asked ≡ Some own → name ≡ own
@@ -25,32 +23,12 @@ one_left (Some t) left input agrees is = cc
 one_left None left input agrees is = absurd (cc)
 
 -- what a file that was run gave is what the told file means over the told input
-pub headline_means : (files : Option (List File)) (name content : List ℕ) (old new : Outside) (given : Answer) → MayHold files name content → Means old new given content
-    → (told input : List ℕ) → IsHeld files name told → old.left ≡ Some input → Gives old new given (meaning told input)
-headline_means files name content old new given held m told input is_held is_told =
+pub headline_means : (files : Option (List File)) (name content : List ℕ) (old new : Outside) (answered : Answer) → MayHold files name content → Means old new answered content
+    → (told input : List ℕ) → IsHeld files name told → old.left ≡ Some input → Gives old new answered (meaning told input)
+headline_means files name content old new answered held m told input is_held is_told =
     let same : content ≡ told = one_content files name content told held is_held in
     let left : m.left ≡ input = one_left old.left m.left input m.agrees is_told in
-    subst (λ (i : List ℕ). Gives old new given (meaning told i)) left (subst (λ (c : List ℕ). Gives old new given (meaning c m.left)) same m.gives)
-
--- devices that stay took and were given nothing
-Acts-nothing : (o : Outside) → Acts o o nothing
-Acts-nothing o = record { taken = Takes-nil o.left; out = sym (given_after-nil o.out); err = sym (given_after-nil o.err) }
-
--- an input that agrees with what is told
-some_left : (told : Option (List ℕ)) → (left : List ℕ) × Agrees told left
-some_left (Some told) = (told, refl)
-some_left None = ([], tt)
-
--- a file that is too long is refused, and nothing happens
-pub means_long : (o : Outside) (content : List ℕ) → file_limit < length content → Means o o answers.TooLong content
-means_long o content long =
-    let input = some_left o.left in
-    record {
-      left = input.0;
-      agrees = input.1;
-      gives = subst (λ r. Gives o o answers.TooLong r) (sym (meaning-long content input.0 long))
-          (record { answer = refl; acts = Acts-nothing o; steps = omega arith });
-    }
+    subst (λ (i : List ℕ). Gives old new answered (meaning told i)) left (subst (λ (c : List ℕ). Gives old new answered (meaning c m.left)) same m.gives)
 
 -- there are lists of any length
 long_list : (n : ℕ) → (list : List ℕ) × (n < length list)
@@ -60,3 +38,17 @@ long_list n = (replicate (n + 1) 0, omega (arith, length-replicate {A = ℕ} (n 
 pub longer_file : (files : Option (List File)) (name : List ℕ) → MayHoldLonger files name file_limit → (content : List ℕ) × MayHold files name content × (file_limit < length content)
 longer_file (Some files) name longer = longer
 longer_file None name longer = let long = long_list file_limit in (long.0, tt, long.1)
+
+-- a file that was read whole, and what its run gave
+pub record FileRead (words : List (List ℕ)) (files : Option (List File)) (old new : Outside) (answered : Answer) : Type 0 where
+  pub name : List ℕ
+  pub named : line_of words ≡ Some name
+  pub content : List ℕ
+  pub held : MayHold files name content
+  pub within : length content ≤ file_limit
+  pub means : answered ≢ answers.Memory → Means old new answered content
+
+-- the file has what holds of its content
+pub has_file : (words : List (List ℕ)) (files : Option (List File)) (old new : Outside) (answered : Answer) (P : List ℕ → Type 0)
+    (f : FileRead words files old new answered) → P f.content → HasFile words files P
+has_file words files old new answered P f holds = record { name = f.name; named = f.named; content = f.content; held = f.held; holds = holds }

@@ -1,17 +1,19 @@
 -- What a walk did, as what its file means.
-use Rattle.std.proofs.Common.{◌≡◌, ℕ, ◌≤◌, Bool, true, false, Option, Some, None, List, [], ◌++◌, length, IsTrue, MatchBool, Ok, Err, refl, sym, ◌∙◌, ap, subst, arith}
+use Rattle.std.proofs.Common.{◌≡◌, ℕ, ◌≤◌, ◌<◌, Bool, true, false, Option, Some, None, List, [], ◌++◌, length, IsTrue, MatchBool, Ok, Err, refl, sym, ◌∙◌, ap, subst, arith}
 use Rattle.asc_model.specs.declared.version.Version.TheVariants.{Two}
-use Rattle.asc_shape.specs.Outside.{Takes, IsAtEnd}
-use Rattle.asc_shape.proofs.Streams.{given_after-nil, Takes-nil}
+use Rattle.asc_shape.specs.Outside.{IsAtEnd}
 use Rattle.asc_elf.specs.declared.fault.ElfFault.{ElfFault}
 use Rattle.asc_elf.specs.Image as loader
 use Rattle.asc_calls.specs.World.{Outside, World, Agrees, MayCome, KnowsEnd}
 use Rattle.asc_run.specs.declared.walk.Ended.{Ended}
 use Rattle.asc_run.specs.Plain.{Run}
 use Rattle.asc_run.specs.Walk.{run_from, Follows}
+use Rattle.asc_run.proofs.Reach.{Acts-nothing}
+use Rattle.asc_run.proofs.Turn.{Agrees-before}
+use Rattle.asc_top.specs.declared.answer.Answer.{Answer}
 use Rattle.asc_top.specs.declared.answer.Answer.TheVariants as answers
-use Rattle.asc_top.specs.Program.{file_limit, memory_size, step_limit, answer_at, result_of_run, result_of_load, run_of_image, meaning, Gives, Means}
-use Rattle.asc_top.proofs.Causes.{meaning-within}
+use Rattle.asc_top.specs.Program.{file_limit, memory_size, step_limit, answer_at, refusal, result_of_run, result_of_load, run_of_image, meaning, Gives, Means}
+use Rattle.asc_top.proofs.Causes.{meaning-within, meaning-long}
 
 -- an input that may come after a run: it agrees with what is told then
 record Rest (w : World) : Type 0 where
@@ -44,13 +46,6 @@ rest_from w false None is_ended is_left known = record {
 rest_of : (w : World) → KnowsEnd w → Rest w
 rest_of w known = rest_from w w.kept.ended w.left refl refl known
 
--- the input before is what was taken and what is left
-agrees_before : (old now : Option (List ℕ)) (taken rest : List ℕ) → Takes old now taken → Agrees now rest → Agrees old (taken ++ rest)
-agrees_before (Some before) (Some now) taken rest takes agrees = takes ∙ ap (λ (l : List ℕ). taken ++ l) agrees
-agrees_before None None taken rest takes agrees = tt
-agrees_before (Some before) None taken rest takes agrees = absurd takes
-agrees_before None (Some now) taken rest takes agrees = absurd takes
-
 -- a walk from an image's start did what its file means
 pub means_walk : (content : List ℕ) (image : loader.Image) (old new : World) (count : ℕ) (ended : Ended) → length content ≤ file_limit
     → loader.image_of content memory_size Two ≡ Ok image → ((left : List ℕ) → run_from step_limit old left ≡ run_of_image image left)
@@ -64,7 +59,7 @@ means_walk content image old new count how within loads from f =
     let is : meaning content left ≡ result_of_run (run_of_image image left) = meaning-within content left within ∙ ap (λ i. result_of_load i left) loads in
     record {
       left = left;
-      agrees = agrees_before old.left new.left f.act.taken r.rest f.acts.taken r.agrees;
+      agrees = Agrees-before old.left new.left f.act.taken r.rest f.acts.taken r.agrees;
       gives = subst (λ x. Gives old.outside new.outside (answer_at how count) x) (sym is)
           (subst (λ (x : Run). Gives old.outside new.outside (answer_at how count) (result_of_run x)) (sym run) gives);
     }
@@ -74,14 +69,22 @@ some_left : (told : Option (List ℕ)) → (left : List ℕ) × Agrees told left
 some_left (Some told) = (told, refl)
 some_left None = ([], tt)
 
--- a file that is no image is refused, and nothing happens
-pub means_image : (content : List ℕ) (fault : ElfFault) (o : Outside) → length content ≤ file_limit → loader.image_of content memory_size Two ≡ Err fault
-    → Means o o (answers.Image fault) content
-means_image content fault o within loads =
+-- a file that is refused is not run, and nothing happens
+means_refusal : (content : List ℕ) (answered : Answer) (o : Outside) → ((left : List ℕ) → meaning content left ≡ refusal answered) → Means o o answered content
+means_refusal content answered o refused =
     let input = some_left o.left in
     record {
       left = input.0;
       agrees = input.1;
-      gives = subst (λ x. Gives o o (answers.Image fault) x) (sym (meaning-within content input.0 within ∙ ap (λ i. result_of_load i input.0) loads))
-          (record { answer = refl; acts = record { taken = Takes-nil o.left; out = sym (given_after-nil o.out); err = sym (given_after-nil o.err) }; steps = omega arith });
+      gives = subst (λ x. Gives o o answered x) (sym (refused input.0)) (record { answer = refl; acts = Acts-nothing o; steps = omega arith });
     }
+
+-- a file that is no image
+pub means_image : (content : List ℕ) (fault : ElfFault) (o : Outside) → length content ≤ file_limit → loader.image_of content memory_size Two ≡ Err fault
+    → Means o o (answers.Image fault) content
+means_image content fault o within loads =
+    means_refusal content (answers.Image fault) o (λ left. meaning-within content left within ∙ ap (λ i. result_of_load i left) loads)
+
+-- a file that is too long
+pub means_long : (o : Outside) (content : List ℕ) → file_limit < length content → Means o o answers.TooLong content
+means_long o content long = means_refusal content answers.TooLong o (λ left. meaning-long content left long)

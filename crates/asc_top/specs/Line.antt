@@ -4,7 +4,7 @@ use Rattle.std.specs.List.{starts_with}
 
 -- The name of the image that is to be run: the words are the program's name, `run`, and a name that does not begin
 -- with `-`. An empty name is a name.
-abbrev pub image_name : List (List ℕ) → Option (List ℕ)
-image_name (program ∷ command ∷ name ∷ []) =
+abbrev pub line_of : List (List ℕ) → Option (List ℕ)
+line_of (program ∷ command ∷ name ∷ []) =
     if bytes_eq command (codes "run") && not (starts_with nat_eq name (codes "-")) then Some name else None
-image_name words = None
+line_of words = None

@@ -9,7 +9,7 @@ use Rattle.asc_calls.specs.World.{Outside, Acts, Agrees}
 use Rattle.asc_run.specs.declared.walk.Ended.{Ended}
 use Rattle.asc_run.specs.declared.walk.Ended.TheVariants as ends
 use Rattle.asc_run.specs.Plain.{Run, exec}
-use Rattle.asc_top.specs.Line.{image_name}
+use Rattle.asc_top.specs.Line.{line_of}
 use Rattle.asc_top.specs.declared.answer.Answer.{Answer}
 use Rattle.asc_top.specs.declared.answer.Answer.TheVariants as answers
 
@@ -61,8 +61,8 @@ meaning content left =
     else result_of_load (loader.image_of content memory_size Two) left
 
 -- the answer is the result's, what was taken and put is the result's, and the counter rose by its count
-pub record Gives (old new : Outside) (given : Answer) (result : ProgramResult) : Type 0 where
-  pub answer : given ≡ result.answer
+pub record Gives (old new : Outside) (answered : Answer) (result : ProgramResult) : Type 0 where
+  pub answer : answered ≡ result.answer
   pub acts : Acts old new result.act
   pub steps : new.steps ≡ old.steps + result.count
 
@@ -74,16 +74,16 @@ IsHeld None name content = ⊥
 -- The store may hold a file with P under the name that the words ask for; where it tells its files, it does.
 pub record HasFile (words : List (List ℕ)) (files : Option (List File)) (P : List ℕ → Type 0) : Type 0 where
   pub name : List ℕ
-  pub named : image_name words ≡ Some name
+  pub named : line_of words ≡ Some name
   pub content : List ℕ
   pub held : MayHold files name content
-  pub is : P content
+  pub holds : P content
 
 -- over some input that agrees with what is told, the file means what was answered, taken, put and counted
-pub record Means (old new : Outside) (given : Answer) (content : List ℕ) : Type 0 where
+pub record Means (old new : Outside) (answered : Answer) (content : List ℕ) : Type 0 where
   pub left : List ℕ
   pub agrees : Agrees old.left left
-  pub gives : Gives old new given (meaning content left)
+  pub gives : Gives old new answered (meaning content left)
 
 -- a file that is not too long is an image whose plain run, over some input that agrees with what is told, has P
 pub record Runs (told : Option (List ℕ)) (P : Run → Type 0) (content : List ℕ) : Type 0 where
@@ -92,7 +92,7 @@ pub record Runs (told : Option (List ℕ)) (P : Run → Type 0) (content : List 
   pub loads : loader.image_of content memory_size Two ≡ Ok image
   pub left : List ℕ
   pub agrees : Agrees told left
-  pub is : P (run_of_image image left)
+  pub holds : P (run_of_image image left)
 
 -- an answer for which the guest was not run
 abbrev pub IsRefusal : Answer → Type 0

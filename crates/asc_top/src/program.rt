@@ -1,4 +1,4 @@
-ghost use Rattle.std.specs.Prelude.{◌≡◌, ◌≢◌, ◌↔◌, ◌<◌, ◌≤◌, ℕ, List, map, length, Some, None, Err};
+ghost use Rattle.std.specs.Prelude.{◌≡◌, ◌≢◌, ◌<◌, ◌≤◌, ℕ, List, map, length, Some, None, Err};
 ghost use Rattle.std.specs.String.{string_bytes};
 ghost use Rattle.asc_model.specs.declared.fault.Fault.{Fault};
 ghost use Rattle.asc_model.specs.declared.version.Version.TheVariants.{Two};
@@ -6,11 +6,11 @@ ghost use Rattle.asc_elf.specs.declared.fault.ElfFault.{ElfFault};
 ghost use Rattle.asc_elf.specs.Image.{image_of};
 ghost use Rattle.asc_shape.specs.Outside.{Rose};
 ghost use Rattle.asc_calls.specs.World.{outside};
-ghost use Rattle.asc_top.specs.Line.{image_name};
+ghost use Rattle.asc_top.specs.Line.{line_of};
 ghost use Rattle.asc_top.specs.Program.{Gives, Means, HasFile, Runs, IsHeld, IsRefusal, ComesOfFile, Completes, meaning, answer_at, file_limit, memory_size};
 
 use crate::answer::{Answer, Bad};
-use crate::line::image_name as name_of;
+use crate::line::image_name;
 use asc_elf::read;
 use asc_run::{Ended, Settings, Walk};
 use asc_shape::{Gate, Loaded, Sink, Source, Steps, Store, StoreFault, Version};
@@ -40,7 +40,7 @@ pub fn top<F: Store, I: Source, O: Sink, E: Sink, R: Sink, G: Gate, L: Ledger>(
 ) -> Answer
     // The headline: for a file and an input that are told, the answer, what is taken and put and the rise of the
     // counter are plain execution's.
-    ensures headline { (name content left : List ℕ) → image_name (map string_bytes words.now) ≡ Some name
+    ensures headline { (name content left : List ℕ) → line_of (map string_bytes words.now) ≡ Some name
         → IsHeld (F.files store.old) name content → I.left input.old ≡ Some left → Completes result
         → Gives (outside (I.left input.old) (O.given out.old) (E.given err.old) steps.old)
         (outside (I.left input.new) (O.given out.new) (E.given err.new) steps.new)
@@ -52,7 +52,8 @@ pub fn top<F: Store, I: Source, O: Sink, E: Sink, R: Sink, G: Gate, L: Ledger>(
         (outside (I.left input.new) (O.given out.new) (E.given err.new) steps.new)
         result) }
 
-    // When each answer comes
+    // Each answer comes only there. That it comes there, where the store does not fail and memory is not wanting, is
+    // the headline.
     ensures exit { (code : ℕ) → result ≡ Answer.Exit code → HasFile (map string_bytes words.now) (F.files store.old)
         (Runs (I.left input.old) (λ run. run.ended ≡ Ended.Exit code)) }
     ensures limit { (count : ℕ) → result ≡ Answer.Limit count → HasFile (map string_bytes words.now) (F.files store.old)
@@ -60,7 +61,8 @@ pub fn top<F: Store, I: Source, O: Sink, E: Sink, R: Sink, G: Gate, L: Ledger>(
     ensures fault { (fault : Fault) (count : ℕ) → result ≡ Answer.Fault fault count
         → HasFile (map string_bytes words.now) (F.files store.old)
         (Runs (I.left input.old) (λ run. (run.ended ≡ Ended.Fault fault) × (run.count ≡ count))) }
-    ensures usage { (result ≡ Answer.Usage Bad.Words) ↔ (image_name (map string_bytes words.now) ≡ None) }
+    ensures usage { result ≡ Answer.Usage Bad.Words → line_of (map string_bytes words.now) ≡ None }
+    ensures no_command { line_of (map string_bytes words.now) ≡ None → result ≢ Answer.Memory → result ≡ Answer.Usage Bad.Words }
     ensures image { (fault : ElfFault) → result ≡ Answer.Image fault
         → HasFile (map string_bytes words.now) (F.files store.old)
         (λ content. (length content ≤ file_limit) × (image_of content memory_size Two ≡ Err fault)) }
@@ -82,7 +84,7 @@ pub fn top<F: Store, I: Source, O: Sink, E: Sink, R: Sink, G: Gate, L: Ledger>(
     ensures err_faults { E.faults err.new ≡ E.faults err.old }
     ensures report_faults { R.faults report.new ≡ R.faults report.old }
 {
-    let Some(name) = name_of(words) else {
+    let Some(name) = image_name(words) else {
         return Answer::Usage(Bad::Words);
     };
     let mut file = Vec::new(alloc);

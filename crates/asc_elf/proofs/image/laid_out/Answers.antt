@@ -3,7 +3,7 @@ use Rattle.asc_model.specs.Shape.{Shape}
 use Rattle.asc_elf.specs.Image.{shape_for, image_for}
 use Rattle.asc_elf.proofs.Faults.{image_of-layout, image_of-Ok, laid_out-Err, laid_out-Ok, layout-TooLarge_memory, layout-TooLarge_segment, layout-Entry, cases-None}
 use Rattle.asc_elf.proofs.image.laid_out.Goals as goal
-use Rattle.asc_elf.proofs.image.laid_out.Goals.{then-entry-ne0-via-then-entry-ne0, then-entry-ne0-via-else-entry-ne0+then-entry-base, then-entry-ne0-via-else-entry-ne0+else-entry-base+then-end-from}
+use Rattle.asc_elf.proofs.image.laid_out.Goals.{then-not-is_multiple_of-via-then-not-is_multiple_of, then-not-is_multiple_of-via-else-not-is_multiple_of+then-entry-base, then-not-is_multiple_of-via-else-not-is_multiple_of+else-entry-base+then-end-from}
 
 pub returns-in_default : goal.returns-in_default
 returns-in_default c =
@@ -18,16 +18,16 @@ returns-then-end-highest c =
     let base = ap (λ (s : Shape). s.base) place.0 in
     sym (image_of-layout _ _ _ _ c.requires.whole (layout-TooLarge_segment file (shape_for file c.args.size c.args.version) (omega (arith, base))))
 
-pub returns-then-entry-ne0 : goal.returns-then-entry-ne0
-returns-then-entry-ne0 c =
+pub returns-then-not-is_multiple_of : goal.returns-then-not-is_multiple_of
+returns-then-not-is_multiple_of c =
     let file = c.args.file.now in
     let place = laid_out-Ok file _ _ _ c.in-Ok.shape c.lowest-lowest.ensures (sym c.in-Ok.is ∙ c.of.ensures) in
     let base = ap (λ (s : Shape). s.base) place.0 in
     sym (image_of-layout _ _ _ _ c.requires.whole (layout-Entry file (shape_for file c.args.size c.args.version) place.1 (omega (arith, base))
-    (elim c.then-entry-ne0.branch [
-      | then-entry-ne0-via-then-entry-ne0 w ↦ inl (λ e. w.if-entry-ne0.true (ap (λ n. n % 4) c.word-entry.ensures ∙ e))
-      | then-entry-ne0-via-else-entry-ne0+then-entry-base w ↦ inr (inl (omega (arith, base)))
-      | then-entry-ne0-via-else-entry-ne0+else-entry-base+then-end-from w ↦ inr (inr (omega (arith, base)))
+    (elim c.then-not-is_multiple_of.branch [
+      | then-not-is_multiple_of-via-then-not-is_multiple_of w ↦ inl (λ e. let aligned = sym w.if-not-is_multiple_of.true ∙ c.is_multiple_of.ensures.1 (ap (λ n. n % 4) c.e_entry-entry.ensures ∙ e) in cc)
+      | then-not-is_multiple_of-via-else-not-is_multiple_of+then-entry-base w ↦ inr (inl (omega (arith, base)))
+      | then-not-is_multiple_of-via-else-not-is_multiple_of+else-entry-base+then-end-from w ↦ inr (inr (omega (arith, base)))
     ])))
 
 pub invariant_of-result : goal.invariant_of-result
@@ -35,10 +35,11 @@ invariant_of-result c =
     let file = c.args.file.now in
     let place = laid_out-Ok file _ _ _ c.in-Ok.shape c.lowest-lowest.ensures (sym c.in-Ok.is ∙ c.of.ensures) in
     let base = ap (λ (s : Shape). s.base) place.0 in
+    let aligned = c.is_multiple_of.ensures.0 c.if-not-is_multiple_of.false in
     record {
       laid_out = rw (place.0) refl;
-      no_fault = rw (place.0) (cases-None file (shape_for file c.args.size c.args.version) c.requires.whole place.1 (omega (arith, base)) (omega arith) (omega (arith, base)) (omega (arith, base)));
-      begins = c.word-entry.ensures;
+      no_fault = rw (place.0) (cases-None file (shape_for file c.args.size c.args.version) c.requires.whole place.1 (omega (arith, base)) (omega (arith, aligned)) (omega (arith, base)) (omega (arith, base)));
+      begins = c.e_entry-entry.ensures;
       breaks = ap (λ n. (n + 15) / 16 * 16) c.highest-highest.ensures;
     }
 
@@ -47,5 +48,6 @@ returns c =
     let file = c.args.file.now in
     let place = laid_out-Ok file _ _ _ c.in-Ok.shape c.lowest-lowest.ensures (sym c.in-Ok.is ∙ c.of.ensures) in
     let base = ap (λ (s : Shape). s.base) place.0 in
+    let aligned = c.is_multiple_of.ensures.0 c.if-not-is_multiple_of.false in
     ap (λ (s : Shape). Ok (image_for file s)) place.0
-    ∙ sym (image_of-Ok file c.args.size c.args.version (cases-None file (shape_for file c.args.size c.args.version) c.requires.whole place.1 (omega (arith, base)) (omega arith) (omega (arith, base)) (omega (arith, base))))
+    ∙ sym (image_of-Ok file c.args.size c.args.version (cases-None file (shape_for file c.args.size c.args.version) c.requires.whole place.1 (omega (arith, base)) (omega (arith, aligned)) (omega (arith, base)) (omega (arith, base))))

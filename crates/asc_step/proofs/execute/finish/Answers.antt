@@ -18,3 +18,7 @@ returns-in-Set-clause-face g c =
 pub returns-in-Call-clause-face : goal.returns-in-Call-clause-face
 returns-in-Call-clause-face g c =
     rw c.in-Call.is (sym (face_after_puts-nil _ ∙ face_after_reads-nil _))
+
+pub returns-in-Set-clause-room : goal.returns-in-Set-clause-room
+returns-in-Set-clause-room g c =
+    omega (arith, room_word _ _ _ _ c.put_word.ensures.room, c.set_register.ensures.room)

@@ -1,4 +1,4 @@
-use Rattle.std.proofs.Common.{ap, sym, ◌∙◌}
+use Rattle.std.proofs.Common.{ap, sym, ◌∙◌, arith}
 use Rattle.asc_model.specs.State.{State}
 use Rattle.asc_model.specs.Machine.{view_of}
 use Rattle.asc_model.proofs.Views.{view_of-pc}
@@ -10,7 +10,7 @@ pub returns-in-Some : goal.returns-in-Some
 returns-in-Some g c =
     let pc = c.read_word-pc.ensures in
     let h = step_unfetched _ _ _ _ _ _ c.shape-shape.ensures.state c.shape-shape.ensures.shape pc.value c.in-Some.ensures c.fault.ensures pc.face in
-    record { answer = h.answer; state = h.state; places = h.places }
+    record { answer = h.answer; state = h.state; places = h.places; room = omega (arith, pc.room) }
 
 pub execute-requires-clause-registers : goal.execute-requires-clause-registers
 execute-requires-clause-registers g c = decode-registers _ _ _ (sym c.in-Some-decode.ensures)
@@ -27,7 +27,7 @@ returns-in-Some-decode g c =
     let known = fetched _ _ _ _ _ _ _ _ _ c.shape-shape.ensures.state c.shape-shape.ensures.shape pc.value pc.face
     c.in_default.ensures c.place_of.ensures word.value word.face c.version.ensures c.in-Some-decode.ensures in
     let h = step_fetched _ _ _ _ _ _ known _ _ c.execute.ensures.answer c.execute.ensures.face in
-    record { answer = h.answer; state = h.state; places = h.places }
+    record { answer = h.answer; state = h.state; places = h.places; room = omega (arith, pc.room, word.room, c.execute.ensures.room) }
 
 pub returns-in-None : goal.returns-in-None
 returns-in-None g c =
@@ -36,4 +36,4 @@ returns-in-None g c =
     let known = fetched _ _ _ _ _ _ _ _ _ c.shape-shape.ensures.state c.shape-shape.ensures.shape pc.value pc.face
     c.in_default.ensures c.place_of.ensures word.value word.face c.version.ensures c.in-None.ensures in
     let h = step_illegal _ _ _ _ _ known _ c.fault-in-None.ensures in
-    record { answer = h.answer; state = h.state; places = h.places }
+    record { answer = h.answer; state = h.state; places = h.places; room = omega (arith, pc.room, word.room) }

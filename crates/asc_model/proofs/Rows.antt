@@ -1,0 +1,97 @@
+-- No word is for two rows of a table: a test of its keys, which is computed, shows it. A longer table needs nothing new.
+-- A new kind of key needs its clauses of `asked` and `fits-IsAsked`; a new field its clauses there and in `field_of`, and
+-- its part of `keys_differ` and `no-keys_differ`.
+use Rattle.std.proofs.Common.{◌≡◌, ℕ, Bool, true, false, not, ◌&&◌, ◌||◌, ◌==◌, List, [], ◌∷◌, Option, Some, None, refl, sym, ap, ◌∙◌, arith}
+use Rattle.std.specs.Prelude.{All, AllPairs}
+use Rattle.std.proofs.lemmas.Bool.{and_parts, eqb-true, eq-eqb}
+use Rattle.std.proofs.lemmas.List.Elements.{All-nil, All-cons}
+use Rattle.std.proofs.lemmas.List.Kept.{AllPairs-cons}
+use Rattle.asc_model.specs.declared.version.Version.TheVariants.{One, Two}
+use Rattle.asc_model.specs.Instruction.{opcode, funct3, Key, Minor, Whole, fits, Row, table}
+use Rattle.asc_model.specs.Laws.{ShareNoWord, RowsDiffer}
+
+-- the parts of a word of which a key may ask a value
+data Field : Type 0 where
+  Opcode Funct3 Word : Field
+
+-- the value of a field in a word
+abbrev field_of : Field → ℕ → ℕ
+field_of Opcode word = opcode word
+field_of Funct3 word = funct3 word
+field_of Word word = word
+
+-- the value that a key asks of a field, if it asks for one
+abbrev asked : Key → Field → Option ℕ
+asked (Minor major minor) Opcode = Some major
+asked (Minor major minor) Funct3 = Some minor
+asked (Minor major minor) Word = None
+asked (Whole word) field = Some (field_of field word)
+
+-- a field's value is the one asked for, if there is one
+abbrev IsAsked : ℕ → Option ℕ → Type 0
+IsAsked value None = Unit {0}
+IsAsked value (Some asked) = value ≡ asked
+
+-- a word that fits a key has each field as asked
+fits-IsAsked : (key : Key) (word : ℕ) → fits key word ≡ true → (field : Field) → IsAsked (field_of field word) (asked key field)
+fits-IsAsked (Minor major minor) word h Opcode = eqb-true _ _ (and_parts (opcode word == major) (funct3 word == minor) h).0
+fits-IsAsked (Minor major minor) word h Funct3 = eqb-true _ _ (and_parts (opcode word == major) (funct3 word == minor) h).1
+fits-IsAsked (Minor major minor) word h Word = tt
+fits-IsAsked (Whole whole) word h field = ap (field_of field) (eqb-true word whole h)
+
+-- whether two keys ask for two values of one field
+abbrev conflict : Option ℕ → Option ℕ → Bool
+conflict None b = false
+conflict (Some a) None = false
+conflict (Some a) (Some b) = not (a == b)
+
+-- whether two keys ask for two values of some field
+abbrev keys_differ : Key → Key → Bool
+keys_differ a b = conflict (asked a Opcode) (asked b Opcode) || conflict (asked a Funct3) (asked b Funct3) || conflict (asked a Word) (asked b Word)
+
+-- one value is not as two ask that differ
+no-conflict : (value : ℕ) (a b : Option ℕ) → IsAsked value a → IsAsked value b → conflict a b ≡ false
+no-conflict value None b p q = refl
+no-conflict value (Some a) None p q = refl
+no-conflict value (Some a) (Some b) p q = ap not (eq-eqb a b (sym p ∙ q))
+
+-- keys that a word fits ask for the same
+no-keys_differ : (a b : Key) (word : ℕ) → fits a word ≡ true → fits b word ≡ true → keys_differ a b ≡ false
+no-keys_differ a b word p q =
+    let opcodes = no-conflict (opcode word) (asked a Opcode) (asked b Opcode) (fits-IsAsked a word p Opcode) (fits-IsAsked b word q Opcode) in
+    let functs = no-conflict (funct3 word) (asked a Funct3) (asked b Funct3) (fits-IsAsked a word p Funct3) (fits-IsAsked b word q Funct3) in
+    let words = no-conflict word (asked a Word) (asked b Word) (fits-IsAsked a word p Word) (fits-IsAsked b word q Word) in
+    rw (opcodes, functs, words)
+
+-- rows whose keys differ share no word
+ShareNoWord-keys_differ : (a b : Row) → keys_differ a.key b.key ≡ true → ShareNoWord a b
+ShareNoWord-keys_differ a b h word p q = let e : true ≡ false = sym h ∙ no-keys_differ a.key b.key word p q in absurd (cc)
+
+-- whether a row's key differs from each of the rows' keys
+abbrev differs : Row → List Row → Bool
+differs first [] = true
+differs first (row ∷ rows) = keys_differ first.key row.key && differs first rows
+
+-- whether the keys of each two rows differ
+abbrev all_differ : List Row → Bool
+all_differ [] = true
+all_differ (first ∷ rows) = differs first rows && all_differ rows
+
+-- a row whose key differs from theirs shares no word with any of the rows
+All-differs : (first : Row) (rows : List Row) → differs first rows ≡ true → All (ShareNoWord first) rows
+All-differs first [] h = All-nil (ShareNoWord first)
+All-differs first (row ∷ rows) h =
+    let both = and_parts (keys_differ first.key row.key) (differs first rows) h in
+    All-cons (ShareNoWord first) row rows (ShareNoWord-keys_differ first row both.0) (All-differs first rows both.1)
+
+-- rows whose keys all differ share no word
+AllPairs-all_differ : (rows : List Row) → all_differ rows ≡ true → AllPairs ShareNoWord rows
+AllPairs-all_differ [] h = λ i j d below inside. absurd (omega arith)
+AllPairs-all_differ (first ∷ rows) h =
+    let both = and_parts (differs first rows) (all_differ rows) h in
+    AllPairs-cons ShareNoWord first rows (All-differs first rows both.0) (AllPairs-all_differ rows both.1)
+
+-- the tables pass the test
+pub rows_differ : RowsDiffer
+rows_differ One = AllPairs-all_differ (table One) refl
+rows_differ Two = AllPairs-all_differ (table Two) refl

@@ -1,0 +1,5 @@
+use Rattle.asc_model.proofs.PlainSteps.{plain_steps_keep_states}
+use Rattle.asc_model.proofs.laws.plain_steps_keep_states.Goals as goal
+
+pub returns : goal.returns
+returns c = plain_steps_keep_states

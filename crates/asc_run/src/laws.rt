@@ -1,0 +1,11 @@
+//! The laws that tie plain execution to the steps of the machine. Each function stands for the law that it ensures, and
+//! does nothing.
+
+ghost use Rattle.asc_run.specs.Laws.{ProgressIsPlain};
+
+/// Plain execution without guest calls is plain steps: where `n` plain steps of the state at which a program stands
+/// reach a state, the program comes to that state in `n` steps. It goes on there, its break and the input still to come
+/// are what they were, and it has taken and put nothing more.
+pub fn progress_is_plain()
+    ensures { ProgressIsPlain }
+{}
