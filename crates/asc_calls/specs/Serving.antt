@@ -24,7 +24,8 @@ IsStillAtExit (served.Exit code) old new act = (new.state ≡ old.state) × (new
 pub record Serves (old new : World) (answer : Served) : Type 0 where
   pub act : Act
   pub acts : Acts old.outside new.outside act
-  pub call : (rest : List ℕ) → MayCome new rest → call_of old (act.taken ++ rest) ≡ result_of_answer answer new act
+  pub call : (rest : List ℕ) → MayCome new rest
+      → call_of old (act.taken ++ rest) ≡ result_of_answer answer new act
   pub exit : IsStillAtExit answer old new act
   -- once the end of the input was found, nothing is taken
   pub ended : IsTrue old.kept.ended → IsTrue new.kept.ended × (act.taken ≡ [])

@@ -30,7 +30,11 @@ pub record World : Type 0 where
   pub open outside use *
 
 abbrev pub world : State → CallState → Option (List ℕ) → Given → Given → ℕ → World
-world state kept left out err steps = record { state = state; kept = kept; outside = record { left = left; out = out; err = err; steps = steps } }
+world state kept left out err steps = record {
+  state = state;
+  kept = kept;
+  outside = record { left = left; out = out; err = err; steps = steps };
+}
 
 -- the devices took and were given just this
 pub record Acts (old new : Outside) (act : Act) : Type 0 where

@@ -63,7 +63,7 @@ impl Calls {
             (world state.new self.new (I.left input.new) (O.given out.new) (E.given err.new) steps.new)
             result }
 
-        // No device is asked for anything.
+        // No device counts a fault.
         ensures input_faults { I.faults input.new ≡ I.faults input.old }
         ensures out_faults { O.faults out.new ≡ O.faults out.old }
         ensures err_faults { E.faults err.new ≡ E.faults err.old }

@@ -3,7 +3,7 @@ use Rattle.std.proofs.Common.{◌≡◌, ◌≢◌, ℕ, ◌+◌, ◌-◌, ◌%�
 use Rattle.std.specs.Option.{option_or}
 use Rattle.std.proofs.lemmas.Bool.Decides.{nat_tests}
 use Rattle.asc_model.specs.declared.version.Version.{Version}
-use Rattle.asc_model.specs.Shape.{Shape}
+use Rattle.asc_model.specs.Shape.{Shape, holds}
 use Rattle.asc_shape.specs.declared.shape.ShapeFault.{ShapeFault}
 use Rattle.asc_shape.specs.Shape.{is_size, shape_of}
 use Rattle.asc_elf.specs.declared.fault.ElfFault.{ElfFault}
@@ -147,16 +147,16 @@ layout-TooLarge_segment file shape past = grind (arith, nat_tests)
 
 -- the entry is not a multiple of 4, or not in memory
 pub layout-Entry : (file : List ℕ) (shape : Shape) → shape.base + shape.size ≤ 2 ^ 32 → highest_end (segments file) ≤ stack_of shape
-    → (e_entry file % 4 ≢ 0) ⊎ ((e_entry file < shape.base) ⊎ (shape.base + shape.size < e_entry file + 4)) → first_fault (layout_cases file shape) ≡ Some Entry
+    → (e_entry file % 4 ≢ 0) ⊎ (holds shape (e_entry file) 4 ≡ false) → first_fault (layout_cases file shape) ≡ Some Entry
 layout-Entry file shape within room entry = grind (arith, nat_tests)
 
 -- no fault of its place in memory
 layout-None : (file : List ℕ) (shape : Shape) → shape.base + shape.size ≤ 2 ^ 32 → highest_end (segments file) ≤ stack_of shape
-    → e_entry file % 4 ≡ 0 → shape.base ≤ e_entry file → e_entry file + 4 ≤ shape.base + shape.size → first_fault (layout_cases file shape) ≡ None
-layout-None file shape within room aligned above below = grind (arith, nat_tests)
+    → e_entry file % 4 ≡ 0 → holds shape (e_entry file) 4 ≡ true → first_fault (layout_cases file shape) ≡ None
+layout-None file shape within room aligned held = grind (arith, nat_tests)
 
 -- no fault
 pub cases-None : (file : List ℕ) (shape : Shape) → IsWhole file → shape.base + shape.size ≤ 2 ^ 32 → highest_end (segments file) ≤ stack_of shape
-    → e_entry file % 4 ≡ 0 → shape.base ≤ e_entry file → e_entry file + 4 ≤ shape.base + shape.size → first_fault (cases file shape) ≡ None
-cases-None file shape whole within room aligned above below =
-    first_fault-cases file shape whole ∙ layout-None file shape within room aligned above below
+    → e_entry file % 4 ≡ 0 → holds shape (e_entry file) 4 ≡ true → first_fault (cases file shape) ≡ None
+cases-None file shape whole within room aligned held =
+    first_fault-cases file shape whole ∙ layout-None file shape within room aligned held

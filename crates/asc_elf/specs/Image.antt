@@ -93,7 +93,8 @@ stack_of shape = shape.base + shape.size - 64
 
 abbrev pub layout_cases : List ℕ → Shape → List Case
 layout_cases file shape =
-    (faults.TooLarge if nat_lt (2 ^ 32) (shape.base + shape.size) || nat_lt (stack_of shape) (highest_end (segments file)))
+    (faults.TooLarge if nat_lt (2 ^ 32) (shape.base + shape.size)
+    || nat_lt (stack_of shape) (highest_end (segments file)))
     ∷ (faults.Entry if not (e_entry file % 4 == 0) || not (holds shape (e_entry file) 4))
     ∷ []
 
@@ -111,7 +112,8 @@ segment_changes file header =
 -- stack pointer x2.
 unfoldable pub start_state : List ℕ → Shape → State
 start_state file shape =
-    state_after_all (zero_state shape) (flat_map (segment_changes file) (segments file) ++ Pc (e_entry file) ∷ Register 2 (stack_of shape) ∷ [])
+    state_after_all (zero_state shape)
+    (flat_map (segment_changes file) (segments file) ++ Pc (e_entry file) ∷ Register 2 (stack_of shape) ∷ [])
 
 -- an image: the state in which it begins, and where its program's break is at first
 pub record Image : Type 0 where

@@ -66,7 +66,7 @@ fn laid_out(file: &[u8], size: u32, version: Version) -> Result<Image<'_>, ElfFa
         return Err(ElfFault::TooLarge);
     }
     let entry = e_entry(file);
-    if !entry.is_multiple_of(4) || entry < shape.base() || end < u64::from(entry) + 4 {
+    if !entry.is_multiple_of(4) || !shape.holds(entry, 4) {
         return Err(ElfFault::Entry);
     }
     Ok(Image {

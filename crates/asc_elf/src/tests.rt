@@ -113,6 +113,13 @@ fn later_segments_win(rt: HostRuntime) -> Result<(), Fail> {
         0x01, 0x00, 0x00, 0x00, 0x80, 0x00, 0x00, 0x00, 0x04, 0x00, 0x01, 0x00, 0x04, 0x00, 0x01,
         0x00, 0x04, 0x00, 0x00, 0x00, 0x04, 0x00, 0x00, 0x00,
     ];
+    let mut cut = with_second(&second, &ADDI_A0_9);
+    patch(&mut cut, 100, &[0x05]);
+    assert_eq!(rt;
+        read(&cut, 65_536, Version::Two).err(),
+        Some(ElfFault::Segment(1))
+    );
+
     let stack = [0x51, 0xE5, 0x74, 0x64];
     let in_order = with_second(&second, &ADDI_A0_9);
     let mut exchanged = in_order;

@@ -12,19 +12,22 @@ use Rattle.asc_model.specs.Plain.{plain}
 
 -- The machine of a state is one of its shape, and the state is the one of that machine: its machine determines it.
 abbrev pub ViewsDetermineStates : Type 0
-ViewsDetermineStates = (s : State) → IsState s → IsMachine s.shape (view_of s) × (state_of s.shape (view_of s) ≡ s)
+ViewsDetermineStates = (s : State) → IsState s
+    → IsMachine s.shape (view_of s) × (state_of s.shape (view_of s) ≡ s)
 
 -- The state of a machine is a state, and the machine is the one of that state: its state determines it.
 abbrev pub StatesDetermineViews : Type 0
 StatesDetermineViews =
-    (shape : Shape) (m : Machine) → IsMachine shape m → IsState (state_of shape m) × (view_of (state_of shape m) ≡ m)
+    (shape : Shape) (m : Machine) → IsMachine shape m
+    → IsState (state_of shape m) × (view_of (state_of shape m) ≡ m)
 
 -- what the writes of a state's step come to, in each case of the step
 pub record WritesOfStep (s : State) : Type 0 where
   -- the next state is this one with the writes put into its bytes
   pub goes : (after : State) → next s ≡ At after → after ≡ record s { bytes = bytes_after s.bytes (writes s) }
   -- a place that is not written keeps its byte
-  pub others : (after : State) (place : ℕ) → next s ≡ At after → All (λ written. written ≢ place) (places_written s)
+  pub others : (after : State) (place : ℕ) → next s ≡ At after
+      → All (λ written. written ≢ place) (places_written s)
       → slice_index after.bytes place ≡ slice_index s.bytes place
   -- a guest call and a fault write nothing
   pub calls : next s ≡ Call → writes s ≡ []
@@ -53,7 +56,8 @@ PlainStepsJoin = (m n : ℕ) (s between : State) → plain m s ≡ At between �
 
 -- Plain steps lead from a state to a state of the same shape.
 abbrev pub PlainStepsKeepStates : Type 0
-PlainStepsKeepStates = (n : ℕ) (s after : State) → IsState s → plain n s ≡ At after → IsState after × (after.shape ≡ s.shape)
+PlainStepsKeepStates = (n : ℕ) (s after : State) → IsState s → plain n s ≡ At after
+    → IsState after × (after.shape ≡ s.shape)
 
 -- no word is for both rows
 abbrev pub ShareNoWord : Row → Row → Type 0

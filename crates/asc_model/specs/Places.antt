@@ -32,7 +32,8 @@ data_places shape Breakpoint = []
 -- the places that an instruction reads: its source registers, and what it loads
 abbrev pub operand_places : Shape → Machine → Option Instr → List ℕ
 operand_places shape m None = []
-operand_places shape m (Some i) = register_places (rs1_of i) ++ register_places (rs2_of i) ++ data_places shape (effect_of m i)
+operand_places shape m (Some i) =
+    register_places (rs1_of i) ++ register_places (rs2_of i) ++ data_places shape (effect_of m i)
 
 -- The places that a step reads, in the order in which it reads them; one that is read twice stands twice. They are
 -- the pc; where it is aligned and in memory, the four bytes fetched; where these are an instruction, its source
@@ -40,7 +41,8 @@ operand_places shape m (Some i) = register_places (rs1_of i) ++ register_places 
 unfoldable pub places_read : State → List ℕ
 places_read s = let m = view_of s in
     if is_aligned m.pc && holds s.shape m.pc 4
-    then places_from 0 4 ++ places_from (place_of s.shape m.pc) 4 ++ operand_places s.shape m (decode s.shape.version (fetch s.shape m))
+    then places_from 0 4 ++ places_from (place_of s.shape m.pc) 4
+    ++ operand_places s.shape m (decode s.shape.version (fetch s.shape m))
     else places_from 0 4
 
 -- bytes, each with its place, from a place on

@@ -36,7 +36,8 @@ effect_of m i = effect (op_of i) m.pc (register m (rs1_of i)) (register m (rs2_o
 abbrev pub outcome_of : Shape → Machine → (rd : ℕ) → Effect → Outcome
 outcome_of shape m rd (Set value) = Goes (Pc (m.pc +w 4) ∷ Register rd value ∷ [])
 outcome_of shape m rd (Load n signed address) =
-    if holds shape address n then Goes (Pc (m.pc +w 4) ∷ Register rd (loaded_word n signed (load shape m n address)) ∷ [])
+    if holds shape address n
+    then Goes (Pc (m.pc +w 4) ∷ Register rd (loaded_word n signed (load shape m n address)) ∷ [])
     else fault_outcome m LoadOutside address
 outcome_of shape m rd (Store n address value) =
     if holds shape address n then Goes (Pc (m.pc +w 4) ∷ Memory address (bytes_of n value) ∷ [])

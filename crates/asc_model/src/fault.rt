@@ -1,4 +1,4 @@
-/// What an instruction did that ends the program. The numbers are those that users see.
+/// What an instruction did that ends the program. Each kind has its number.
 #[derive(Clone, Copy, Debug, PartialEq, Eq)]
 pub enum FaultKind {
     /// The pc, or the target of a taken transfer, is not a multiple of 4. The value is that address.
@@ -20,7 +20,10 @@ pub enum FaultKind {
 /// A fault, with the pc of the instruction that met it.
 #[derive(Clone, Copy, Debug, PartialEq, Eq)]
 pub struct Fault {
+    /// What the instruction did.
     pub kind: FaultKind,
+    /// The address of the instruction.
     pub pc: u32,
+    /// The address or the word that its kind speaks of.
     pub value: u32,
 }

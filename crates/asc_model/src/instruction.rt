@@ -1,7 +1,9 @@
 /// What an instruction does, by its name in the manual.
 #[derive(Clone, Copy, Debug, PartialEq, Eq)]
 pub enum Op {
+    /// Add immediate.
     Addi,
+    /// Environment call.
     Ecall,
 }
 

@@ -32,7 +32,8 @@ progress_after_call count position (called.Exit code) = Off (count + 1) (ends.Ex
 -- one more step after this count; a fault counts none
 abbrev pub progress_after_step : (low high count : ℕ) → Position → Next → Progress
 progress_after_step low high count position (At state) = On (record position { state = state })
-progress_after_step low high count position Call = progress_after_call count position (guest_call low high position.state position.brk position.left)
+progress_after_step low high count position Call =
+    progress_after_call count position (guest_call low high position.state position.brk position.left)
 progress_after_step low high count position (Bad fault) = Off count (ends.Fault fault) position
 
 abbrev pub next_progress : (low high count : ℕ) → Progress → Progress

@@ -21,7 +21,8 @@ pub record Turns (old new : World) (before done : ℕ) (ended : Option Ended) : 
   pub acts : Acts old.outside new.outside act
   -- plain execution does just that, over the bytes taken, with whatever input may still come behind them
   pub turn : (first : Act) (rest : List ℕ) → MayCome new rest
-      → IsAt ended done (position_in new rest (joint_act first act)) (next_progress old.kept.low old.kept.high before (On (position_in old (act.taken ++ rest) first)))
+      → IsAt ended done (position_in new rest (joint_act first act))
+      (next_progress old.kept.low old.kept.high before (On (position_in old (act.taken ++ rest) first)))
   -- what may come afterwards may come before, behind the bytes taken
   pub came : (rest : List ℕ) → MayCome new rest → MayCome old (act.taken ++ rest)
   pub known : KnowsEnd old → KnowsEnd new

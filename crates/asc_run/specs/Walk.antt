@@ -46,6 +46,7 @@ run_from limit w left = exec limit w.kept.low w.kept.high w.state left
 pub record Follows (limit : ℕ) (old new : World) (count : ℕ) (ended : Ended) : Type 0 where
   pub act : Act
   pub acts : Acts old.outside new.outside act
-  pub run : (rest : List ℕ) → MayCome new rest → run_from limit old (act.taken ++ rest) ≡ record { ended = ended; count = count; act = act }
+  pub run : (rest : List ℕ) → MayCome new rest
+      → run_from limit old (act.taken ++ rest) ≡ record { ended = ended; count = count; act = act }
   pub known : KnowsEnd new
   pub steps : new.steps ≡ old.steps + count

@@ -128,7 +128,7 @@ impl Walk {
             world_of self.new (I.left input.new) (O.given out.new) (E.given err.new) steps.new
             ≡ world_of self.old (I.left input.old) (O.given out.old) (E.given err.old) steps.old) }
 
-        // No device is asked for anything.
+        // No device counts a fault.
         ensures input_faults { I.faults input.new ≡ I.faults input.old }
         ensures out_faults { O.faults out.new ≡ O.faults out.old }
         ensures err_faults { E.faults err.new ≡ E.faults err.old }

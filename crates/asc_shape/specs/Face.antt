@@ -41,7 +41,8 @@ status_after_write ReadWritten = ReadWritten
 abbrev pub marks_after : (Status → Status) → Marks → ℕ → ℕ → Marks
 marks_after after_change Untold place byte = Untold
 marks_after after_change (Told statuses touched) place byte = let status = status_at statuses place in
-    Told (slice_set statuses place (after_change status)) (if is_untouched status then touched ++ (place, byte) ∷ [] else touched)
+    Told (slice_set statuses place (after_change status))
+    (if is_untouched status then touched ++ (place, byte) ∷ [] else touched)
 
 -- the face after a read of a place
 unfoldable pub face_after_read : Face → ℕ → Face
@@ -74,4 +75,5 @@ untouched_count (Told statuses touched) places = count_by (λ place. is_untouche
 abbrev pub FitPlaces : ℕ → Marks → Type 0
 FitPlaces places Untold = Unit {0}
 FitPlaces places (Told statuses touched) = (length statuses ≡ places)
-    × ((place : ℕ) → count_by (λ noted. noted.0 == place) touched ≡ (if is_untouched (status_at statuses place) then 0 else 1))
+    × ((place : ℕ) → count_by (λ noted. noted.0 == place) touched
+    ≡ (if is_untouched (status_at statuses place) then 0 else 1))

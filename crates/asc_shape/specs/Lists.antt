@@ -80,7 +80,8 @@ answer store name most = if fails_next store.course then Err Failed else answer_
 
 -- a store answers so: as it must, or, where it must give the whole file, that it wants memory
 abbrev pub Answers : Stock → List ℕ → ℕ → Result Loaded StoreFault → Type 0
-Answers store name most result = (result ≡ answer store name most) ⊎ ((result ≡ Err Memory) × (answer store name most ≡ Ok Whole))
+Answers store name most result =
+    (result ≡ answer store name most) ⊎ ((result ≡ Err Memory) × (answer store name most ≡ Ok Whole))
 
 -- the files of a list of names and contents
 abbrev pub files_of : List (String Global × Vec ℕ Global) → List File

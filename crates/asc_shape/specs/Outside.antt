@@ -55,7 +55,8 @@ MayHold None name content = Unit {0}
 
 -- the store may hold a file of that name with more than most bytes
 abbrev pub MayHoldLonger : Option (List File) → List ℕ → ℕ → Type 0
-MayHoldLonger (Some files) name most = (content : List ℕ) × (content_of files name ≡ Some content) × (most < length content)
+MayHoldLonger (Some files) name most =
+    (content : List ℕ) × (content_of files name ≡ Some content) × (most < length content)
 MayHoldLonger None name most = Unit {0}
 
 -- a count of faults never falls, stays but where the store failed, and rose there

@@ -17,11 +17,13 @@ pub trait Bytes {
     /// How many more places may be touched.
     ghost room: { Self → ℕ };
 
+    /// The shape. A caller's proof learns from it that this is a state, and that its marks fit it.
     fn shape(&self) -> Shape
         ensures shape { result ≡ (face self.now).state.shape }
         ensures state { IsState (face self.now).state }
         ensures marks { FitPlaces (length (face self.now).state.bytes) (face self.now).marks };
 
+    /// How many more places may be touched.
     fn room(&self) -> usize
         ensures { result ≡ room self.now };
 

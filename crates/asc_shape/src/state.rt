@@ -84,6 +84,7 @@ impl State {
         self.bytes[place as usize] = byte;
     }
 
+    /// The pc.
     #[inline]
     pub fn pc(&self) -> u32
         ensures { result ≡ (view_of self.now).pc }
@@ -92,6 +93,7 @@ impl State {
         self.word(0)
     }
 
+    /// Sets the pc, to any word.
     #[inline]
     pub fn set_pc(&mut self, pc: u32)
         ensures { self.new ≡ state_after self.old (Pc pc) }

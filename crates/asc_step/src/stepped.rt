@@ -5,7 +5,7 @@ use crate::Fault;
 pub enum Stepped {
     /// The step was taken.
     Went,
-    /// The program calls the guest's environment. The state is as it was, with the pc at the call.
+    /// The program calls its environment. The state is as it was, with the pc at the call.
     Call,
     /// The program faults. The state is as it was.
     Fault(Fault),

@@ -24,7 +24,7 @@ pub fn try_step<B: Bytes>(bytes: &mut B) -> Stepped
     // The places read, in order, and then the places written.
     ensures places { B.face bytes.new ≡ face_after (B.face bytes.old) }
 
-    // At most 32 places are touched for the first time.
+    // Room for at most 32 places is used.
     ensures room { B.room bytes.old ≤ B.room bytes.new + 32 }
 {
     let shape = bytes.shape();

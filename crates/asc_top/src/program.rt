@@ -46,14 +46,13 @@ pub fn top<F: Store, I: Source, O: Sink, E: Sink, R: Sink, G: Gate, L: Ledger>(
         (outside (I.left input.new) (O.given out.new) (E.given err.new) steps.new)
         result (meaning content left) }
 
-    // Told or not, there is such a file and such an input.
+    // Told or not, the answer is that of some file and some input, which agree with what is told.
     ensures plain { ComesOfFile result → HasFile (map string_bytes words.now) (F.files store.old)
         (Means (outside (I.left input.old) (O.given out.old) (E.given err.old) steps.old)
         (outside (I.left input.new) (O.given out.new) (E.given err.new) steps.new)
         result) }
 
-    // Each answer comes only there. That it comes there, where the store does not fail and memory is not wanting, is
-    // the headline.
+    // Each answer comes only there. That it comes there, unless the answer is StoreFault or Memory, is the headline.
     ensures exit { (code : ℕ) → result ≡ Answer.Exit code → HasFile (map string_bytes words.now) (F.files store.old)
         (Runs (I.left input.old) (λ run. run.ended ≡ Ended.Exit code)) }
     ensures limit { (count : ℕ) → result ≡ Answer.Limit count → HasFile (map string_bytes words.now) (F.files store.old)
@@ -77,7 +76,7 @@ pub fn top<F: Store, I: Source, O: Sink, E: Sink, R: Sink, G: Gate, L: Ledger>(
     ensures report { R.given report.new ≡ R.given report.old }
     ensures files { F.files store.new ≡ F.files store.old }
 
-    // No device but the store is asked for anything.
+    // No device but the store counts a fault, and the store only where the answer says so.
     ensures store_faults { result ≢ Answer.StoreFault → F.faults store.new ≡ F.faults store.old }
     ensures input_faults { I.faults input.new ≡ I.faults input.old }
     ensures out_faults { O.faults out.new ≡ O.faults out.old }
