@@ -3,7 +3,7 @@
 use Rattle.std.specs.Prelude.{ℕ, ◌-◌, ◌%◌, ◌^◌, ◌==◌, ◌||◌, List, [], ◌∷◌, ◌++◌, if◌then◌else◌}
 use Rattle.asc_model.specs.State.{State}
 use Rattle.asc_model.specs.Machine.{Machine, register, Pc, Register, view_of}
-use Rattle.asc_model.specs.Effect.{◌+w◌}
+use Rattle.asc_model.specs.Arithmetic.{◌+w◌}
 use Rattle.asc_shape.specs.State.{state_after_all}
 
 -- what was taken from the input, and put to out and to err

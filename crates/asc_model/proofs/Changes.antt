@@ -8,16 +8,17 @@ use Rattle.asc_model.specs.declared.version.Version.TheVariants.{One, Two}
 use Rattle.asc_model.specs.Shape.{Shape, start_of, length_of, place_of, holds}
 use Rattle.asc_model.specs.Number.{AreBytes, number_of, bytes_of, word_at}
 use Rattle.asc_model.specs.State.{State, IsState}
-use Rattle.asc_model.specs.Machine.{Machine, IsMachine, Change, Pc, Register, Memory, splice, after_change, after_changes, words, view_of, state_of}
+use Rattle.asc_model.specs.Machine.{Machine, IsMachine, Change, Pc, Register, Memory, Reservation, splice, after_change, after_changes, words, view_of, state_of}
 use Rattle.asc_model.specs.Places.{cells, cells_of, bytes_after}
 use Rattle.asc_model.proofs.Numbers.{word_at-below, bytes_of-number_of, number_of-bytes_of_4, AreBytes-bytes_of, AreBytes-append, AreBytes-take, AreBytes-drop, bytes_after-append, bytes_after-cells}
 use Rattle.asc_model.proofs.Views.{length-words, words-below}
 
--- what a change may be: registers are 0 to 31, values are words, and bytes go into memory
+-- what a change may be: registers are 0 to 31, values are words, bytes go into memory, and a reservation is in version Two
 abbrev pub IsChange : Shape → Change → Type 0
 IsChange shape (Pc value) = value < 2 ^ 32
 IsChange shape (Register k value) = (k ≤ 31) × (value < 2 ^ 32)
 IsChange shape (Memory address bytes) = IsTrue (holds shape address (length bytes)) × AreBytes bytes
+IsChange shape (Reservation i bytes) = (shape.version ≡ Two) × (i + length bytes ≤ 8) × AreBytes bytes
 
 -- each change of the list may be
 abbrev pub AreChanges : Shape → List Change → Type 0
@@ -217,6 +218,10 @@ below-set bound (first ∷ list) zero v p h (suc k) = h (suc k)
 below-set bound (first ∷ list) (suc place) v p h zero = h 0
 below-set bound (first ∷ list) (suc place) v p h (suc k) = below-set bound list place v p (λ j. h (suc j)) k
 
+-- the reservation of version Two has eight bytes
+length-reservation : (shape : Shape) (m : Machine) → IsMachine shape m → shape.version ≡ Two → length m.reservation ≡ 8
+length-reservation shape m good e = good.reservation ∙ ap (λ (v : Version). start_of v - 128) e
+
 -- a change leaves a machine one of its shape
 pub IsMachine-after_change : (shape : Shape) (m : Machine) (c : Change) → IsMachine shape m → IsChange shape c → IsMachine shape (after_change shape m c)
 IsMachine-after_change shape m (Pc value) good h = record {
@@ -252,6 +257,18 @@ IsMachine-after_change shape m (Memory address bytes) good h =
       memory = length-splice m.memory (address - shape.base) bytes (omega (arith, good.memory, parts.0, parts.1)) ∙ good.memory;
       memory_bytes = AreBytes-splice m.memory (address - shape.base) bytes good.memory_bytes h.1;
     }
+IsMachine-after_change shape m (Reservation i bytes) good h =
+    let eight = length-reservation shape m good h.0 in
+    record {
+      good = good.good;
+      pc = good.pc;
+      registers = good.registers;
+      each_word = good.each_word;
+      reservation = length-splice m.reservation i bytes (omega (arith, eight, h.1)) ∙ good.reservation;
+      reservation_bytes = AreBytes-splice m.reservation i bytes good.reservation_bytes h.2;
+      memory = good.memory;
+      memory_bytes = good.memory_bytes;
+    }
 
 -- what a change of the machine writes into the bytes of its state
 pub state_of-change_bytes : (shape : Shape) (m : Machine) (c : Change) → IsMachine shape m → IsChange shape c → (state_of shape (after_change shape m c)).bytes ≡ bytes_after (state_of shape m).bytes (cells_of shape c)
@@ -279,6 +296,16 @@ state_of-change_bytes shape m (Memory address new) good h =
     sym (splice-append_right front m.memory (address - shape.base) new)
     ∙ ap (λ n. splice (front ++ m.memory) (n + (address - shape.base)) new) (length-front shape m good)
     ∙ sym (bytes_after-cells (state_of shape m).bytes (place_of shape address) new (omega (arith, length-state_of shape m good, parts.0, parts.1)))
+state_of-change_bytes shape m (Reservation i new) good h =
+    let low = bytes_of 4 m.pc ++ bytes_of_words m.registers in
+    let eight = length-reservation shape m good h.0 in
+    let inside : i + length new ≤ length m.reservation = omega (arith, eight, h.1) in
+    let inside_all : 128 + i + length new ≤ length (state_of shape m).bytes =
+    omega (arith, length-state_of shape m good, good.reservation, eight, h.1, start_of-least shape.version) in
+    ap (λ l. l ++ m.memory) (sym (splice-append_right low m.reservation i new))
+    ∙ sym (splice-append_left (low ++ m.reservation) m.memory (length low + i) new (omega (arith, length-append low m.reservation, inside)))
+    ∙ ap (λ n. splice (low ++ m.reservation ++ m.memory) (n + i) new) (length-low shape m good)
+    ∙ sym (bytes_after-cells (state_of shape m).bytes (128 + i) new inside_all)
 
 -- ---- lists of changes
 

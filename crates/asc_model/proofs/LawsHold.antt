@@ -28,7 +28,7 @@ by_outcome s good (Goes list) e =
     let n = next-goes s list good e in
     record {
       goes = λ after h. cc;
-      others = λ after place h apart.
+      others = λ after h place apart.
           let same : after ≡ record s { bytes = bytes_after s.bytes (writes s) } = cc in
           ap (λ (t : State). slice_index t.bytes place) same ∙ bytes_after-other s.bytes (writes s) place apart;
       calls = λ h. absurd (cc);
@@ -38,7 +38,7 @@ by_outcome s good Calls e =
     let n = next-calls s e in
     record {
       goes = λ after h. absurd (cc);
-      others = λ after place h apart. absurd (cc);
+      others = λ after h place apart. absurd (cc);
       calls = λ h. writes-calls s e;
       fails = λ fault h. absurd (cc);
     }
@@ -46,7 +46,7 @@ by_outcome s good (Fails kind) e =
     let n = next-fails s kind e in
     record {
       goes = λ after h. absurd (cc);
-      others = λ after place h apart. absurd (cc);
+      others = λ after h place apart. absurd (cc);
       calls = λ h. absurd (cc);
       fails = λ fault h. writes-fails s kind e;
     }

@@ -6,3 +6,5 @@ pub mod Touches
 pub mod Rows
 pub mod LawsHold
 pub mod PlainSteps
+pub mod Decodes
+pub mod Frames

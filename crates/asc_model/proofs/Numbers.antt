@@ -1,10 +1,11 @@
 -- Lemmas on numbers as bytes, and on writes to a list of bytes.
-use Rattle.std.proofs.Common.{◌≡◌, ℕ, zero, suc, ◌+◌, ◌*◌, ◌/◌, ◌%◌, ◌^◌, ◌<◌, ◌≤◌, List, [], ◌∷◌, ◌++◌, length, get_or, take, drop, slice_set, refl, subst, add-zero, append-nil, sym, ap, ◌∙◌, arith, append_assoc, take-append-drop, length-set}
+use Rattle.std.proofs.Common.{◌≡◌, ℕ, zero, suc, ◌+◌, ◌*◌, ◌/◌, ◌%◌, ◌^◌, ◌<◌, ◌≤◌, List, [], ◌∷◌, ◌++◌, length, get_or, take, drop, slice_index, slice_set, refl, subst, add-zero, suc-add, append-nil, sym, ap, ◌∙◌, arith, append_assoc, take-append-drop, length-set}
 use Rattle.std.specs.Int.{w32, from_le_bytes, to_le_bytes}
 use Rattle.std.proofs.lemmas.List.{get_or-drop, take_more_set, drop-set-lt}
 use Rattle.std.proofs.lemmas.Nat.{div_below}
+use Rattle.std.proofs.Math.Seq.{drop-nil, take-nil}
 use Rattle.std.proofs.Math.Nat.{div-div-eq-div-mul, pow-suc, pow-zero}
-use Rattle.asc_model.specs.Number.{AreBytes, number_of, bytes_of, word_at}
+use Rattle.asc_model.specs.Number.{AreBytes, number_of, number_at, bytes_of, word_at}
 use Rattle.asc_model.specs.Machine.{splice}
 use Rattle.asc_model.specs.Places.{cells, bytes_after}
 
@@ -15,6 +16,18 @@ number_of-take_4 (a ∷ []) = omega arith
 number_of-take_4 (a ∷ b ∷ []) = omega arith
 number_of-take_4 (a ∷ b ∷ c ∷ []) = omega arith
 number_of-take_4 (a ∷ b ∷ c ∷ d ∷ xs) = omega arith
+
+-- no byte makes 0
+number_at-nil : (n place : ℕ) → number_at n [] place ≡ 0
+number_at-nil n place = ap (λ (l : List ℕ). number_of (take n l)) (drop-nil place) ∙ ap number_of (take-nil n)
+
+-- a number by its first byte
+pub number_at-suc : (n : ℕ) (bytes : List ℕ) (place : ℕ) → number_at (suc n) bytes place ≡ slice_index bytes place + 2 ^ 8 * number_at n bytes (place + 1)
+number_at-suc n [] place =
+    number_at-nil (suc n) place ∙ ap (λ x. 0 + 2 ^ 8 * x) (sym (number_at-nil n (place + 1)))
+number_at-suc n (byte ∷ bytes) zero = refl
+number_at-suc n (byte ∷ bytes) (suc place) =
+    number_at-suc n bytes place ∙ ap (λ k. slice_index bytes place + 2 ^ 8 * number_at n (byte ∷ bytes) k) (sym (suc-add place 1))
 
 -- a word as std's
 pub word_at-from_le_bytes : (bytes : List ℕ) (place : ℕ) → word_at bytes place ≡ from_le_bytes w32 (get_or bytes place 0 ∷ get_or bytes (place + 1) 0 ∷ get_or bytes (place + 2) 0 ∷ get_or bytes (place + 3) 0 ∷ [])

@@ -1,18 +1,20 @@
 -- The places that a step reads and writes are places of its state.
-use Rattle.std.proofs.Common.{◌≡◌, ℕ, zero, suc, ◌+◌, ◌*◌, ◌<◌, ◌≤◌, Bool, true, false, ◌&&◌, List, [], ◌∷◌, ◌++◌, length, Option, Some, None, if◌then◌else◌, refl, sym, subst, arith}
+use Rattle.std.proofs.Common.{◌≡◌, ℕ, zero, suc, ◌+◌, ◌*◌, ◌<◌, ◌≤◌, Bool, true, false, ◌&&◌, List, [], ◌∷◌, ◌++◌, length, Option, Some, None, if◌then◌else◌, refl, sym, ap, subst, arith}
 use Rattle.std.specs.Prelude.{All}
 use Rattle.std.specs.List.{flat_map}
 use Rattle.std.proofs.lemmas.Bool.{and_parts}
 use Rattle.std.proofs.lemmas.List.Elements.{All-nil, All-cons, All-append, All-map}
 use Rattle.asc_model.specs.declared.instruction.Instr.{Instr}
-use Rattle.asc_model.specs.Shape.{Shape, length_of, place_of, holds}
+use Rattle.asc_model.specs.Shape.{Shape, IsShape, start_of, length_of, place_of, holds}
+use Rattle.asc_model.specs.declared.version.Version.{Version}
+use Rattle.asc_model.specs.declared.version.Version.TheVariants.{Two}
 use Rattle.asc_model.specs.Number.{bytes_of}
 use Rattle.asc_model.specs.State.{State, IsState}
-use Rattle.asc_model.specs.Machine.{Machine, Change, Pc, Register, Memory, view_of}
+use Rattle.asc_model.specs.Machine.{Machine, Change, Pc, Register, Memory, Reservation, view_of}
 use Rattle.asc_model.specs.Instruction.{decode, rs1_of, rs2_of}
-use Rattle.asc_model.specs.Effect.{Effect, Set, Load, Store, Jump, GuestCall, Breakpoint}
+use Rattle.asc_model.specs.Effect.{Effect, Set, Load, Store, Jump, LoadReserved, StoreConditional, Modify, GuestCall, Breakpoint}
 use Rattle.asc_model.specs.Step.{Outcome, Goes, Calls, Fails, is_aligned, effect_of, fetch, outcome}
-use Rattle.asc_model.specs.Places.{places_from, register_places, data_places, operand_places, places_read, cells, cells_of, cells_of_outcome, writes, places_written}
+use Rattle.asc_model.specs.Places.{places_from, register_places, atomic_places, reservation_places, data_places, operand_places, places_read, cells, cells_of, cells_of_outcome, writes, places_written}
 use Rattle.asc_model.specs.Laws.{TouchesPlaces}
 use Rattle.asc_model.proofs.Numbers.{length-bytes_of}
 use Rattle.asc_model.proofs.Changes.{IsChange, AreChanges, start_of-least, holds-parts, IsMachine-view_of}
@@ -48,36 +50,56 @@ register_places-AllBelow bound (suc k) least h = places_from-AllBelow bound (4 *
 place_of-below : (shape : Shape) (address n : ℕ) → holds shape address n ≡ true → place_of shape address + n ≤ length_of shape
 place_of-below shape address n h = let parts = holds-parts shape address n h in omega (arith, parts.0, parts.1)
 
+-- a good shape has the pc, the registers and more than the reservation
+length_of-reservation : (shape : Shape) → IsShape shape → 136 ≤ length_of shape
+length_of-reservation shape good = omega (arith, start_of-least shape.version, good.size.least)
+
+-- what an atomic reads is in the state, if it is where the atomic's word is in memory
+atomic_places-AllBelow : (shape : Shape) (address : ℕ) (places : List ℕ) → (holds shape address 4 ≡ true → AllBelow (length_of shape) places)
+    → AllBelow (length_of shape) (atomic_places shape address places)
+atomic_places-AllBelow shape address places h =
+    if-AllBelow (length_of shape) (is_aligned address && holds shape address 4) places []
+    (λ e. h (and_parts (is_aligned address) (holds shape address 4) e).1) (All-nil (λ p. p < length_of shape))
+
 -- the data that an effect loads is in memory
-data_places-AllBelow : (shape : Shape) (e : Effect) → AllBelow (length_of shape) (data_places shape e)
-data_places-AllBelow shape (Load n signed address) =
+data_places-AllBelow : (shape : Shape) → IsShape shape → (e : Effect) → AllBelow (length_of shape) (data_places shape e)
+data_places-AllBelow shape good (LoadReserved address) =
+    atomic_places-AllBelow shape address (places_from (place_of shape address) 4)
+    (λ h. places_from-AllBelow (length_of shape) (place_of shape address) 4 (place_of-below shape address 4 h))
+data_places-AllBelow shape good (Modify address change) =
+    atomic_places-AllBelow shape address (places_from (place_of shape address) 4)
+    (λ h. places_from-AllBelow (length_of shape) (place_of shape address) 4 (place_of-below shape address 4 h))
+data_places-AllBelow shape good (StoreConditional address value) =
+    atomic_places-AllBelow shape address reservation_places
+    (λ h. places_from-AllBelow (length_of shape) 128 5 (omega (arith, length_of-reservation shape good)))
+data_places-AllBelow shape good (Load n signed address) =
     if-AllBelow (length_of shape) (holds shape address n) (places_from (place_of shape address) n) []
     (λ h. places_from-AllBelow (length_of shape) (place_of shape address) n (place_of-below shape address n h)) (All-nil (λ p. p < length_of shape))
-data_places-AllBelow shape (Set value) = All-nil (λ p. p < length_of shape)
-data_places-AllBelow shape (Store n address value) = All-nil (λ p. p < length_of shape)
-data_places-AllBelow shape (Jump target) = All-nil (λ p. p < length_of shape)
-data_places-AllBelow shape GuestCall = All-nil (λ p. p < length_of shape)
-data_places-AllBelow shape Breakpoint = All-nil (λ p. p < length_of shape)
+data_places-AllBelow shape good (Set value) = All-nil (λ p. p < length_of shape)
+data_places-AllBelow shape good (Store n address value) = All-nil (λ p. p < length_of shape)
+data_places-AllBelow shape good (Jump target) = All-nil (λ p. p < length_of shape)
+data_places-AllBelow shape good GuestCall = All-nil (λ p. p < length_of shape)
+data_places-AllBelow shape good Breakpoint = All-nil (λ p. p < length_of shape)
 
 -- a state has the pc and the registers
 length_of-least : (shape : Shape) → 128 ≤ length_of shape
 length_of-least shape = omega (arith, start_of-least shape.version)
 
 -- what an instruction reads is in the registers or in memory
-operand_places-AllBelow : (shape : Shape) (m : Machine) (i : Option Instr) → IfInstruction i → AllBelow (length_of shape) (operand_places shape m i)
-operand_places-AllBelow shape m None h = All-nil (λ p. p < length_of shape)
-operand_places-AllBelow shape m (Some i) h =
+operand_places-AllBelow : (shape : Shape) (m : Machine) (i : Option Instr) → IsShape shape → IfInstruction shape.version i → AllBelow (length_of shape) (operand_places shape m i)
+operand_places-AllBelow shape m None good h = All-nil (λ p. p < length_of shape)
+operand_places-AllBelow shape m (Some i) good h =
     let below = λ (p : ℕ). p < length_of shape in
     let first = register_places-AllBelow (length_of shape) (rs1_of i) (length_of-least shape) h.rs1 in
     let second = register_places-AllBelow (length_of shape) (rs2_of i) (length_of-least shape) h.rs2 in
     All-append below (register_places (rs1_of i) ++ register_places (rs2_of i)) (data_places shape (effect_of m i))
     (All-append below (register_places (rs1_of i)) (register_places (rs2_of i)) first second)
-    (data_places-AllBelow shape (effect_of m i))
+    (data_places-AllBelow shape good (effect_of m i))
 
 -- the places that a step reads are below the length of its shape
-pub places_read-AllBelow : (s : State) → AllBelow (length_of s.shape) (places_read s)
+pub places_read-AllBelow : (s : State) → IsState s → AllBelow (length_of s.shape) (places_read s)
 unfolding places_read
-places_read-AllBelow s =
+places_read-AllBelow s good =
     let m = view_of s in
     let bound = length_of s.shape in
     let i = decode s.shape.version (fetch s.shape m) in
@@ -88,7 +110,7 @@ places_read-AllBelow s =
     (λ h. All-append (λ p. p < bound) (front ++ code) (operand_places s.shape m i)
     (All-append (λ p. p < bound) front code pc
     (places_from-AllBelow bound (place_of s.shape m.pc) 4 (place_of-below s.shape m.pc 4 (and_parts (is_aligned m.pc) (holds s.shape m.pc 4) h).1)))
-    (operand_places-AllBelow s.shape m i (decode-IsInstruction s.shape.version (fetch s.shape m))))
+    (operand_places-AllBelow s.shape m i good.shape (decode-IsInstruction s.shape.version (fetch s.shape m))))
     pc
 
 -- ---- places written
@@ -108,6 +130,9 @@ cells_of-CellsBelow shape (Register (suc k) value) h =
     cells-CellsBelow (length_of shape) (4 * suc k) (bytes_of 4 value) (omega (arith, length-bytes_of 4 value, length_of-least shape, h.0))
 cells_of-CellsBelow shape (Memory address bytes) h =
     cells-CellsBelow (length_of shape) (place_of shape address) bytes (place_of-below shape address (length bytes) h.0)
+cells_of-CellsBelow shape (Reservation i bytes) h =
+    let all : length_of shape ≡ 136 + shape.size = ap (λ (v : Version). start_of v + shape.size) h.0 in
+    cells-CellsBelow (length_of shape) (128 + i) bytes (omega (arith, all, h.1))
 
 -- the same of each change of a list
 changes-CellsBelow : (shape : Shape) (list : List Change) → AreChanges shape list → CellsBelow (length_of shape) (flat_map (cells_of shape) list)
@@ -132,6 +157,6 @@ places_written-AllBelow s good =
 -- the places that a step touches are places of its state
 pub state-TouchesPlaces : (s : State) → IsState s → TouchesPlaces s
 state-TouchesPlaces s good = record {
-  read = subst (λ bound. AllBelow bound (places_read s)) (sym good.length) (places_read-AllBelow s);
+  read = subst (λ bound. AllBelow bound (places_read s)) (sym good.length) (places_read-AllBelow s good);
   written = subst (λ bound. AllBelow bound (places_written s)) (sym good.length) (places_written-AllBelow s good);
 }

@@ -1,10 +1,12 @@
 -- What the machine of a state is, read off the state's bytes.
-use Rattle.std.proofs.Common.{◌≡◌, ℕ, zero, suc, ◌+◌, ◌-◌, ◌*◌, ◌^◌, ◌<◌, ◌≤◌, List, length, get_or, take, drop, slice_index, refl, ap, ◌∙◌, arith}
-use Rattle.std.proofs.lemmas.List.{drop-drop}
+use Rattle.std.proofs.Common.{◌≡◌, ℕ, zero, suc, ◌+◌, ◌-◌, ◌*◌, ◌^◌, ◌<◌, ◌≤◌, false, ◌&&◌, ◌==◌, List, length, get_or, take, drop, slice_index, refl, ap, ◌∙◌, arith}
+use Rattle.std.proofs.lemmas.List.{drop-drop, get_or-take, get_or-drop, take-take}
 use Rattle.asc_model.specs.Shape.{start_of, place_of}
 use Rattle.asc_model.specs.Number.{AreBytes, number_of, number_at, word_at}
 use Rattle.asc_model.specs.State.{State, IsState}
-use Rattle.asc_model.specs.Machine.{register, load, words, view_of}
+use Rattle.asc_model.specs.declared.version.Version.{Version}
+use Rattle.asc_model.specs.declared.version.Version.TheVariants.{One, Two}
+use Rattle.asc_model.specs.Machine.{register, load, is_reserved, words, view_of}
 use Rattle.asc_model.specs.Step.{fetch}
 use Rattle.asc_model.proofs.Numbers.{word_at-below, AreBytes-drop}
 
@@ -64,3 +66,19 @@ view_of-register_below s (suc k) good = words-below 31 k (drop 4 s.bytes) (AreBy
 pub view_of-fetch : (s : State) → fetch s.shape (view_of s) ≡ word_at s.bytes (place_of s.shape (word_at s.bytes 0))
 unfolding view_of
 view_of-fetch s = view_of-load s 4 (word_at s.bytes 0)
+
+-- ---- the reservation
+
+-- nothing is reserved in version One
+pub view_of-reserved_One : (s : State) (address : ℕ) → s.shape.version ≡ One → is_reserved (view_of s) address ≡ false
+unfolding view_of
+view_of-reserved_One s address e = ap (λ (v : Version). let r = take (start_of v - 128) (drop 128 s.bytes) in (slice_index r 4 == 1) && (word_at r 0 == address)) e
+
+-- what is reserved in version Two, read off the state's bytes
+pub view_of-reserved_Two : (s : State) (address : ℕ) → s.shape.version ≡ Two → is_reserved (view_of s) address ≡ ((slice_index s.bytes 132 == 1) && (word_at s.bytes 128 == address))
+unfolding view_of
+view_of-reserved_Two s address e =
+    let valid : slice_index (take 8 (drop 128 s.bytes)) 4 ≡ slice_index s.bytes 132 = get_or-take 8 (drop 128 s.bytes) 4 0 (omega arith) ∙ get_or-drop 128 s.bytes 4 0 in
+    let number : word_at (take 8 (drop 128 s.bytes)) 0 ≡ word_at s.bytes 128 = ap number_of (take-take 4 8 (drop 128 s.bytes) (omega arith)) in
+    ap (λ (v : Version). let r = take (start_of v - 128) (drop 128 s.bytes) in (slice_index r 4 == 1) && (word_at r 0 == address)) e
+    ∙ ap (λ x. (x == 1) && (word_at (take 8 (drop 128 s.bytes)) 0 == address)) valid ∙ ap (λ x. (slice_index s.bytes 132 == 1) && (x == address)) number

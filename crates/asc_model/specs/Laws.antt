@@ -1,16 +1,17 @@
 -- The laws that tie states, their machines and their steps to one another.
-use Rattle.std.specs.Prelude.{◌≡◌, ℕ, ◌+◌, ◌<◌, true, [], All, AllPairs, length, ◌≢◌, slice_index}
+use Rattle.std.specs.Prelude.{◌≡◌, ℕ, ◌+◌, ◌<◌, true, false, Some, None, List, [], All, AllPairs, length, ◌≢◌, slice_index}
 use Rattle.asc_model.specs.declared.version.Version.{Version}
 use Rattle.asc_model.specs.declared.fault.Fault.{Fault}
 use Rattle.asc_model.specs.Shape.{Shape}
 use Rattle.asc_model.specs.State.{State, IsState}
 use Rattle.asc_model.specs.Machine.{Machine, IsMachine, view_of, state_of}
 use Rattle.asc_model.specs.Step.{At, Call, Bad, next}
-use Rattle.asc_model.specs.Instruction.{Row, fits, table}
+use Rattle.asc_model.specs.Instruction.{Row, fits, operands, table, decode}
 use Rattle.asc_model.specs.Places.{places_read, places_written, writes, bytes_after}
 use Rattle.asc_model.specs.Plain.{plain}
+use Rattle.asc_model.specs.Touched.{first_reads, written_in}
 
--- The machine of a state is one of its shape, and the state is the one of that machine: its machine determines it.
+-- The machine of a state is one of its shape, and the state is the one of that shape and machine: they determine it.
 abbrev pub ViewsDetermineStates : Type 0
 ViewsDetermineStates = (s : State) → IsState s
     → IsMachine s.shape (view_of s) × (state_of s.shape (view_of s) ≡ s)
@@ -21,19 +22,22 @@ StatesDetermineViews =
     (shape : Shape) (m : Machine) → IsMachine shape m
     → IsState (state_of shape m) × (view_of (state_of shape m) ≡ m)
 
+-- a place that is not one of these has the byte that it had
+abbrev pub KeepsOthers : List ℕ → (before after : State) → Type 0
+KeepsOthers places before after = (place : ℕ) → All (λ written. written ≢ place) places
+    → slice_index after.bytes place ≡ slice_index before.bytes place
+
 -- what the writes of a state's step come to, in each case of the step
 pub record WritesOfStep (s : State) : Type 0 where
   -- the next state is this one with the writes put into its bytes
   pub goes : (after : State) → next s ≡ At after → after ≡ record s { bytes = bytes_after s.bytes (writes s) }
   -- a place that is not written keeps its byte
-  pub others : (after : State) (place : ℕ) → next s ≡ At after
-      → All (λ written. written ≢ place) (places_written s)
-      → slice_index after.bytes place ≡ slice_index s.bytes place
+  pub others : (after : State) → next s ≡ At after → KeepsOthers (places_written s) s after
   -- a guest call and a fault write nothing
   pub calls : next s ≡ Call → writes s ≡ []
   pub fails : (fault : Fault) → next s ≡ Bad fault → writes s ≡ []
 
--- The machine is changed by what its step writes into the bytes, and by nothing else.
+-- A step changes the bytes of its state by what it writes, and by nothing else.
 abbrev pub StepWritesBytes : Type 0
 StepWritesBytes = (s : State) → IsState s → WritesOfStep s
 
@@ -66,3 +70,52 @@ ShareNoWord a b = (word : ℕ) → fits a.key word ≡ true → fits b.key word 
 -- No word is for two rows of a table, so its order is of no account.
 abbrev pub RowsDiffer : Type 0
 RowsDiffer = (version : Version) → AllPairs ShareNoWord (table version)
+
+-- A word that fits a row of the table decodes to that row's instruction, and one that fits none to none.
+pub record DecodesByRows (version : Version) : Type 0 where
+  pub some : All (λ row. (word : ℕ) → fits row.key word ≡ true
+      → decode version word ≡ Some (operands row.format row.op word)) (table version)
+  pub none : (word : ℕ) → All (λ row. fits row.key word ≡ false) (table version) → decode version word ≡ None
+
+abbrev pub DecodeIsTheTable : Type 0
+DecodeIsTheTable = (version : Version) → DecodesByRows version
+
+-- ---- frames
+
+-- each of these places has the same byte in both states
+abbrev pub AgreeOn : List ℕ → State → State → Type 0
+AgreeOn places s t = All (λ place. slice_index s.bytes place ≡ slice_index t.bytes place) places
+
+-- After steps that lead from s to after and from t to other: these have the same bytes on the places written, and each
+-- other place has the byte that it had before them.
+pub record GoesAlike (written : List ℕ) (s after t other : State) : Type 0 where
+  pub agree : AgreeOn written after other
+  pub kept : KeepsOthers written s after
+  pub other_kept : KeepsOthers written t other
+
+-- one step of two states alike: the same places are read, and the same bytes are written at the same places
+pub record StepsAlike (s t : State) : Type 0 where
+  pub read : places_read t ≡ places_read s
+  pub writes : writes t ≡ writes s
+  pub goes : (after : State) → next s ≡ At after
+      → (other : State) × (next t ≡ At other) × GoesAlike (places_written s) s after t other
+  pub calls : next s ≡ Call → next t ≡ Call
+  pub fails : (fault : Fault) → next s ≡ Bad fault → next t ≡ Bad fault
+
+-- States of one shape that agree on the places that a step of one reads step alike.
+abbrev pub OneStepFrame : Type 0
+OneStepFrame = (s t : State) → IsState s → IsState t → t.shape ≡ s.shape → AgreeOn (places_read s) s t
+    → StepsAlike s t
+
+-- n steps of two states alike: the same places are read first, and the same are written
+pub record PlainStepsAlike (n : ℕ) (s after t : State) : Type 0 where
+  pub other : State
+  pub goes : plain n t ≡ At other
+  pub alike : GoesAlike (written_in n s) s after t other
+  pub read : first_reads n t ≡ first_reads n s
+  pub written : written_in n t ≡ written_in n s
+
+-- States of one shape that agree on the places that n steps of one read first take these steps alike.
+abbrev pub ManyStepsFrame : Type 0
+ManyStepsFrame = (n : ℕ) (s after t : State) → IsState s → IsState t → t.shape ≡ s.shape → plain n s ≡ At after
+    → AgreeOn (first_reads n s) s t → PlainStepsAlike n s after t

@@ -2,9 +2,11 @@ pub mod Shape
 pub mod Number
 pub mod State
 pub mod Machine
+pub mod Arithmetic
 pub mod Instruction
 pub mod Effect
 pub mod Step
 pub mod Places
 pub mod Plain
+pub mod Touched
 pub mod Laws

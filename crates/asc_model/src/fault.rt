@@ -7,9 +7,9 @@ pub enum FaultKind {
     FetchOutside = 2,
     /// The word is no instruction of the machine's version. The value is the word.
     Illegal = 3,
-    /// A load reaches outside memory. The value is its address.
+    /// A load or a load-reserved reaches outside memory. The value is its address.
     LoadOutside = 4,
-    /// A store reaches outside memory. The value is its address.
+    /// A store, a store-conditional, also one that would fail, or an AMO reaches outside memory. The value is its address.
     StoreOutside = 5,
     /// EBREAK. The value is 0.
     Break = 6,
@@ -24,6 +24,6 @@ pub struct Fault {
     pub kind: FaultKind,
     /// The address of the instruction.
     pub pc: u32,
-    /// The address or the word that its kind speaks of.
+    /// The address or the word that its kind speaks of; 0 where it speaks of none.
     pub value: u32,
 }

@@ -1,9 +1,10 @@
 //! The laws that tie states, their machines and their steps to one another. Each function stands for the law that it
 //! ensures, and does nothing.
 
-ghost use Rattle.asc_model.specs.Laws.{ViewsDetermineStates, StatesDetermineViews, StepWritesBytes, StepsKeepStates, StepsTouchPlaces, PlainStepsJoin, PlainStepsKeepStates, RowsDiffer};
+ghost use Rattle.asc_model.specs.Laws.{ViewsDetermineStates, StatesDetermineViews, StepWritesBytes, StepsKeepStates, StepsTouchPlaces, PlainStepsJoin, PlainStepsKeepStates, RowsDiffer, DecodeIsTheTable, OneStepFrame, ManyStepsFrame};
 
-/// A state is known from its machine: turned into its machine and back, it is the same state.
+/// A state is known from its shape and its machine, which is one of that shape: turned into its machine and back, it is
+/// the same state.
 pub fn views_determine_states()
     ensures { ViewsDetermineStates }
 {}
@@ -44,4 +45,24 @@ pub fn plain_steps_keep_states()
 /// No word is for two rows of a version's instruction table. So it is the same which row is asked first.
 pub fn rows_differ()
     ensures { RowsDiffer }
+{}
+
+/// A word decodes to the instruction of the one row that is for it, and to none exactly where no row is.
+pub fn decode_is_the_table()
+    ensures { DecodeIsTheTable }
+{}
+
+/// Two states of one shape that agree on the places that a step of one of them reads step alike: both go on, both meet a
+/// guest call or both the same fault. They read the same places and write the same bytes to the same places, and every
+/// place that is not written keeps its byte.
+pub fn one_step_frame()
+    ensures { OneStepFrame }
+{}
+
+/// Where `n` plain steps of a state reach another, and a second state of the same shape agrees with the first one on the
+/// places that these steps read first, `n` plain steps of the second one reach a state too. It has the same bytes on the
+/// places written, and every other place keeps its byte. These steps read first and write the same places as the first
+/// state's.
+pub fn many_steps_frame()
+    ensures { ManyStepsFrame }
 {}

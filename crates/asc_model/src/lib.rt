@@ -13,8 +13,9 @@ mod version;
 pub use fault::{Fault, FaultKind};
 pub use instruction::{Instr, Op};
 pub use laws::{
-    plain_steps_join, plain_steps_keep_states, rows_differ, states_determine_views,
-    step_writes_bytes, steps_keep_states, steps_touch_places, views_determine_states,
+    decode_is_the_table, many_steps_frame, one_step_frame, plain_steps_join,
+    plain_steps_keep_states, rows_differ, states_determine_views, step_writes_bytes,
+    steps_keep_states, steps_touch_places, views_determine_states,
 };
 pub use status::Status;
 pub use version::Version;

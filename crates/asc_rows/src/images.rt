@@ -39,3 +39,18 @@ pub(crate) fn put_word(file: &mut Vec<u8>, at: usize, word: u32) {
         *byte = new;
     }
 }
+
+/// The smallest executable around these words, which are loaded and entered at 0x10000.
+pub(crate) fn wrap(alloc: Global, words: &[u32]) -> Result<Vec<u8>, AllocError> {
+    let mut file = FIRST.to_vec(alloc)?;
+    file.truncate(CODE);
+    let mut size: u32 = 0;
+    for word in words {
+        file.extend_from_slice(&word.to_le_bytes())?;
+        size = size.wrapping_add(4);
+    }
+    // The sizes of the segment in the file and in memory.
+    put_word(&mut file, HEADER + 16, size);
+    put_word(&mut file, HEADER + 20, size);
+    Ok(file)
+}

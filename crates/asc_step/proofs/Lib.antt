@@ -1,4 +1,4 @@
-pub mod Words
-pub mod Rows
+pub mod Products
 pub mod Touches
+pub mod Effects
 pub mod Steps

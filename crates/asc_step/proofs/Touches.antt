@@ -1,18 +1,21 @@
 -- Lemmas on the places that registers and effects touch.
-use Rattle.std.proofs.Common.{◌≡◌, ℕ, zero, suc, ◌+◌, ◌*◌, ◌<◌, ◌≤◌, List, [], ◌∷◌, ◌++◌, length, refl, sym, ap, ◌∙◌, arith, append-nil}
+use Rattle.std.proofs.Common.{◌≡◌, ℕ, ◌+◌, ◌*◌, ◌<◌, ◌≤◌, Bool, true, false, ◌&&◌, ◌==◌, List, [], ◌∷◌, ◌++◌, length, slice_index, refl, sym, ap, ◌∙◌, arith}
+use Rattle.std.specs.Prelude.{bit_and}
+use Rattle.std.proofs.lemmas.Nat.{and_mask}
+use Rattle.std.proofs.lemmas.Bool.{eqb-true}
 use Rattle.asc_model.specs.declared.instruction.Instr.{Instr}
 use Rattle.asc_model.specs.declared.instruction.Op.{Op}
-use Rattle.asc_model.specs.Shape.{Shape}
-use Rattle.asc_model.specs.Number.{bytes_of, word_at}
+use Rattle.asc_model.specs.Number.{bytes_of, number_at, word_at}
 use Rattle.asc_model.specs.State.{State}
-use Rattle.asc_model.specs.Machine.{Machine, Pc, Register, register, view_of}
+use Rattle.asc_model.specs.declared.version.Version.TheVariants.{Two}
+use Rattle.asc_model.specs.Machine.{register, is_reserved, view_of}
 use Rattle.asc_model.specs.Instruction.{op_of, rd_of, rs1_of, rs2_of, imm_of}
-use Rattle.asc_model.specs.Effect.{Effect, effect, ◌+w◌}
-use Rattle.asc_model.specs.Step.{Goes, outcome_of, effect_of}
-use Rattle.asc_model.specs.Places.{places_from, cells, cells_of, cells_of_outcome, register_places, data_places}
-use Rattle.asc_model.proofs.Numbers.{length-bytes_after}
-use Rattle.asc_model.proofs.Views.{view_of-register}
-use Rattle.asc_shape.specs.Face.{Face, Marks, face_after_reads, face_after_puts, untouched_count}
+use Rattle.asc_model.specs.Effect.{Effect, effect}
+use Rattle.asc_model.specs.Step.{outcome_of, effect_of}
+use Rattle.asc_model.specs.Places.{places_from, cells, cells_of_outcome, register_places, data_places}
+use Rattle.asc_model.proofs.Numbers.{length-bytes_after, number_at-suc}
+use Rattle.asc_model.proofs.Views.{view_of-register, view_of-reserved_Two}
+use Rattle.asc_shape.specs.Face.{Face, Marks, face_after_read, face_after_put, face_after_reads, face_after_puts, untouched_count}
 use Rattle.asc_shape.proofs.Faces.{untouched_count-le-length, state-reads, state-puts, face_after_reads-append, face_after_puts-append}
 
 -- no place read
@@ -47,26 +50,6 @@ length_after_puts f g list e =
 -- the value of a register that is not x0
 pub register_read : (s : State) (k : ℕ) → (k ≡ 0 → ⊥) → k < 32 → register (view_of s) k ≡ word_at s.bytes (4 * k)
 register_read s k h below = view_of-register s k (omega arith) (omega arith)
-
--- the same in every shape
-cells_of-register_shape : (a b : Shape) (k value : ℕ) → cells_of a (Register k value) ≡ cells_of b (Register k value)
-cells_of-register_shape a b zero value = refl
-cells_of-register_shape a b (suc k) value = refl
-
--- the new pc and then the destination are put
-pub finish_set : (f0 f1 g : Face) (m : Machine) (pc rd value : ℕ) → pc ≡ m.pc → f1 ≡ face_after_puts f0 (cells 0 (bytes_of 4 (pc +w 4)))
-    → g ≡ face_after_puts f1 (cells_of f1.state.shape (Register rd value))
-    → g ≡ face_after_puts (face_after_reads f0 []) (cells_of_outcome f0.state.shape (Goes (Pc (m.pc +w 4) ∷ Register rd value ∷ [])))
-finish_set f0 f1 g m pc rd value p e1 e2 =
-    let pcs = cells 0 (bytes_of 4 (m.pc +w 4)) in
-    let first : f1 ≡ face_after_puts f0 pcs = e1 ∙ ap (λ n. face_after_puts f0 (cells 0 (bytes_of 4 (n +w 4)))) p in
-    let register = cells_of f0.state.shape (Register rd value) in
-    e2
-    ∙ ap (face_after_puts f1) (cells_of-register_shape f1.state.shape f0.state.shape rd value)
-    ∙ ap (λ (face : Face). face_after_puts face register) first
-    ∙ sym (face_after_puts-append f0 pcs register)
-    ∙ ap (λ list. face_after_puts f0 (pcs ++ list)) (sym (append-nil register))
-    ∙ ap (λ (face : Face). face_after_puts face (pcs ++ (register ++ []))) (sym (face_after_reads-nil f0))
 
 -- the source registers are read, and the rest follows
 execute_face_at : (f0 f1 f2 g : Face) (i : Instr) (e : Effect) → f1 ≡ face_after_reads f0 (register_places (rs1_of i)) → f2 ≡ face_after_reads f1 (register_places (rs2_of i))
@@ -113,3 +96,75 @@ execute_face f0 f1 f2 g i e op pc a b rd rs1 rs2 immediate parts p va vb e1 e2 e
     execute_face_at f0 f1 f2 g i e
     (e1 ∙ ap (λ k. face_after_reads f0 (register_places k)) parts.rs1) (e2 ∙ ap (λ k. face_after_reads f1 (register_places k)) parts.rs2) whole
     (e4 ∙ ap (λ k. face_after_puts (face_after_reads f2 (data_places f2.state.shape e)) (cells_of_outcome f2.state.shape (outcome_of f2.state.shape (view_of f2.state) k e))) parts.rd)
+
+-- ---- one or two bytes
+
+pub reads_one : (f g : Face) (place : ℕ) → g ≡ face_after_read f place → g ≡ face_after_reads f (place ∷ [])
+unfolding face_after_reads
+reads_one f g place e = e
+
+pub reads_two : (f f1 g : Face) (place : ℕ) → f1 ≡ face_after_read f place → g ≡ face_after_read f1 (place + 1) → g ≡ face_after_reads f (place ∷ (place + 1) ∷ [])
+unfolding face_after_reads
+reads_two f f1 g place e1 e2 = e2 ∙ ap (λ (x : Face). face_after_read x (place + 1)) e1
+
+pub puts_one_byte : (f g : Face) (place value : ℕ) → g ≡ face_after_put f place value → g ≡ face_after_puts f ((place, value) ∷ [])
+unfolding face_after_puts
+puts_one_byte f g place value e = e
+
+pub puts_two_bytes : (f f1 g : Face) (place low high : ℕ) → f1 ≡ face_after_put f place low → g ≡ face_after_put f1 (place + 1) high
+    → g ≡ face_after_puts f ((place, low) ∷ (place + 1, high) ∷ [])
+unfolding face_after_puts
+puts_two_bytes f f1 g place low high e1 e2 = e2 ∙ ap (λ (x : Face). face_after_put x (place + 1) high) e1
+
+-- a place takes room for one
+pub room_byte : (before now place : ℕ) (marks : Marks) → before ≤ now + untouched_count marks (place ∷ []) → before ≤ now + 1
+room_byte before now place marks h = omega (arith, untouched_count-le-length marks (place ∷ []))
+
+-- the number in one byte and in two
+pub number_at-one : (bytes : List ℕ) (place : ℕ) → number_at 1 bytes place ≡ slice_index bytes place
+number_at-one bytes place = number_at-suc 0 bytes place ∙ (let e : number_at 0 bytes (place + 1) ≡ 0 = refl in omega (arith, e))
+
+pub number_at-two : (bytes : List ℕ) (place : ℕ) → number_at 2 bytes place ≡ slice_index bytes place + slice_index bytes (place + 1) * 256
+number_at-two bytes place = omega (arith, number_at-suc 1 bytes place, number_at-one bytes (place + 1))
+
+-- the lowest two bytes of a word
+pub puts_half : (f f1 g : Face) (place value : ℕ) (list : List ℕ) → list ≡ bytes_of 4 value → f1 ≡ face_after_put f place (slice_index list 0)
+    → g ≡ face_after_put f1 (place + 1) (slice_index list 1) → g ≡ face_after_puts f (cells place (bytes_of 2 value))
+puts_half f f1 g place value list e e1 e2 =
+    puts_two_bytes f f1 g place _ _ (e1 ∙ ap (λ (l : List ℕ). face_after_put f place (slice_index l 0)) e)
+    (e2 ∙ ap (λ (l : List ℕ). face_after_put f1 (place + 1) (slice_index l 1)) e)
+
+-- the lowest byte of a word
+pub puts_lowest : (f g : Face) (place value : ℕ) → g ≡ face_after_put f place (bit_and value 255) → g ≡ face_after_puts f (cells place (bytes_of 1 value))
+puts_lowest f g place value e = puts_one_byte f g place _ (e ∙ ap (face_after_put f place) (and_mask value 8))
+
+-- a word and a byte behind it
+pub reads_word_and_byte : (f f1 g : Face) (place : ℕ) → f1 ≡ face_after_reads f (places_from place 4) → g ≡ face_after_read f1 (place + 4) → g ≡ face_after_reads f (places_from place 4 ++ (place + 4) ∷ [])
+reads_word_and_byte f f1 g place e1 e2 =
+    reads_one f1 g (place + 4) e2 ∙ ap (λ (x : Face). face_after_reads x ((place + 4) ∷ [])) e1 ∙ sym (face_after_reads-append f (places_from place 4) ((place + 4) ∷ []))
+
+pub puts_word_and_byte : (f f1 g : Face) (place word byte : ℕ) → f1 ≡ face_after_puts f (cells place (bytes_of 4 word)) → g ≡ face_after_put f1 (place + 4) byte
+    → g ≡ face_after_puts f (cells place (bytes_of 4 word) ++ (place + 4, byte) ∷ [])
+puts_word_and_byte f f1 g place word byte e1 e2 =
+    puts_one_byte f1 g (place + 4) byte e2 ∙ ap (λ (x : Face). face_after_puts x ((place + 4, byte) ∷ [])) e1
+    ∙ sym (face_after_puts-append f (cells place (bytes_of 4 word)) ((place + 4, byte) ∷ []))
+
+-- ---- the reservation
+
+-- the code's test of it, from what it has read
+pub reserved_by_bytes : (s s1 : State) (address word valid : ℕ) → s.shape.version ≡ Two → word ≡ word_at s.bytes 128 → s1 ≡ s → valid ≡ slice_index s1.bytes 132
+    → (valid == 1) && (word == address) ≡ is_reserved (view_of s) address
+reserved_by_bytes s s1 address word valid e w same v =
+    ap (λ x. (x == 1) && (word == address)) (v ∙ ap (λ (t : State). slice_index t.bytes 132) same)
+    ∙ ap (λ x. (slice_index s.bytes 132 == 1) && (x == address)) w ∙ sym (view_of-reserved_Two s address e)
+
+-- the same where the byte says so, and where it doesn't
+pub reserved_if_valid : (valid : ℕ) (x r : Bool) → valid ≡ 1 → (valid == 1) && x ≡ r → x ≡ r
+reserved_if_valid valid x r e h = ap (λ v. (v == 1) && x) (sym e) ∙ h
+
+pub reserved_unless_valid : (valid : ℕ) (x r : Bool) → (valid ≡ 1 → ⊥) → (valid == 1) && x ≡ r → (valid == 1) ≡ r
+reserved_unless_valid valid x r apart h = by_test (valid == 1) x (λ e. apart (eqb-true valid 1 e)) ∙ h
+  where
+    by_test : (test x : Bool) → (test ≡ true → ⊥) → test ≡ test && x
+    by_test true x other = absurd (other refl)
+    by_test false x other = refl

@@ -1,24 +1,31 @@
 -- What carrying out an instruction comes to.
-use Rattle.std.specs.Prelude.{ℕ, ◌<◌, not, List, Option, Some, None, if◌then◌else◌}
+use Rattle.std.specs.Prelude.{◌≡◌, ℕ, not, List, Option, Some, None, if◌then◌else◌}
+use Rattle.std.specs.List.{flat_map}
 use Rattle.asc_model.specs.declared.fault.FaultKind.{FaultKind}
-use Rattle.asc_model.specs.declared.fault.FaultKind.TheVariants.{Misaligned, FetchOutside}
-use Rattle.asc_model.specs.declared.instruction.Instr.{Instr}
+use Rattle.asc_model.specs.declared.fault.FaultKind.TheVariants.{Misaligned, FetchOutside, AtomicMisaligned}
+use Rattle.asc_model.specs.declared.version.Version.{Version}
+use Rattle.asc_model.specs.declared.version.Version.TheVariants.{Two}
 use Rattle.asc_model.specs.Shape.{Shape, holds}
-use Rattle.asc_model.specs.Instruction.{rd_of, rs1_of, rs2_of}
-use Rattle.asc_model.specs.Effect.{Effect, Set, GuestCall}
-use Rattle.asc_model.specs.Step.{Outcome, Goes, Calls, Fails, is_aligned}
-use Rattle.asc_model.specs.Places.{cells_of_outcome}
-use Rattle.asc_shape.specs.Face.{Face, face_after_reads, face_after_puts}
+use Rattle.asc_model.specs.State.{IsState}
+use Rattle.asc_model.specs.Machine.{Change, view_of}
+use Rattle.asc_model.specs.Effect.{Effect, Set, Load, Store, Jump, LoadReserved, StoreConditional, Modify, GuestCall, Breakpoint}
+use Rattle.asc_model.specs.Step.{Outcome, Goes, Calls, Fails, is_aligned, outcome_of}
+use Rattle.asc_model.specs.Places.{places_from, data_places, cells_of, cells_of_outcome}
+use Rattle.asc_shape.specs.Face.{Face, face_after_reads, face_after_puts, untouched_count}
 use Rattle.asc_step.specs.declared.stepped.Stepped.{Stepped}
 use Rattle.asc_step.specs.declared.stepped.Stepped.TheVariants as answers
-use Rattle.asc_step.specs.declared.effect.Effect as code
-use Rattle.asc_step.specs.declared.effect.Effect.TheVariants as codes
 
 -- why the word at a pc cannot be fetched: the pc is tested first
 abbrev pub fetch_fault : Shape → ℕ → Option FaultKind
 fetch_fault shape pc =
     if not (is_aligned pc) then Some Misaligned
     else (if not (holds shape pc 4) then Some FetchOutside else None)
+
+-- why an atomic cannot act on the word at an address: its alignment is tested first
+abbrev pub atomic_fault : Shape → (outside : FaultKind) → ℕ → Option FaultKind
+atomic_fault shape outside address =
+    if not (is_aligned address) then Some AtomicMisaligned
+    else (if not (holds shape address 4) then Some outside else None)
 
 -- the answer of an outcome
 abbrev pub answer_of : Outcome → Stepped
@@ -31,13 +38,31 @@ abbrev pub face_after_outcome : Face → List ℕ → Outcome → Face
 face_after_outcome f places outcome =
     face_after_puts (face_after_reads f places) (cells_of_outcome f.state.shape outcome)
 
--- the effect that the code's word for it means
-abbrev pub model_effect : code.Effect → Effect
-model_effect (codes.Set value) = Set value
-model_effect codes.Call = GuestCall
+-- from one face to the other, changes of the machine were put, the first one first
+abbrev pub Puts : Face → Face → List Change → Type 0
+Puts f g list = g ≡ face_after_puts f (flat_map (cells_of f.state.shape) list)
 
--- its registers are registers
-pub record HasRegisters (i : Instr) : Type 0 where
-  pub rd : rd_of i < 32
-  pub rs1 : rs1_of i < 32
-  pub rs2 : rs2_of i < 32
+-- the reservation is of version Two
+abbrev pub IsOfVersion : Version → Effect → Type 0
+IsOfVersion version (StoreConditional address value) = version ≡ Two
+IsOfVersion version (LoadReserved address) = Unit {0}
+IsOfVersion version (Modify address change) = Unit {0}
+IsOfVersion version (Set value) = Unit {0}
+IsOfVersion version (Load n signed address) = Unit {0}
+IsOfVersion version (Store n address value) = Unit {0}
+IsOfVersion version (Jump target) = Unit {0}
+IsOfVersion version GuestCall = Unit {0}
+IsOfVersion version Breakpoint = Unit {0}
+
+-- An instruction at this pc was fetched: the face is a state's, and the places of the pc are touched.
+pub record AtInstruction (f : Face) (at : ℕ) : Type 0 where
+  pub state : IsState f.state
+  pub pc : at ≡ (view_of f.state).pc
+  pub touched : untouched_count f.marks (places_from 0 4) ≡ 0
+
+-- From one face to the other, an effect was carried out, and this was answered: all that it reads was read, and then
+-- what it comes to was put.
+pub record Finishes (f g : Face) (rd : ℕ) (effect : Effect) (answered : Stepped) : Type 0 where
+  pub answer : answered ≡ answer_of (outcome_of f.state.shape (view_of f.state) rd effect)
+  pub face : g ≡ face_after_outcome f (data_places f.state.shape effect)
+      (outcome_of f.state.shape (view_of f.state) rd effect)

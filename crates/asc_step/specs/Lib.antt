@@ -1,3 +1,3 @@
-pub mod Rows
+pub mod Effect
 pub mod Step
 pub mod Execute

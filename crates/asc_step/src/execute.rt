@@ -1,16 +1,17 @@
 //! Carrying out an instruction.
-ghost use Rattle.std.specs.Prelude.{◌≡◌, ◌+◌, ◌<◌, ◌≤◌, Some};
-ghost use Rattle.asc_model.specs.State.{IsState};
+ghost use Rattle.std.specs.Prelude.{◌≡◌, ◌+◌, ◌≤◌, Some};
 ghost use Rattle.asc_model.specs.Machine.{view_of};
 ghost use Rattle.asc_model.specs.Instruction.{op_of, rd_of, rs1_of, rs2_of, imm_of};
-ghost use Rattle.asc_model.specs.Places.{operand_places, data_places};
-ghost use Rattle.asc_model.specs.Step.{outcome_of_word, outcome_of};
-ghost use Rattle.asc_step.specs.Execute.{HasRegisters, answer_of, face_after_outcome, model_effect};
+ghost use Rattle.asc_model.specs.Places.{operand_places};
+ghost use Rattle.asc_model.specs.Step.{effect_of, outcome_of_word};
+ghost use Rattle.asc_isa.specs.Decode.{HasRegisters};
+ghost use Rattle.asc_step.specs.Execute.{AtInstruction, IsOfVersion, answer_of, face_after_outcome};
 
 use crate::Stepped;
-use crate::effect::{Effect, Operands, effect_of};
-use crate::places::{register, set_register};
-use asc_model::{Instr, Op};
+use crate::effect::{Operands, effect_of};
+use crate::finish::finish;
+use crate::places::register;
+use asc_isa::{Instr, Op};
 use asc_shape::Bytes;
 
 /// An instruction's operation, registers and immediate. What its format lacks is 0.
@@ -31,63 +32,39 @@ fn split(instruction: Instr) -> Parts
     ensures rs2 { result.rs2 ≡ rs2_of instruction }
     ensures immediate { result.immediate ≡ imm_of instruction }
 {
+    let parts = |op, rd, rs1, rs2, immediate| Parts {
+        op,
+        rd,
+        rs1,
+        rs2,
+        immediate,
+    };
     match instruction {
-        Instr::I { op, rd, rs1, imm } => Parts {
-            op,
-            rd,
-            rs1,
-            rs2: 0,
-            immediate: imm,
-        },
-        Instr::Plain { op } => Parts {
-            op,
-            rd: 0,
-            rs1: 0,
-            rs2: 0,
-            immediate: 0,
-        },
-    }
-}
-
-/// Does what an effect asks for: all reads first, and then the new pc and the destination.
-#[inline]
-fn finish<B: Bytes>(bytes: &mut B, pc: u32, rd: u8, effect: Effect) -> Stepped
-    requires rd { rd < 32 }
-    requires state { IsState (B.face bytes.old).state }
-    requires pc { pc ≡ (view_of (B.face bytes.old).state).pc }
-    requires room { 8 ≤ B.room bytes.old }
-    ensures answer { let s = (B.face bytes.old).state in
-        result ≡ answer_of (outcome_of s.shape (view_of s) rd (model_effect effect)) }
-    ensures face { let s = (B.face bytes.old).state in
-        B.face bytes.new ≡ face_after_outcome (B.face bytes.old)
-        (data_places s.shape (model_effect effect))
-        (outcome_of s.shape (view_of s) rd (model_effect effect)) }
-    ensures room { B.room bytes.old ≤ B.room bytes.new + 8 }
-{
-    match effect {
-        Effect::Set(value) => {
-            bytes.put_word(0, pc.wrapping_add(4));
-            set_register(bytes, rd, value);
-            Stepped::Went
+        Instr::U { op, rd, imm } | Instr::J { op, rd, imm } => parts(op, rd, 0, 0, imm),
+        Instr::I { op, rd, rs1, imm } => parts(op, rd, rs1, 0, imm),
+        Instr::S { op, rs1, rs2, imm } | Instr::B { op, rs1, rs2, imm } => {
+            parts(op, 0, rs1, rs2, imm)
         }
-        Effect::Call => Stepped::Call,
+        Instr::R { op, rd, rs1, rs2 } => parts(op, rd, rs1, rs2, 0),
+        Instr::Plain { op } => parts(op, 0, 0, 0, 0),
     }
 }
 
-/// Carries out an instruction at this pc.
+/// Carries out the instruction at this pc.
 #[inline]
 pub(crate) fn execute<B: Bytes>(bytes: &mut B, pc: u32, instruction: Instr) -> Stepped
     requires registers { HasRegisters instruction }
-    requires state { IsState (B.face bytes.old).state }
-    requires pc { pc ≡ (view_of (B.face bytes.old).state).pc }
-    requires room { 16 ≤ B.room bytes.old }
+    requires at { AtInstruction (B.face bytes.old) pc }
+    requires version { let s = (B.face bytes.old).state in
+        IsOfVersion s.shape.version (effect_of (view_of s) instruction) }
+    requires room { 22 ≤ B.room bytes.old }
     ensures answer { let s = (B.face bytes.old).state in
         result ≡ answer_of (outcome_of_word s.shape (view_of s) (Some instruction)) }
     ensures face { let s = (B.face bytes.old).state in
         B.face bytes.new ≡ face_after_outcome (B.face bytes.old)
         (operand_places s.shape (view_of s) (Some instruction))
         (outcome_of_word s.shape (view_of s) (Some instruction)) }
-    ensures room { B.room bytes.old ≤ B.room bytes.new + 16 }
+    ensures room { B.room bytes.old ≤ B.room bytes.new + 22 }
 {
     let Parts {
         op,

@@ -1,10 +1,10 @@
 //! One step of the machine, over any state that code reads and writes through `Bytes`.
 #![tactic(auto)]
 
-mod decode;
+mod arithmetic;
 mod effect;
 mod execute;
-mod fields;
+mod finish;
 mod places;
 mod stepped;
 mod stepping;

@@ -1,10 +1,15 @@
-//! Words of a state, by their places.
-ghost use Rattle.std.specs.Prelude.{◌≡◌, ◌+◌, ◌<◌, ◌≤◌, length};
-ghost use Rattle.asc_model.specs.Number.{word_at};
-ghost use Rattle.asc_model.specs.Machine.{register, view_of, Register};
-ghost use Rattle.asc_model.specs.Places.{places_from, register_places, cells_of};
-ghost use Rattle.asc_shape.specs.Face.{face_after_reads, face_after_puts};
+//! Registers and memory of a state, by their places.
+ghost use Rattle.std.specs.Prelude.{◌≡◌, ◌+◌, ◌*◌, ◌^◌, ◌<◌, ◌≤◌, [], ◌∷◌, length};
+ghost use Rattle.asc_model.specs.Number.{bytes_of, number_at, word_at};
+ghost use Rattle.asc_model.specs.State.{IsState};
+ghost use Rattle.asc_model.specs.Machine.{register, is_reserved, view_of, reserve, release, Pc, Register};
+ghost use Rattle.asc_model.specs.Places.{places_from, register_places, reservation_places, cells};
+ghost use Rattle.asc_shape.specs.Face.{face_after_reads, face_after_puts, untouched_count};
+ghost use Rattle.asc_model.specs.declared.version.Version.TheVariants.{Two};
+ghost use Rattle.asc_step.specs.Effect.{bytes_in};
+ghost use Rattle.asc_step.specs.Execute.{Puts};
 
+use crate::effect::Size;
 use asc_shape::Bytes;
 
 /// The word in the four bytes from a place on.
@@ -18,6 +23,71 @@ pub(crate) fn read_word<B: Bytes>(bytes: &mut B, place: u32) -> u32
     ensures room { B.room bytes.old ≤ B.room bytes.new + 4 }
 {
     bytes.get_word(place)
+}
+
+/// The number in as many bytes from a place on as the size says.
+#[inline]
+pub(crate) fn read_number<B: Bytes>(bytes: &mut B, place: u32, size: Size) -> u32
+    requires place { place + bytes_in size ≤ length (B.face bytes.old).state.bytes }
+    requires room { 4 ≤ B.room bytes.old }
+    ensures value { result ≡ number_at (bytes_in size) (B.face bytes.old).state.bytes place }
+    ensures bound { result < 2 ^ (8 * bytes_in size) }
+    ensures state { (B.face bytes.new).state ≡ (B.face bytes.old).state }
+    ensures face { B.face bytes.new ≡ face_after_reads (B.face bytes.old) (places_from place (bytes_in size)) }
+    ensures room { B.room bytes.old ≤ B.room bytes.new + 4 }
+{
+    match size {
+        Size::Byte => u32::from(bytes.get(place)),
+        Size::Half => read_half(bytes, place),
+        Size::Word => read_word(bytes, place),
+    }
+}
+
+/// The number in two bytes from a place on.
+#[inline]
+fn read_half<B: Bytes>(bytes: &mut B, place: u32) -> u32
+    requires place { place + 2 ≤ length (B.face bytes.old).state.bytes }
+    requires room { 4 ≤ B.room bytes.old }
+    ensures value { result ≡ number_at 2 (B.face bytes.old).state.bytes place }
+    ensures bound { result < 2 ^ 16 }
+    ensures state { (B.face bytes.new).state ≡ (B.face bytes.old).state }
+    ensures face { B.face bytes.new ≡ face_after_reads (B.face bytes.old) (places_from place 2) }
+    ensures room { B.room bytes.old ≤ B.room bytes.new + 4 }
+{
+    // Its shape bounds the places of a state, so that the sum below fits.
+    let _ = bytes.shape();
+    u32::from(u16::from_le_bytes([bytes.get(place), bytes.get(place + 1)]))
+}
+
+/// Puts the lowest bytes of a number from a place on, as many as the size says.
+#[inline]
+pub(crate) fn put_number<B: Bytes>(bytes: &mut B, place: u32, size: Size, value: u32)
+    requires place { place + bytes_in size ≤ length (B.face bytes.old).state.bytes }
+    requires room { 4 ≤ B.room bytes.old }
+    ensures face { B.face bytes.new ≡ face_after_puts (B.face bytes.old)
+        (cells place (bytes_of (bytes_in size) value)) }
+    ensures room { B.room bytes.old ≤ B.room bytes.new + 4 }
+{
+    match size {
+        Size::Byte => bytes.put(place, (value & 0xFF) as u8),
+        Size::Half => put_half(bytes, place, value),
+        Size::Word => bytes.put_word(place, value),
+    }
+}
+
+/// Puts the lowest two bytes of a number from a place on.
+#[inline]
+fn put_half<B: Bytes>(bytes: &mut B, place: u32, value: u32)
+    requires place { place + 2 ≤ length (B.face bytes.old).state.bytes }
+    requires room { 4 ≤ B.room bytes.old }
+    ensures face { B.face bytes.new ≡ face_after_puts (B.face bytes.old) (cells place (bytes_of 2 value)) }
+    ensures room { B.room bytes.old ≤ B.room bytes.new + 4 }
+{
+    // Its shape bounds the places of a state, so that the sum below fits.
+    let _ = bytes.shape();
+    let [low, high, _, _] = value.to_le_bytes();
+    bytes.put(place, low);
+    bytes.put(place + 1, high);
 }
 
 /// x\[k\]. Register 0 is 0, and no place is read for it.
@@ -39,6 +109,18 @@ pub(crate) fn register<B: Bytes>(bytes: &mut B, k: u8) -> u32
     }
 }
 
+/// Sets the pc. Where its places are touched it takes no room.
+#[inline]
+pub(crate) fn set_pc<B: Bytes>(bytes: &mut B, value: u32)
+    requires length { 128 ≤ length (B.face bytes.old).state.bytes }
+    requires room { 4 ≤ B.room bytes.old }
+    ensures face { Puts (B.face bytes.old) (B.face bytes.new) (Pc value ∷ []) }
+    ensures room { B.room bytes.old
+        ≤ B.room bytes.new + untouched_count (B.face bytes.old).marks (places_from 0 4) }
+{
+    bytes.put_word(0, value);
+}
+
 /// Sets x\[k\]. Setting register 0 changes nothing.
 #[inline]
 #[tactic(auto, using(crate::proofs::Touches::puts_none))]
@@ -46,11 +128,55 @@ pub(crate) fn set_register<B: Bytes>(bytes: &mut B, k: u8, value: u32)
     requires k { k < 32 }
     requires length { 128 ≤ length (B.face bytes.old).state.bytes }
     requires room { 4 ≤ B.room bytes.old }
-    ensures face { let f = B.face bytes.old in
-        B.face bytes.new ≡ face_after_puts f (cells_of f.state.shape (Register k value)) }
+    ensures face { Puts (B.face bytes.old) (B.face bytes.new) (Register k value ∷ []) }
     ensures room { B.room bytes.old ≤ B.room bytes.new + 4 }
 {
     if k != 0 {
         bytes.put_word(4 * u32::from(k), value);
     }
+}
+
+/// The place of the reserved address.
+const RESERVED: u32 = 128;
+
+/// The place of the byte that is 1 where an address is reserved.
+const VALID: u32 = 132;
+
+/// Whether an address is reserved, in version Two.
+#[inline]
+pub(crate) fn is_reserved<B: Bytes>(bytes: &mut B, address: u32) -> bool
+    requires version { (B.face bytes.old).state.shape.version ≡ Two }
+    requires length { 136 ≤ length (B.face bytes.old).state.bytes }
+    requires room { 5 ≤ B.room bytes.old }
+    ensures value { result ≡ is_reserved (view_of (B.face bytes.old).state) address }
+    ensures state { (B.face bytes.new).state ≡ (B.face bytes.old).state }
+    ensures face { B.face bytes.new ≡ face_after_reads (B.face bytes.old) reservation_places }
+    ensures room { B.room bytes.old ≤ B.room bytes.new + 5 }
+{
+    let reserved = read_word(bytes, RESERVED);
+    let valid = bytes.get(VALID);
+    valid == 1 && reserved == address
+}
+
+/// Reserves an address.
+#[inline]
+pub(crate) fn reserve<B: Bytes>(bytes: &mut B, address: u32)
+    requires length { 136 ≤ length (B.face bytes.old).state.bytes }
+    requires room { 5 ≤ B.room bytes.old }
+    ensures face { Puts (B.face bytes.old) (B.face bytes.new) (reserve address ∷ []) }
+    ensures room { B.room bytes.old ≤ B.room bytes.new + 5 }
+{
+    bytes.put_word(RESERVED, address);
+    bytes.put(VALID, 1);
+}
+
+/// Gives up what is reserved.
+#[inline]
+pub(crate) fn release<B: Bytes>(bytes: &mut B)
+    requires length { 136 ≤ length (B.face bytes.old).state.bytes }
+    requires room { 1 ≤ B.room bytes.old }
+    ensures face { Puts (B.face bytes.old) (B.face bytes.new) (release ∷ []) }
+    ensures room { B.room bytes.old ≤ B.room bytes.new + 1 }
+{
+    bytes.put(VALID, 0);
 }

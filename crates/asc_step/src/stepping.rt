@@ -1,14 +1,16 @@
 //! One step of the machine.
 ghost use Rattle.std.specs.Prelude.{◌≡◌, ◌+◌, ◌≤◌};
 ghost use Rattle.asc_model.specs.Step.{next};
+ghost use Rattle.asc_isa.specs.Decode.{version_of};
 ghost use Rattle.asc_step.specs.Execute.{fetch_fault};
 ghost use Rattle.asc_step.specs.Step.{stepped_of, state_after_step, face_after, counted_steps};
 
-use crate::decode::decode;
 use crate::execute::execute;
+use crate::finish::{fault, is_aligned};
 use crate::places::read_word;
-use crate::{Fault, FaultKind, Stepped};
-use asc_shape::{Bytes, Shape, Steps};
+use crate::{FaultKind, Stepped};
+use asc_isa::decode;
+use asc_shape::{Bytes, Shape, Steps, Version};
 use std::sync::ledger::Ledger;
 
 /// Takes one step, where the program goes on: the instruction at the pc is fetched, decoded and carried out.
@@ -33,7 +35,7 @@ pub fn try_step<B: Bytes>(bytes: &mut B) -> Stepped
         return fault(kind, pc, pc);
     }
     let word = read_word(bytes, shape.place_of(pc));
-    match decode(word, shape.version()) {
+    match decode(word, has_atomics(shape.version())) {
         Some(instruction) => execute(bytes, pc, instruction),
         None => fault(FaultKind::Illegal, pc, word),
     }
@@ -57,22 +59,27 @@ pub fn step<B: Bytes, L: Ledger>(bytes: &mut B, steps: &mut Steps<L>) -> Stepped
     stepped
 }
 
+/// Whether a version of the machine has RV32A.
+#[inline]
+fn has_atomics(version: Version) -> bool
+    ensures { version_of result ≡ version }
+{
+    match version {
+        Version::One => false,
+        Version::Two => true,
+    }
+}
+
 /// Why the word at this pc cannot be fetched. The pc is tested first.
 #[inline]
 fn fetch_fault(shape: Shape, pc: u32) -> Option<FaultKind>
     ensures { result ≡ fetch_fault shape pc }
 {
-    if !pc.is_multiple_of(4) {
+    if !is_aligned(pc) {
         return Some(FaultKind::Misaligned);
     }
     if !shape.holds(pc, 4) {
         return Some(FaultKind::FetchOutside);
     }
     None
-}
-
-fn fault(kind: FaultKind, pc: u32, value: u32) -> Stepped
-    ensures { result ≡ Stepped.Fault (record { kind = kind; pc = pc; value = value }) }
-{
-    Stepped::Fault(Fault { kind, pc, value })
 }

@@ -1,8 +1,7 @@
-use Rattle.std.proofs.Common.{ap, sym, ◌∙◌, arith}
-use Rattle.asc_model.specs.State.{State}
-use Rattle.asc_model.specs.Machine.{view_of}
-use Rattle.asc_model.proofs.Views.{view_of-pc}
-use Rattle.asc_step.proofs.Rows.{decode-registers}
+use Rattle.std.proofs.Common.{ap, sym, ◌∙◌, arith, subst}
+use Rattle.asc_model.specs.Shape.{Shape}
+use Rattle.asc_model.specs.State.{State, IsState}
+use Rattle.asc_step.proofs.Effects.{at_fetched, effect_of_version}
 use Rattle.asc_step.proofs.Steps.{step_unfetched, fetched, step_fetched, step_illegal}
 use Rattle.asc_step.proofs.stepping.try_step.Goals as goal
 
@@ -12,20 +11,23 @@ returns-in-Some g c =
     let h = step_unfetched _ _ _ _ _ _ c.shape-shape.ensures.state c.shape-shape.ensures.shape pc.value c.in-Some.ensures c.fault.ensures pc.face in
     record { answer = h.answer; state = h.state; places = h.places; room = omega (arith, pc.room) }
 
-pub execute-requires-clause-registers : goal.execute-requires-clause-registers
-execute-requires-clause-registers g c = decode-registers _ _ _ (sym c.in-Some-decode.ensures)
+pub execute-requires-clause-at : goal.execute-requires-clause-at
+execute-requires-clause-at g c =
+    at_fetched _ _ _ _ _ c.shape-shape.ensures.state c.shape-shape.ensures.marks c.read_word-pc.ensures.value c.read_word-pc.ensures.face c.read_word-word.ensures.face
 
-pub execute-requires-clause-pc : goal.execute-requires-clause-pc
-execute-requires-clause-pc g c =
-    c.read_word-pc.ensures.value ∙ sym (view_of-pc _)
-    ∙ ap (λ (s : State). (view_of s).pc) (sym (c.read_word-word.ensures.state ∙ c.read_word-pc.ensures.state))
+pub execute-requires-clause-version : goal.execute-requires-clause-version
+execute-requires-clause-version g c =
+    let same = c.read_word-word.ensures.state ∙ c.read_word-pc.ensures.state in
+    effect_of_version _ _ _ _ (subst IsState (sym same) c.shape-shape.ensures.state)
+    (c.has_atomics.ensures ∙ c.version.ensures ∙ ap (λ (x : Shape). x.version) (c.shape-shape.ensures.shape ∙ ap (λ (s : State). s.shape) (sym same)))
+    c.in-Some-decode.ensures.instruction
 
 pub returns-in-Some-decode : goal.returns-in-Some-decode
 returns-in-Some-decode g c =
     let pc = c.read_word-pc.ensures in
     let word = c.read_word-word.ensures in
     let known = fetched _ _ _ _ _ _ _ _ _ c.shape-shape.ensures.state c.shape-shape.ensures.shape pc.value pc.face
-    c.in_default.ensures c.place_of.ensures word.value word.face c.version.ensures c.in-Some-decode.ensures in
+    c.in_default.ensures c.place_of.ensures word.value word.face (c.has_atomics.ensures ∙ c.version.ensures) c.in-Some-decode.ensures.instruction in
     let h = step_fetched _ _ _ _ _ _ known _ _ c.execute.ensures.answer c.execute.ensures.face in
     record { answer = h.answer; state = h.state; places = h.places; room = omega (arith, pc.room, word.room, c.execute.ensures.room) }
 
@@ -34,6 +36,6 @@ returns-in-None g c =
     let pc = c.read_word-pc.ensures in
     let word = c.read_word-word.ensures in
     let known = fetched _ _ _ _ _ _ _ _ _ c.shape-shape.ensures.state c.shape-shape.ensures.shape pc.value pc.face
-    c.in_default.ensures c.place_of.ensures word.value word.face c.version.ensures c.in-None.ensures in
+    c.in_default.ensures c.place_of.ensures word.value word.face (c.has_atomics.ensures ∙ c.version.ensures) c.in-None.ensures.instruction in
     let h = step_illegal _ _ _ _ _ known _ c.fault-in-None.ensures in
     record { answer = h.answer; state = h.state; places = h.places; room = omega (arith, pc.room, word.room) }

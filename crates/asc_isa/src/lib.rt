@@ -1,0 +1,11 @@
+//! Which instruction a word is.
+#![tactic(auto)]
+
+mod decoding;
+mod fields;
+mod operands;
+#[cfg(test)]
+mod tests;
+
+pub use asc_model::{Instr, Op};
+pub use decoding::decode;

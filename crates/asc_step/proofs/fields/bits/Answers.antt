@@ -1,5 +1,0 @@
-use Rattle.asc_step.proofs.Words.{and-shr}
-use Rattle.asc_step.proofs.fields.bits.Goals as goal
-
-pub returns : goal.returns
-returns c = and-shr _ _ _ c.requires.n

@@ -1,0 +1,223 @@
+//! Doing what an effect asks for: all its tests, then all its reads, then all its puts.
+ghost use Rattle.std.specs.Prelude.{◌≡◌, ◌+◌, ◌<◌, ◌≤◌, ℕ, [], ◌∷◌, length};
+ghost use Rattle.asc_model.specs.Machine.{Pc, Register};
+ghost use Rattle.asc_model.specs.Arithmetic.{◌+w◌};
+ghost use Rattle.asc_model.specs.Places.{places_from};
+ghost use Rattle.asc_shape.specs.Face.{untouched_count};
+ghost use Rattle.asc_model.specs.Effect.{Set, Load, Store, Jump, LoadReserved, StoreConditional, Modify};
+ghost use Rattle.asc_model.specs.declared.version.Version.TheVariants.{Two};
+ghost use Rattle.asc_model.specs.Step.{is_aligned};
+ghost use Rattle.asc_step.specs.Effect.{bytes_in, changed, model_effect};
+ghost use Rattle.asc_step.specs.Execute.{AtInstruction, Finishes, IsOfVersion, Puts, atomic_fault};
+
+use crate::effect::{Amo, Effect, Size, changed, loaded_word};
+use crate::places::{
+    is_reserved, put_number, read_number, read_word, release, reserve, set_pc, set_register,
+};
+use crate::{Fault, FaultKind, Stepped};
+use asc_shape::{Bytes, Shape};
+
+/// Carries out the effect of the instruction at this pc.
+#[inline]
+pub(crate) fn finish<B: Bytes>(bytes: &mut B, pc: u32, rd: u8, effect: Effect) -> Stepped
+    requires rd { rd < 32 }
+    requires at { AtInstruction (B.face bytes.old) pc }
+    requires version { IsOfVersion (B.face bytes.old).state.shape.version (model_effect effect) }
+    requires room { 14 ≤ B.room bytes.old }
+    ensures finish { Finishes (B.face bytes.old) (B.face bytes.new) rd (model_effect effect) result }
+    ensures room { B.room bytes.old ≤ B.room bytes.new + 14 }
+{
+    match effect {
+        Effect::Set(value) => set(bytes, pc, rd, value),
+        Effect::Load {
+            size,
+            signed,
+            address,
+        } => load(bytes, pc, rd, size, signed, address),
+        Effect::Store {
+            size,
+            address,
+            value,
+        } => store(bytes, pc, size, address, value),
+        Effect::Jump(target) => jump(bytes, pc, rd, target),
+        Effect::LoadReserved(address) => load_reserved(bytes, pc, rd, address),
+        Effect::StoreConditional { address, value } => {
+            store_conditional(bytes, pc, rd, address, value)
+        }
+        Effect::Modify {
+            amo,
+            address,
+            value,
+        } => modify(bytes, pc, rd, amo, address, value),
+        Effect::Call => Stepped::Call,
+        Effect::Break => fault(FaultKind::Break, pc, 0),
+    }
+}
+
+/// A fault of the instruction at this pc.
+#[inline]
+pub(crate) fn fault(kind: FaultKind, pc: u32, value: u32) -> Stepped
+    ensures { result ≡ Stepped.Fault (record { kind = kind; pc = pc; value = value }) }
+{
+    Stepped::Fault(Fault { kind, pc, value })
+}
+
+/// Whether an address is a multiple of 4.
+#[inline]
+pub(crate) fn is_aligned(address: u32) -> bool
+    ensures { result ≡ is_aligned address }
+{
+    address.is_multiple_of(4)
+}
+
+/// Goes on behind the instruction, with a value in its destination.
+#[inline]
+fn go_on<B: Bytes>(bytes: &mut B, pc: u32, rd: u8, value: u32)
+    requires rd { rd < 32 }
+    requires length { 128 ≤ length (B.face bytes.old).state.bytes }
+    requires touched { untouched_count (B.face bytes.old).marks (places_from 0 4) ≡ 0 }
+    requires room { 4 ≤ B.room bytes.old }
+    ensures face { Puts (B.face bytes.old) (B.face bytes.new) (Pc (pc +w 4) ∷ Register rd value ∷ []) }
+    ensures room { B.room bytes.old ≤ B.room bytes.new + 4 }
+{
+    set_pc(bytes, pc.wrapping_add(4));
+    set_register(bytes, rd, value);
+}
+
+#[inline]
+fn set<B: Bytes>(bytes: &mut B, pc: u32, rd: u8, value: u32) -> Stepped
+    requires rd { rd < 32 }
+    requires at { AtInstruction (B.face bytes.old) pc }
+    requires room { 14 ≤ B.room bytes.old }
+    ensures finish { Finishes (B.face bytes.old) (B.face bytes.new) rd (Set value) result }
+    ensures room { B.room bytes.old ≤ B.room bytes.new + 14 }
+{
+    go_on(bytes, pc, rd, value);
+    Stepped::Went
+}
+
+#[inline]
+fn load<B: Bytes>(bytes: &mut B, pc: u32, rd: u8, size: Size, signed: bool, address: u32) -> Stepped
+    requires rd { rd < 32 }
+    requires at { AtInstruction (B.face bytes.old) pc }
+    requires room { 14 ≤ B.room bytes.old }
+    ensures finish { Finishes (B.face bytes.old) (B.face bytes.new) rd
+        (Load (bytes_in size) signed address) result }
+    ensures room { B.room bytes.old ≤ B.room bytes.new + 14 }
+{
+    let shape = bytes.shape();
+    if !shape.holds(address, size.bytes()) {
+        return fault(FaultKind::LoadOutside, pc, address);
+    }
+    let number = read_number(bytes, shape.place_of(address), size);
+    go_on(bytes, pc, rd, loaded_word(size, signed, number));
+    Stepped::Went
+}
+
+#[inline]
+fn store<B: Bytes>(bytes: &mut B, pc: u32, size: Size, address: u32, value: u32) -> Stepped
+    requires at { AtInstruction (B.face bytes.old) pc }
+    requires room { 14 ≤ B.room bytes.old }
+    ensures finish { (rd : ℕ) → Finishes (B.face bytes.old) (B.face bytes.new) rd
+        (Store (bytes_in size) address value) result }
+    ensures room { B.room bytes.old ≤ B.room bytes.new + 14 }
+{
+    let shape = bytes.shape();
+    if !shape.holds(address, size.bytes()) {
+        return fault(FaultKind::StoreOutside, pc, address);
+    }
+    set_pc(bytes, pc.wrapping_add(4));
+    put_number(bytes, shape.place_of(address), size, value);
+    Stepped::Went
+}
+
+#[inline]
+fn jump<B: Bytes>(bytes: &mut B, pc: u32, rd: u8, target: u32) -> Stepped
+    requires rd { rd < 32 }
+    requires at { AtInstruction (B.face bytes.old) pc }
+    requires room { 14 ≤ B.room bytes.old }
+    ensures finish { Finishes (B.face bytes.old) (B.face bytes.new) rd (Jump target) result }
+    ensures room { B.room bytes.old ≤ B.room bytes.new + 14 }
+{
+    if !is_aligned(target) {
+        return fault(FaultKind::Misaligned, pc, target);
+    }
+    set_pc(bytes, target);
+    set_register(bytes, rd, pc.wrapping_add(4));
+    Stepped::Went
+}
+
+/// Why an atomic cannot act on the word at an address. Its alignment is tested first.
+#[inline]
+fn atomic_fault(shape: Shape, outside: FaultKind, address: u32) -> Option<FaultKind>
+    ensures { result ≡ atomic_fault shape outside address }
+{
+    if !is_aligned(address) {
+        return Some(FaultKind::AtomicMisaligned);
+    }
+    if !shape.holds(address, 4) {
+        return Some(outside);
+    }
+    None
+}
+
+#[inline]
+fn load_reserved<B: Bytes>(bytes: &mut B, pc: u32, rd: u8, address: u32) -> Stepped
+    requires rd { rd < 32 }
+    requires at { AtInstruction (B.face bytes.old) pc }
+    requires room { 14 ≤ B.room bytes.old }
+    ensures finish { Finishes (B.face bytes.old) (B.face bytes.new) rd (LoadReserved address) result }
+    ensures room { B.room bytes.old ≤ B.room bytes.new + 14 }
+{
+    let shape = bytes.shape();
+    if let Some(kind) = atomic_fault(shape, FaultKind::LoadOutside, address) {
+        return fault(kind, pc, address);
+    }
+    let old = read_word(bytes, shape.place_of(address));
+    go_on(bytes, pc, rd, old);
+    reserve(bytes, address);
+    Stepped::Went
+}
+
+#[inline]
+fn store_conditional<B: Bytes>(bytes: &mut B, pc: u32, rd: u8, address: u32, value: u32) -> Stepped
+    requires rd { rd < 32 }
+    requires at { AtInstruction (B.face bytes.old) pc }
+    requires version { (B.face bytes.old).state.shape.version ≡ Two }
+    requires room { 14 ≤ B.room bytes.old }
+    ensures finish { Finishes (B.face bytes.old) (B.face bytes.new) rd
+        (StoreConditional address value) result }
+    ensures room { B.room bytes.old ≤ B.room bytes.new + 14 }
+{
+    let shape = bytes.shape();
+    if let Some(kind) = atomic_fault(shape, FaultKind::StoreOutside, address) {
+        return fault(kind, pc, address);
+    }
+    let reserved = is_reserved(bytes, address);
+    go_on(bytes, pc, rd, u32::from(!reserved));
+    release(bytes);
+    if reserved {
+        bytes.put_word(shape.place_of(address), value);
+    }
+    Stepped::Went
+}
+
+#[inline]
+fn modify<B: Bytes>(bytes: &mut B, pc: u32, rd: u8, amo: Amo, address: u32, value: u32) -> Stepped
+    requires rd { rd < 32 }
+    requires at { AtInstruction (B.face bytes.old) pc }
+    requires room { 14 ≤ B.room bytes.old }
+    ensures finish { Finishes (B.face bytes.old) (B.face bytes.new) rd
+        (Modify address (λ old. changed amo old value)) result }
+    ensures room { B.room bytes.old ≤ B.room bytes.new + 14 }
+{
+    let shape = bytes.shape();
+    if let Some(kind) = atomic_fault(shape, FaultKind::StoreOutside, address) {
+        return fault(kind, pc, address);
+    }
+    let place = shape.place_of(address);
+    let old = read_word(bytes, place);
+    go_on(bytes, pc, rd, old);
+    bytes.put_word(place, changed(amo, old, value));
+    Stepped::Went
+}
