@@ -8,8 +8,10 @@ use crate::fields::{funct3, funct5, funct7, opcode, rs2};
 use crate::operands::{b_type, i_type, j_type, r_type, s_type, shift, u_type};
 use asc_model::{Instr, Op};
 
-/// The instruction that a word is in RV32IM with Zifencei, and where `atomics` holds with RV32A too; `None` where it is
-/// none of these (RISC-V unprivileged manual 20191213, chapter 24).
+/// The instruction that a word is in RV32IM with Zifencei, and where `atomics` holds with RV32A too (RISC-V unprivileged
+/// manual 20191213, chapter 24).
+///
+/// It is `None` where the word is none of these.
 #[inline]
 pub fn decode(word: u32, atomics: bool) -> Option<Instr>
     ensures instruction { result ≡ decode (version_of atomics) word }
@@ -18,7 +20,7 @@ pub fn decode(word: u32, atomics: bool) -> Option<Instr>
     instruction(word, atomics)
 }
 
-/// The instruction of a word, by its opcode.
+/// The instruction of a word, by its opcode. It is apart from `decode`, so that what is said of registers is shown once.
 #[inline]
 fn instruction(word: u32, atomics: bool) -> Option<Instr>
     ensures { result ≡ decode (version_of atomics) word }

@@ -11,7 +11,7 @@ fn bits(word: u32, low: u32, n: u32) -> u32
     requires n { n < 32 }
     ensures { result ≡ bits word low n }
 {
-    word >> low & ((1 << n) - 1)
+    (word >> low) & ((1 << n) - 1)
 }
 
 /// A number of `n` bits, read as two's complement, as a word.

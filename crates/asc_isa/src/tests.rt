@@ -1,3 +1,5 @@
+//! Words and the instructions that they are. Where an instruction stands beside a word, llvm-mc (LLVM 14.0.6) made the
+//! word of it; the other words are written after the manual's encoding.
 use crate::{Instr, Op, decode};
 use std::process::Abort;
 

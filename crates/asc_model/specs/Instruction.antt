@@ -39,8 +39,8 @@ abbrev pub immediate_U : ℕ → ℕ
 immediate_U word = bits word 12 20 * 2 ^ 12
 
 abbrev pub immediate_J : ℕ → ℕ
-immediate_J word =
-    sign_extend 21 (bits word 31 1 * 2 ^ 20 + bits word 12 8 * 2 ^ 12 + bits word 20 1 * 2 ^ 11 + bits word 21 10 * 2)
+immediate_J word = sign_extend 21
+    (bits word 31 1 * 2 ^ 20 + bits word 12 8 * 2 ^ 12 + bits word 20 1 * 2 ^ 11 + bits word 21 10 * 2)
 
 abbrev pub immediate_I : ℕ → ℕ
 immediate_I word = sign_extend 12 (bits word 20 12)
@@ -49,8 +49,8 @@ abbrev pub immediate_S : ℕ → ℕ
 immediate_S word = sign_extend 12 (bits word 25 7 * 2 ^ 5 + bits word 7 5)
 
 abbrev pub immediate_B : ℕ → ℕ
-immediate_B word =
-    sign_extend 13 (bits word 31 1 * 2 ^ 12 + bits word 7 1 * 2 ^ 11 + bits word 25 6 * 2 ^ 5 + bits word 8 4 * 2)
+immediate_B word = sign_extend 13
+    (bits word 31 1 * 2 ^ 12 + bits word 7 1 * 2 ^ 11 + bits word 25 6 * 2 ^ 5 + bits word 8 4 * 2)
 
 -- the shift amount of a shift by an immediate
 abbrev pub shamt : ℕ → ℕ
@@ -83,7 +83,8 @@ word_width = 0b010
 abbrev pub fits : Key → ℕ → Bool
 fits (Major major) word = opcode word == major
 fits (Minor major minor) word = (opcode word == major) && (funct3 word == minor)
-fits (Full major minor funct) word = (opcode word == major) && (funct3 word == minor) && (funct7 word == funct)
+fits (Full major minor funct) word =
+    (opcode word == major) && (funct3 word == minor) && (funct7 word == funct)
 fits (Atomic funct) word =
     (opcode word == atomic_opcode) && (funct3 word == word_width) && (funct5 word == funct)
 fits (AtomicLoad funct) word =
@@ -190,7 +191,8 @@ table Two = base_table ++ atomic_table
 -- the instruction of the first row that is for the word
 abbrev pub find : List Row → ℕ → Option Instr
 find [] word = None
-find (first ∷ rows) word = if fits first.key word then Some (operands first.format first.op word) else find rows word
+find (first ∷ rows) word =
+    if fits first.key word then Some (operands first.format first.op word) else find rows word
 
 unfoldable pub decode : Version → ℕ → Option Instr
 decode version word = find (table version) word

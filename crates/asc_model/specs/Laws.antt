@@ -117,5 +117,5 @@ pub record PlainStepsAlike (n : ℕ) (s after t : State) : Type 0 where
 
 -- States of one shape that agree on the places that n steps of one read first take these steps alike.
 abbrev pub ManyStepsFrame : Type 0
-ManyStepsFrame = (n : ℕ) (s after t : State) → IsState s → IsState t → t.shape ≡ s.shape → plain n s ≡ At after
-    → AgreeOn (first_reads n s) s t → PlainStepsAlike n s after t
+ManyStepsFrame = (n : ℕ) (s after t : State) → IsState s → IsState t → t.shape ≡ s.shape
+    → plain n s ≡ At after → AgreeOn (first_reads n s) s t → PlainStepsAlike n s after t

@@ -53,7 +53,8 @@ abbrev pub after_change : Shape → Machine → Change → Machine
 after_change shape m (Pc value) = record m { pc = value }
 after_change shape m (Register zero value) = m
 after_change shape m (Register (suc k) value) = record m { registers = slice_set m.registers k value }
-after_change shape m (Memory address bytes) = record m { memory = splice m.memory (address - shape.base) bytes }
+after_change shape m (Memory address bytes) =
+    record m { memory = splice m.memory (address - shape.base) bytes }
 after_change shape m (Reservation i bytes) = record m { reservation = splice m.reservation i bytes }
 
 -- the machine after changes, the first one first

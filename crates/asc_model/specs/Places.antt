@@ -30,13 +30,16 @@ reservation_places = places_from 128 5
 
 -- the places of the data that an effect loads, or of the reservation that it asks for; none where a fault comes first
 abbrev pub data_places : Shape → Effect → List ℕ
-data_places shape (Load n signed address) = if holds shape address n then places_from (place_of shape address) n else []
+data_places shape (Load n signed address) =
+    if holds shape address n then places_from (place_of shape address) n else []
 data_places shape (Set value) = []
 data_places shape (Store n address value) = []
 data_places shape (Jump target) = []
-data_places shape (LoadReserved address) = atomic_places shape address (places_from (place_of shape address) 4)
+data_places shape (LoadReserved address) =
+    atomic_places shape address (places_from (place_of shape address) 4)
 data_places shape (StoreConditional address value) = atomic_places shape address reservation_places
-data_places shape (Modify address change) = atomic_places shape address (places_from (place_of shape address) 4)
+data_places shape (Modify address change) =
+    atomic_places shape address (places_from (place_of shape address) 4)
 data_places shape GuestCall = []
 data_places shape Breakpoint = []
 

@@ -36,7 +36,7 @@ length_of shape = start_of shape.version + shape.size
 abbrev pub place_of : Shape → ℕ → ℕ
 place_of shape address = start_of shape.version + (address - shape.base)
 
--- whether the n bytes from an address on are all in memory; the sums do not wrap. No bytes are in memory at each address
--- from its base to its end, the end included
+-- Whether the n bytes from an address on are all in memory; the sums do not wrap. For n = 0 it holds at each address from
+-- the base of memory to its end, the end included.
 abbrev pub holds : Shape → ℕ → ℕ → Bool
 holds shape address n = nat_le shape.base address && nat_le (address + n) (shape.base + shape.size)

@@ -52,7 +52,8 @@ outcome_of shape m rd (Store n address value) =
     if holds shape address n then Goes (Pc (m.pc +w 4) ∷ Memory address (bytes_of n value) ∷ [])
     else fault_outcome m StoreOutside address
 outcome_of shape m rd (Jump target) =
-    if is_aligned target then Goes (Pc target ∷ Register rd (m.pc +w 4) ∷ []) else fault_outcome m Misaligned target
+    if is_aligned target then Goes (Pc target ∷ Register rd (m.pc +w 4) ∷ [])
+    else fault_outcome m Misaligned target
 outcome_of shape m rd (LoadReserved address) = atomic_outcome shape m LoadOutside address
     (Pc (m.pc +w 4) ∷ Register rd (load shape m 4 address) ∷ reserve address ∷ [])
 outcome_of shape m rd (StoreConditional address value) = let reserved = is_reserved m address in

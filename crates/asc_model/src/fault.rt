@@ -9,7 +9,8 @@ pub enum FaultKind {
     Illegal = 3,
     /// A load or a load-reserved reaches outside memory. The value is its address.
     LoadOutside = 4,
-    /// A store, a store-conditional, also one that would fail, or an AMO reaches outside memory. The value is its address.
+    /// A store, a store-conditional, also one that would fail, or an AMO reaches outside memory. The value is its
+    /// address.
     StoreOutside = 5,
     /// EBREAK. The value is 0.
     Break = 6,

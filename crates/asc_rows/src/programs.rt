@@ -121,7 +121,7 @@ fn programs(rt: HostRuntime) -> Result<(), Fail> {
             Ended::Exit(1),
             8,
         ),
-        // JAL x0, 0x10000: the pc leaves memory, and the next fetch fails.
+        // JAL x0, +0x10000: the pc leaves memory, and the next fetch fails.
         (
             &[0x0001_006F],
             Version::Two,

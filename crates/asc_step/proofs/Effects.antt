@@ -29,7 +29,7 @@ use Rattle.asc_shape.specs.Face.{Face, FitPlaces, Marks, Untold, Told, status_at
 use Rattle.asc_shape.proofs.Faces.{state-reads, state-puts, face_after_puts-append, untouched_count-append, untouched_count-read-le}
 use Rattle.asc_step.specs.declared.stepped.Stepped.{Stepped}
 use Rattle.asc_step.specs.declared.stepped.Stepped.TheVariants as answers
-use Rattle.asc_step.specs.Execute.{Puts, AtInstruction, IsOfVersion, Finishes, atomic_fault, answer_of}
+use Rattle.asc_step.specs.Execute.{Puts, AtInstruction, IsOfVersion, Finishes, word_fault, answer_of}
 use Rattle.asc_step.proofs.Touches.{face_after_reads-nil, face_after_puts-nil}
 
 -- ---- places
@@ -186,7 +186,7 @@ atomic_goes true false f h list outside places e = absurd (cc)
 atomic_goes false y f h list outside places e = absurd (cc)
 
 -- where the code's test finds no fault memory has the word
-pub atomic_holds : (shape : Shape) (outside : FaultKind) (address : ℕ) → None ≡ atomic_fault shape outside address → holds shape address 4 ≡ true
+pub atomic_holds : (shape : Shape) (outside : FaultKind) (address : ℕ) → None ≡ word_fault shape address AtomicMisaligned outside → holds shape address 4 ≡ true
 atomic_holds shape outside address e = by_tests (is_aligned address) (holds shape address 4) e
   where
     by_tests : (x y : Bool) → None ≡ (if not x then Some AtomicMisaligned else (if not y then Some outside else None)) → y ≡ true
@@ -197,7 +197,7 @@ atomic_holds shape outside address e = by_tests (is_aligned address) (holds shap
 -- an atomic that ends in a fault
 pub fails_atomic : (f : Face) (pc rd : ℕ) (e : Effect) (outside kind : FaultKind) (address : ℕ) (list : List Change) (places : List ℕ) (answer : Stepped) → AtInstruction f pc
     → outcome_of f.state.shape (view_of f.state) rd e ≡ atomic_outcome f.state.shape (view_of f.state) outside address list
-    → data_places f.state.shape e ≡ atomic_places f.state.shape address places → Some kind ≡ atomic_fault f.state.shape outside address
+    → data_places f.state.shape e ≡ atomic_places f.state.shape address places → Some kind ≡ word_fault f.state.shape address AtomicMisaligned outside
     → answer ≡ answers.Fault (fault_at kind pc address) → Finishes f f rd e answer
 fails_atomic f pc rd e outside kind address list places answer at o d k a =
     let both = atomic_fails (is_aligned address) (holds f.state.shape address 4) (view_of f.state) outside kind address (Goes list) places (sym k) in
@@ -206,7 +206,7 @@ fails_atomic f pc rd e outside kind address list places answer at o d k a =
 -- an atomic that goes on
 pub finishes_atomic : (f f1 g : Face) (rd : ℕ) (e : Effect) (outside : FaultKind) (address : ℕ) (list new : List Change) (places : List ℕ) (answer : Stepped)
     → outcome_of f.state.shape (view_of f.state) rd e ≡ atomic_outcome f.state.shape (view_of f.state) outside address list
-    → data_places f.state.shape e ≡ atomic_places f.state.shape address places → None ≡ atomic_fault f.state.shape outside address
+    → data_places f.state.shape e ≡ atomic_places f.state.shape address places → None ≡ word_fault f.state.shape address AtomicMisaligned outside
     → list ≡ new → f1 ≡ face_after_reads f places → Puts f1 g new → answer ≡ answers.Went → Finishes f g rd e answer
 finishes_atomic f f1 g rd e outside address list new places answer o d k l r p a =
     let both = atomic_goes (is_aligned address) (holds f.state.shape address 4) (fault_outcome (view_of f.state) AtomicMisaligned address) (fault_outcome (view_of f.state) outside address) (Goes list) outside places (sym k) in
@@ -232,8 +232,8 @@ pub placed : (shape s : Shape) (place address : ℕ) → place ≡ place_of shap
 placed shape s place address e same = e ∙ ap (λ (x : Shape). place_of x address) same
 
 -- a test of an atomic's address
-pub faulted : (shape s : Shape) (outside : FaultKind) (address : ℕ) (k : Option FaultKind) → k ≡ atomic_fault shape outside address → shape ≡ s → k ≡ atomic_fault s outside address
-faulted shape s outside address k e same = e ∙ ap (λ (x : Shape). atomic_fault x outside address) same
+pub faulted : (shape s : Shape) (outside : FaultKind) (address : ℕ) (k : Option FaultKind) → k ≡ word_fault shape address AtomicMisaligned outside → shape ≡ s → k ≡ word_fault s address AtomicMisaligned outside
+faulted shape s outside address k e same = e ∙ ap (λ (x : Shape). word_fault x address AtomicMisaligned outside) same
 
 -- bytes put into memory
 pub puts_memory : (f g : Face) (place address : ℕ) (bytes : List ℕ) → place ≡ place_of f.state.shape address → g ≡ face_after_puts f (cells place bytes) → Puts f g (Memory address bytes ∷ [])
@@ -247,7 +247,7 @@ pub shape_puts : (f g : Face) (list : List Change) → Puts f g list → g.state
 shape_puts f g list e = shape-puts f g (flat_map (cells_of f.state.shape) list) e
 
 -- x[rd] = M[address]; the address is reserved
-pub finishes_load_reserved : (f f1 g : Face) (pc rd address place old : ℕ) (answer : Stepped) → AtInstruction f pc → None ≡ atomic_fault f.state.shape LoadOutside address
+pub finishes_load_reserved : (f f1 g : Face) (pc rd address place old : ℕ) (answer : Stepped) → AtInstruction f pc → None ≡ word_fault f.state.shape address AtomicMisaligned LoadOutside
     → place ≡ place_of f.state.shape address → old ≡ word_at f.state.bytes place → f1 ≡ face_after_reads f (places_from place 4)
     → Puts f1 g (Pc (pc +w 4) ∷ Register rd old ∷ reserve address ∷ []) → answer ≡ answers.Went → Finishes f g rd (LoadReserved address) answer
 finishes_load_reserved f f1 g pc rd address place old answer at k e v r p a =
@@ -259,7 +259,7 @@ finishes_load_reserved f f1 g pc rd address place old answer at k e v r p a =
     (r ∙ ap (λ x. face_after_reads f (places_from x 4)) e) p a
 
 -- x[rd] = M[address]; M[address] = change of it
-pub finishes_modify : (f f1 g : Face) (pc rd address place old : ℕ) (change : ℕ → ℕ) (answer : Stepped) → AtInstruction f pc → None ≡ atomic_fault f.state.shape StoreOutside address
+pub finishes_modify : (f f1 g : Face) (pc rd address place old : ℕ) (change : ℕ → ℕ) (answer : Stepped) → AtInstruction f pc → None ≡ word_fault f.state.shape address AtomicMisaligned StoreOutside
     → place ≡ place_of f.state.shape address → old ≡ word_at f.state.bytes place → f1 ≡ face_after_reads f (places_from place 4)
     → Puts f1 g (Pc (pc +w 4) ∷ Register rd old ∷ Memory address (bytes_of 4 (change old)) ∷ []) → answer ≡ answers.Went → Finishes f g rd (Modify address change) answer
 finishes_modify f f1 g pc rd address place old change answer at k e v r p a =
@@ -276,7 +276,7 @@ abbrev pub conditional_changes : (pc rd address value : ℕ) → Bool → List C
 conditional_changes pc rd address value reserved =
     Pc (pc +w 4) ∷ Register rd (one_if (not reserved)) ∷ release ∷ (if reserved then Memory address (bytes_of 4 value) ∷ [] else [])
 
-pub finishes_store_conditional : (f f1 g : Face) (pc rd address value : ℕ) (reserved : Bool) (answer : Stepped) → AtInstruction f pc → None ≡ atomic_fault f.state.shape StoreOutside address
+pub finishes_store_conditional : (f f1 g : Face) (pc rd address value : ℕ) (reserved : Bool) (answer : Stepped) → AtInstruction f pc → None ≡ word_fault f.state.shape address AtomicMisaligned StoreOutside
     → reserved ≡ is_reserved (view_of f.state) address → f1 ≡ face_after_reads f reservation_places → Puts f1 g (conditional_changes pc rd address value reserved)
     → answer ≡ answers.Went → Finishes f g rd (StoreConditional address value) answer
 finishes_store_conditional f f1 g pc rd address value reserved answer at k v r p a =

@@ -18,7 +18,7 @@ use Rattle.asc_shape.proofs.Faces.{state-reads, state-puts, face_after_reads-app
 use Rattle.asc_step.specs.declared.stepped.Stepped.{Stepped}
 use Rattle.asc_step.specs.declared.stepped.Stepped.TheVariants as answers
 use Rattle.asc_step.specs.Step.{stepped_of, state_after_step, face_after}
-use Rattle.asc_step.specs.Execute.{fetch_fault, answer_of}
+use Rattle.asc_step.specs.Execute.{word_fault, answer_of}
 use Rattle.asc_step.proofs.Touches.{face_after_reads-nil, face_after_puts-nil, state_after_reads}
 
 -- what a step answers and leaves
@@ -26,6 +26,10 @@ pub record IsStep (f : Face) (a : Stepped) (g : Face) : Type 0 where
   pub answer : a ≡ stepped_of (next f.state)
   pub state : g.state ≡ state_after_step (next f.state) f.state
   pub places : g ≡ face_after f
+
+-- why the word at a pc cannot be fetched
+abbrev fetch_fault : Shape → ℕ → Option FaultKind
+fetch_fault shape pc = word_fault shape pc Misaligned FetchOutside
 
 -- the answer of an outcome
 stepped_of-next_of : (shape : Shape) (m : Machine) (o : Outcome) → stepped_of (next_of shape m o) ≡ answer_of o

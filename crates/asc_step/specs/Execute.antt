@@ -2,7 +2,6 @@
 use Rattle.std.specs.Prelude.{◌≡◌, ℕ, not, List, Option, Some, None, if◌then◌else◌}
 use Rattle.std.specs.List.{flat_map}
 use Rattle.asc_model.specs.declared.fault.FaultKind.{FaultKind}
-use Rattle.asc_model.specs.declared.fault.FaultKind.TheVariants.{Misaligned, FetchOutside, AtomicMisaligned}
 use Rattle.asc_model.specs.declared.version.Version.{Version}
 use Rattle.asc_model.specs.declared.version.Version.TheVariants.{Two}
 use Rattle.asc_model.specs.Shape.{Shape, holds}
@@ -15,16 +14,10 @@ use Rattle.asc_shape.specs.Face.{Face, face_after_reads, face_after_puts, untouc
 use Rattle.asc_step.specs.declared.stepped.Stepped.{Stepped}
 use Rattle.asc_step.specs.declared.stepped.Stepped.TheVariants as answers
 
--- why the word at a pc cannot be fetched: the pc is tested first
-abbrev pub fetch_fault : Shape → ℕ → Option FaultKind
-fetch_fault shape pc =
-    if not (is_aligned pc) then Some Misaligned
-    else (if not (holds shape pc 4) then Some FetchOutside else None)
-
--- why an atomic cannot act on the word at an address: its alignment is tested first
-abbrev pub atomic_fault : Shape → (outside : FaultKind) → ℕ → Option FaultKind
-atomic_fault shape outside address =
-    if not (is_aligned address) then Some AtomicMisaligned
+-- why the word at an address cannot be reached: its alignment is tested first, and then whether it is in memory
+abbrev pub word_fault : Shape → ℕ → (misaligned outside : FaultKind) → Option FaultKind
+word_fault shape address misaligned outside =
+    if not (is_aligned address) then Some misaligned
     else (if not (holds shape address 4) then Some outside else None)
 
 -- the answer of an outcome
@@ -42,7 +35,7 @@ face_after_outcome f places outcome =
 abbrev pub Puts : Face → Face → List Change → Type 0
 Puts f g list = g ≡ face_after_puts f (flat_map (cells_of f.state.shape) list)
 
--- the reservation is of version Two
+-- a store-conditional, which reads the reservation, is of version Two; nothing is asked of other effects
 abbrev pub IsOfVersion : Version → Effect → Type 0
 IsOfVersion version (StoreConditional address value) = version ≡ Two
 IsOfVersion version (LoadReserved address) = Unit {0}

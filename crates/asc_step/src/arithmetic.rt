@@ -95,7 +95,7 @@ pub(crate) fn high_product_mixed(a: u32, b: u32) -> u32
 pub(crate) fn high_product_unsigned(a: u32, b: u32) -> u32
     ensures { result ≡ a * b / 2 ^ 32 }
 {
-    (u64::from(a) * u64::from(b) >> 32) as u32
+    ((u64::from(a) * u64::from(b)) >> 32) as u32
 }
 
 /// The quotient of two words, both signed, rounded towards zero; -1 where `b` is 0.

@@ -6,15 +6,17 @@ ghost use Rattle.asc_model.specs.Places.{places_from};
 ghost use Rattle.asc_shape.specs.Face.{untouched_count};
 ghost use Rattle.asc_model.specs.Effect.{Set, Load, Store, Jump, LoadReserved, StoreConditional, Modify};
 ghost use Rattle.asc_model.specs.declared.version.Version.TheVariants.{Two};
-ghost use Rattle.asc_model.specs.Step.{is_aligned};
+ghost use Rattle.asc_model.specs.declared.fault.FaultKind.TheVariants.{AtomicMisaligned};
 ghost use Rattle.asc_step.specs.Effect.{bytes_in, changed, model_effect};
-ghost use Rattle.asc_step.specs.Execute.{AtInstruction, Finishes, IsOfVersion, Puts, atomic_fault};
+ghost use Rattle.asc_step.specs.Execute.{AtInstruction, Finishes, IsOfVersion, Puts, word_fault};
 
+use crate::arithmetic::one_if;
 use crate::effect::{Amo, Effect, Size, changed, loaded_word};
+use crate::faults::{fault, is_aligned, word_fault};
 use crate::places::{
     is_reserved, put_number, read_number, read_word, release, reserve, set_pc, set_register,
 };
-use crate::{Fault, FaultKind, Stepped};
+use crate::{FaultKind, Stepped};
 use asc_shape::{Bytes, Shape};
 
 /// Carries out the effect of the instruction at this pc.
@@ -52,22 +54,6 @@ pub(crate) fn finish<B: Bytes>(bytes: &mut B, pc: u32, rd: u8, effect: Effect) -
         Effect::Call => Stepped::Call,
         Effect::Break => fault(FaultKind::Break, pc, 0),
     }
-}
-
-/// A fault of the instruction at this pc.
-#[inline]
-pub(crate) fn fault(kind: FaultKind, pc: u32, value: u32) -> Stepped
-    ensures { result ≡ Stepped.Fault (record { kind = kind; pc = pc; value = value }) }
-{
-    Stepped::Fault(Fault { kind, pc, value })
-}
-
-/// Whether an address is a multiple of 4.
-#[inline]
-pub(crate) fn is_aligned(address: u32) -> bool
-    ensures { result ≡ is_aligned address }
-{
-    address.is_multiple_of(4)
 }
 
 /// Goes on behind the instruction, with a value in its destination.
@@ -147,18 +133,12 @@ fn jump<B: Bytes>(bytes: &mut B, pc: u32, rd: u8, target: u32) -> Stepped
     Stepped::Went
 }
 
-/// Why an atomic cannot act on the word at an address. Its alignment is tested first.
+/// Why an atomic cannot act on the word at an address.
 #[inline]
-fn atomic_fault(shape: Shape, outside: FaultKind, address: u32) -> Option<FaultKind>
-    ensures { result ≡ atomic_fault shape outside address }
+fn atomic_fault(shape: Shape, address: u32, outside: FaultKind) -> Option<FaultKind>
+    ensures { result ≡ word_fault shape address AtomicMisaligned outside }
 {
-    if !is_aligned(address) {
-        return Some(FaultKind::AtomicMisaligned);
-    }
-    if !shape.holds(address, 4) {
-        return Some(outside);
-    }
-    None
+    word_fault(shape, address, FaultKind::AtomicMisaligned, outside)
 }
 
 #[inline]
@@ -170,7 +150,7 @@ fn load_reserved<B: Bytes>(bytes: &mut B, pc: u32, rd: u8, address: u32) -> Step
     ensures room { B.room bytes.old ≤ B.room bytes.new + 14 }
 {
     let shape = bytes.shape();
-    if let Some(kind) = atomic_fault(shape, FaultKind::LoadOutside, address) {
+    if let Some(kind) = atomic_fault(shape, address, FaultKind::LoadOutside) {
         return fault(kind, pc, address);
     }
     let old = read_word(bytes, shape.place_of(address));
@@ -190,11 +170,11 @@ fn store_conditional<B: Bytes>(bytes: &mut B, pc: u32, rd: u8, address: u32, val
     ensures room { B.room bytes.old ≤ B.room bytes.new + 14 }
 {
     let shape = bytes.shape();
-    if let Some(kind) = atomic_fault(shape, FaultKind::StoreOutside, address) {
+    if let Some(kind) = atomic_fault(shape, address, FaultKind::StoreOutside) {
         return fault(kind, pc, address);
     }
     let reserved = is_reserved(bytes, address);
-    go_on(bytes, pc, rd, u32::from(!reserved));
+    go_on(bytes, pc, rd, one_if(!reserved));
     release(bytes);
     if reserved {
         bytes.put_word(shape.place_of(address), value);
@@ -212,7 +192,7 @@ fn modify<B: Bytes>(bytes: &mut B, pc: u32, rd: u8, amo: Amo, address: u32, valu
     ensures room { B.room bytes.old ≤ B.room bytes.new + 14 }
 {
     let shape = bytes.shape();
-    if let Some(kind) = atomic_fault(shape, FaultKind::StoreOutside, address) {
+    if let Some(kind) = atomic_fault(shape, address, FaultKind::StoreOutside) {
         return fault(kind, pc, address);
     }
     let place = shape.place_of(address);

@@ -4,6 +4,7 @@
 mod arithmetic;
 mod effect;
 mod execute;
+mod faults;
 mod finish;
 mod places;
 mod stepped;

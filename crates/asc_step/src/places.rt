@@ -12,6 +12,12 @@ ghost use Rattle.asc_step.specs.Execute.{Puts};
 use crate::effect::Size;
 use asc_shape::Bytes;
 
+/// The place of the reserved address.
+const RESERVED: u32 = 128;
+
+/// The place of the byte that is 1 where an address is reserved.
+const VALID: u32 = 132;
+
 /// The word in the four bytes from a place on.
 #[inline]
 pub(crate) fn read_word<B: Bytes>(bytes: &mut B, place: u32) -> u32
@@ -33,7 +39,8 @@ pub(crate) fn read_number<B: Bytes>(bytes: &mut B, place: u32, size: Size) -> u3
     ensures value { result ≡ number_at (bytes_in size) (B.face bytes.old).state.bytes place }
     ensures bound { result < 2 ^ (8 * bytes_in size) }
     ensures state { (B.face bytes.new).state ≡ (B.face bytes.old).state }
-    ensures face { B.face bytes.new ≡ face_after_reads (B.face bytes.old) (places_from place (bytes_in size)) }
+    ensures face { B.face bytes.new ≡ face_after_reads (B.face bytes.old)
+        (places_from place (bytes_in size)) }
     ensures room { B.room bytes.old ≤ B.room bytes.new + 4 }
 {
     match size {
@@ -135,12 +142,6 @@ pub(crate) fn set_register<B: Bytes>(bytes: &mut B, k: u8, value: u32)
         bytes.put_word(4 * u32::from(k), value);
     }
 }
-
-/// The place of the reserved address.
-const RESERVED: u32 = 128;
-
-/// The place of the byte that is 1 where an address is reserved.
-const VALID: u32 = 132;
 
 /// Whether an address is reserved, in version Two.
 #[inline]

@@ -2,15 +2,14 @@
 ghost use Rattle.std.specs.Prelude.{◌≡◌, ◌+◌, ◌≤◌};
 ghost use Rattle.asc_model.specs.Step.{next};
 ghost use Rattle.asc_isa.specs.Decode.{version_of};
-ghost use Rattle.asc_step.specs.Execute.{fetch_fault};
 ghost use Rattle.asc_step.specs.Step.{stepped_of, state_after_step, face_after, counted_steps};
 
 use crate::execute::execute;
-use crate::finish::{fault, is_aligned};
+use crate::faults::{fault, word_fault};
 use crate::places::read_word;
 use crate::{FaultKind, Stepped};
 use asc_isa::decode;
-use asc_shape::{Bytes, Shape, Steps, Version};
+use asc_shape::{Bytes, Steps, Version};
 use std::sync::ledger::Ledger;
 
 /// Takes one step, where the program goes on: the instruction at the pc is fetched, decoded and carried out.
@@ -31,7 +30,7 @@ pub fn try_step<B: Bytes>(bytes: &mut B) -> Stepped
 {
     let shape = bytes.shape();
     let pc = read_word(bytes, 0);
-    if let Some(kind) = fetch_fault(shape, pc) {
+    if let Some(kind) = word_fault(shape, pc, FaultKind::Misaligned, FaultKind::FetchOutside) {
         return fault(kind, pc, pc);
     }
     let word = read_word(bytes, shape.place_of(pc));
@@ -48,7 +47,11 @@ pub fn step<B: Bytes, L: Ledger>(bytes: &mut B, steps: &mut Steps<L>) -> Stepped
     ensures answer { result ≡ stepped_of (next (B.face bytes.old).state) }
     ensures state { let s = (B.face bytes.old).state in
         (B.face bytes.new).state ≡ state_after_step (next s) s }
+
+    // The places read, in order, and then the places written.
     ensures places { B.face bytes.new ≡ face_after (B.face bytes.old) }
+
+    // Room for at most 32 places is used.
     ensures room { B.room bytes.old ≤ B.room bytes.new + 32 }
     ensures counter { steps.new ≡ steps.old + counted_steps result }
 {
@@ -68,18 +71,4 @@ fn has_atomics(version: Version) -> bool
         Version::One => false,
         Version::Two => true,
     }
-}
-
-/// Why the word at this pc cannot be fetched. The pc is tested first.
-#[inline]
-fn fetch_fault(shape: Shape, pc: u32) -> Option<FaultKind>
-    ensures { result ≡ fetch_fault shape pc }
-{
-    if !is_aligned(pc) {
-        return Some(FaultKind::Misaligned);
-    }
-    if !shape.holds(pc, 4) {
-        return Some(FaultKind::FetchOutside);
-    }
-    None
 }

@@ -73,10 +73,12 @@ fn faults(word: u32, before: [u32; 3], kind: FaultKind, value: u32) -> Case {
     (word, before, fault(kind, 0x10000, value), 0x10000, x10)
 }
 
-/// Takes each step, in the version of the machine that the shape has, and looks at all registers afterwards.
+/// Takes each step, in the version of the machine that the shape has, and looks at all registers afterwards; and at all
+/// memory, which stays.
 fn take<R: Abort>(rt: &R, alloc: Global, shape: Shape, cases: &[Case]) {
     for (word, [x10, x11, x12], answer, pc, x10_after) in cases {
         let mut state = state_of(rt, alloc, shape, 0x10000, &[*word]);
+        let before = state_of(rt, alloc, shape, 0x10000, &[*word]);
         state.set_reg(10, *x10);
         state.set_reg(11, *x11);
         state.set_reg(12, *x12);
@@ -88,6 +90,8 @@ fn take<R: Abort>(rt: &R, alloc: Global, shape: Shape, cases: &[Case]) {
         for k in 13..32 {
             others |= state.reg(k);
         }
+        let held = state.holds(0x10000, 65_536) && before.holds(0x10000, 65_536);
+        let stays = held && state.mem(0x10000, 65_536) == before.mem(0x10000, 65_536);
         assert_eq!(rt;
             (
                 answered,
@@ -95,9 +99,10 @@ fn take<R: Abort>(rt: &R, alloc: Global, shape: Shape, cases: &[Case]) {
                 state.reg(10),
                 state.reg(11),
                 state.reg(12),
-                others
+                others,
+                stays
             ),
-            (*answer, *pc, *x10_after, *x11, *x12, 0),
+            (*answer, *pc, *x10_after, *x11, *x12, 0, true),
             "after {word}"
         );
     }
@@ -129,7 +134,23 @@ fn division_edges(rt: HostRuntime) {
     );
 }
 
-/// Illegal words, breaks, and transfers and addresses that are refused.
+#[test]
+fn misaligned_targets(rt: HostRuntime) {
+    take(
+        &rt,
+        rt.alloc(),
+        shape_at(&rt, 0x10000),
+        &[
+            // JALR x1, 2(x10): x1 is not written.
+            faults(0x0025_00E7, [0x10000, 0, 0], FaultKind::Misaligned, 0x10002),
+            // BNE x0, x0, +2 is not taken; BEQ x0, x0, +2 is.
+            sets(0x0000_1163, [3, 0, 0], 3),
+            faults(0x0000_0163, [3, 0, 0], FaultKind::Misaligned, 0x10002),
+        ],
+    );
+}
+
+/// Illegal words, breaks, and addresses that are refused.
 #[test]
 fn single_faults(rt: HostRuntime) {
     take(
@@ -139,11 +160,6 @@ fn single_faults(rt: HostRuntime) {
         &[
             faults(0, [3, 0, 0], FaultKind::Illegal, 0),
             faults(0x0010_0073, [3, 0, 0], FaultKind::Break, 0),
-            // JALR x1, 2(x10): x1 is not written.
-            faults(0x0025_00E7, [0x10000, 0, 0], FaultKind::Misaligned, 0x10002),
-            // BNE x0, x0, +2 is not taken; BEQ x0, x0, +2 is.
-            sets(0x0000_1163, [3, 0, 0], 3),
-            faults(0x0000_0163, [3, 0, 0], FaultKind::Misaligned, 0x10002),
             // LW x6, -3(x10)
             faults(
                 0xFFD5_2303,

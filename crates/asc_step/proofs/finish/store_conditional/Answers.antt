@@ -1,9 +1,8 @@
 use Rattle.std.proofs.Common.{[], ◌∷◌, ◌++◌, arith, refl, ap, sym, ◌∙◌, length, subst, true, false, not}
-use Rattle.std.specs.Int.{from_bool}
 use Rattle.asc_model.specs.State.{State}
 use Rattle.asc_model.specs.Number.{bytes_of}
 use Rattle.asc_model.specs.Machine.{Pc, Register, Memory, release}
-use Rattle.asc_model.specs.Arithmetic.{◌+w◌}
+use Rattle.asc_model.specs.Arithmetic.{◌+w◌, one_if}
 use Rattle.asc_model.specs.Effect.{StoreConditional}
 use Rattle.asc_model.specs.declared.fault.FaultKind.TheVariants.{StoreOutside}
 use Rattle.asc_step.specs.Execute.{Puts}
@@ -21,12 +20,12 @@ go_on-requires-clause-touched g c = touched_after_reads _ _ _ _ c.is_reserved-re
 
 pub release-requires-clause-length : goal.release-requires-clause-length
 release-requires-clause-length g c =
-    let list = Pc (c.args.pc +w 4) ∷ Register c.args.rd c.from.result ∷ [] in
+    let list = Pc (c.args.pc +w 4) ∷ Register c.args.rd c.one_if.result ∷ [] in
     omega (arith, length-IsState _ c.requires.at.state, ap (λ (s : State). length s.bytes) c.is_reserved-reserved.ensures.state, length_puts _ _ list c.go_on.ensures.face)
 
 pub put_word-requires-clause-place : goal.put_word-requires-clause-place
 put_word-requires-clause-place g c =
-    let list = Pc (c.args.pc +w 4) ∷ Register c.args.rd c.from.result ∷ [] in
+    let list = Pc (c.args.pc +w 4) ∷ Register c.args.rd c.one_if.result ∷ [] in
     let shape = c.shape-shape.ensures.shape in
     let clear = faulted _ _ StoreOutside _ _ c.in_default.ensures shape in
     let within = place-within (g.B.Bytes.face c.args.bytes.now) c.args.address 4 _ c.requires.at.state (atomic_holds (g.B.Bytes.face c.args.bytes.now).state.shape StoreOutside c.args.address clear) (placed _ _ _ _ c.place_of.ensures shape) in
@@ -40,7 +39,7 @@ returns-then-reserved-clause-finish g c =
     let f2 = g.B.Bytes.face c.go_on.new.bytes in
     let list = Pc (pc +w 4) ∷ Register rd 0 ∷ [] in
     let shape = c.shape-shape.ensures.shape in
-    let answered = subst (λ v. Puts f1 f2 (Pc (pc +w 4) ∷ Register rd v ∷ [])) (c.from.ensures ∙ ap (λ b. from_bool (not b)) c.if-reserved.true) c.go_on.ensures.face in
+    let answered = subst (λ v. Puts f1 f2 (Pc (pc +w 4) ∷ Register rd v ∷ [])) (c.one_if.ensures ∙ ap (λ b. one_if (not b)) c.if-reserved.true) c.go_on.ensures.face in
     let released = puts_then _ _ _ list (release ∷ []) answered c.release.ensures.face in
     let place = placed _ _ _ _ c.place_of.ensures (shape ∙ sym (shape_reads _ _ _ c.is_reserved-reserved.ensures.face) ∙ sym (shape_puts _ _ (list ++ release ∷ []) released)) in
     let stored = puts_memory _ _ _ c.args.address (bytes_of 4 c.args.value) place c.put_word.ensures.face in
@@ -59,7 +58,7 @@ returns-else-reserved-clause-finish g c =
     let f1 = g.B.Bytes.face c.is_reserved-reserved.new.bytes in
     let f2 = g.B.Bytes.face c.go_on.new.bytes in
     let list = Pc (pc +w 4) ∷ Register rd 1 ∷ [] in
-    let answered = subst (λ v. Puts f1 f2 (Pc (pc +w 4) ∷ Register rd v ∷ [])) (c.from.ensures ∙ ap (λ b. from_bool (not b)) c.if-reserved.false) c.go_on.ensures.face in
+    let answered = subst (λ v. Puts f1 f2 (Pc (pc +w 4) ∷ Register rd v ∷ [])) (c.one_if.ensures ∙ ap (λ b. one_if (not b)) c.if-reserved.false) c.go_on.ensures.face in
     finishes_store_conditional _ f1 _ pc rd c.args.address c.args.value false _ c.requires.at
     (faulted _ _ StoreOutside _ _ c.in_default.ensures c.shape-shape.ensures.shape)
     (sym c.if-reserved.false ∙ c.is_reserved-reserved.ensures.value) c.is_reserved-reserved.ensures.face
