@@ -1,3 +1,4 @@
 pub mod GuestCall
 pub mod World
 pub mod Serving
+pub mod Filling

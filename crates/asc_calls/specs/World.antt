@@ -1,7 +1,7 @@
 -- All that a run changes: the state, what the calls keep, the devices, and the count of steps.
 use Rattle.std.specs.Prelude.{◌≡◌, ℕ, Bool, IsTrue, MatchBool, List, [], Option, Some, None}
 use Rattle.asc_model.specs.State.{State}
-use Rattle.asc_shape.specs.Outside.{Takes, IsAtEnd, Given, given_after}
+use Rattle.asc_shape.specs.Outside.{Rose, Takes, IsAtEnd, Given, given_after}
 use Rattle.asc_calls.specs.GuestCall.{Act}
 
 -- What the calls of one run keep: the bounds of the program's break, the break, and whether the end of the input was
@@ -41,6 +41,11 @@ pub record Acts (old new : Outside) (act : Act) : Type 0 where
   pub taken : Takes old.left new.left act.taken
   pub out : new.out ≡ given_after old.out act.out
   pub err : new.err ≡ given_after old.err act.err
+
+-- a count of faults rose where its device is blamed, and else it stays
+pub record Blames (blamed : Type 0) (before now : ℕ) : Type 0 where
+  pub rose : blamed → Rose before now
+  pub stays : ¬ blamed → now ≡ before
 
 -- an input that agrees with what is told
 abbrev pub Agrees : Option (List ℕ) → List ℕ → Type 0

@@ -2,6 +2,7 @@
 #![tactic(auto)]
 
 mod calls;
+mod devices;
 #[cfg(test)]
 mod tests;
 

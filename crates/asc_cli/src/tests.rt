@@ -2,6 +2,7 @@ use crate::sink::StreamSink;
 use crate::source::StreamSource;
 use crate::store::FileStore;
 use asc_shape::{Failed, Loaded, Sink, Source, Store, StoreFault};
+use std::fs::File;
 use std::io::{ErrorKind, Read, Write};
 use std::test::Fail;
 use std::{fs, io};
@@ -113,5 +114,20 @@ fn reads_a_file_up_to_a_bound(rt: HostRuntime) -> Result<(), Fail> {
     fs::remove_file(&rt, name)?;
     assert_eq!(rt; store.read(name, &mut file, 5), Err(StoreFault::Failed));
     assert!(rt; file.is_empty());
+    Ok(())
+}
+
+/// What is put to a file is there at once, while the sink is still open.
+#[test]
+fn moves_bytes_through_a_file(rt: HostRuntime) -> Result<(), Fail> {
+    let name = "asc_cli_stream_test";
+    let mut sink = StreamSink::new(File::create(&rt, name)?);
+    assert_eq!(rt; sink.put(b"guest"), Ok(5));
+    let mut source = StreamSource::new(File::open(&rt, name)?);
+    let mut into = [b'-'; 8];
+    assert_eq!(rt; source.take(&mut into), Ok(5));
+    assert_eq!(rt; into, *b"guest---");
+    assert_eq!(rt; source.take(&mut into), Ok(0));
+    fs::remove_file(&rt, name)?;
     Ok(())
 }

@@ -1,8 +1,10 @@
-//! Tests that cross crates: whole runs of `top` over an outside in memory, and single steps. Expected values are worked
-//! out by hand from the formats and the instruction set, or come from another implementation, and none from the program's
-//! own output.
+//! Tests that cross crates: whole runs, of `top` over an outside in memory and of `Walk` in either version, and single
+//! steps. Expected values are worked out by hand from the formats and the instruction set, or come from another
+//! implementation, and none from the program's own output.
 #![tactic(auto)]
 
+#[cfg(test)]
+mod devices;
 #[cfg(test)]
 mod images;
 #[cfg(test)]

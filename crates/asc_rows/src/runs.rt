@@ -109,6 +109,9 @@ fn codes(rt: HostRuntime) {
         (Answer::TooLong, 65),
         (Answer::StoreFault, 66),
         (Answer::Memory, 71),
+        (Answer::ReadFault, 74),
+        (Answer::WriteFault, 74),
+        (Answer::ErrFault, 74),
         (Answer::Limit(1), 75),
         (Answer::Fault(fault, 1), 76),
     ] {

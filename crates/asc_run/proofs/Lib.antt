@@ -1,3 +1,4 @@
+pub mod Growth
 pub mod Reach
 pub mod Turn
 pub mod Stepped

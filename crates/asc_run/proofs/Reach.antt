@@ -4,13 +4,15 @@ use Rattle.std.proofs.lemmas.List.{append_assoc}
 use Rattle.asc_model.specs.State.{State}
 use Rattle.asc_shape.specs.Outside.{given_after}
 use Rattle.asc_shape.proofs.Streams.{given_after-nil, given_after-given_after, Takes-nil, Takes-append}
-use Rattle.asc_calls.specs.GuestCall.{Act, nothing, joint_act}
+use Rattle.asc_calls.specs.GuestCall.{Act, nothing, joint_act, Device, guest_call}
 use Rattle.asc_calls.specs.World.{Outside, World, Acts, MayCome, KnowsEnd}
+use Rattle.asc_calls.specs.Serving.{IsCutShort}
 use Rattle.asc_run.specs.declared.walk.Ended.{Ended}
 use Rattle.asc_run.specs.declared.walk.Ended.TheVariants.{Limit}
 use Rattle.asc_run.specs.Plain.{Position, Progress, On, Off, next_progress, progress, run_of, first_position, exec}
-use Rattle.asc_run.specs.Turn.{position_in, IsAt, Turns}
-use Rattle.asc_run.specs.Walk.{Follows}
+use Rattle.asc_run.specs.Turn.{position_in, IsAt, Turns, TurnFails}
+use Rattle.asc_run.specs.Walk.{Follows, StopsAt}
+use Rattle.asc_run.proofs.Growth.{begins_at_call}
 
 -- devices that stay took and were given nothing
 pub Acts-nothing : (o : Outside) → Acts o o nothing
@@ -124,3 +126,30 @@ Follows-limit limit old now n r e = record {
 -- a program that has not begun, and has found no end of its input
 pub Reaches-first_position : (w : World) (n : ℕ) → w.kept.ended ≡ false → w.kept.brk ≡ w.kept.low → n ≡ 0 → Reaches w.kept.low w.kept.high w.state w w n
 Reaches-first_position w n going brk none = rw none (Reaches-start w (λ known. absurd (cc)) brk)
+
+-- a program that goes on below its limit until a device fails in a call, which counts no step
+pub StopsAt-fails : (limit : ℕ) (old now new : World) (n m : ℕ) (device : Device) → Reaches old.kept.low old.kept.high old.state old now n → n < limit → TurnFails now new device → m ≡ n
+    → StopsAt limit old new m device
+unfolding exec
+StopsAt-fails limit old now new n m device r below t e =
+    let P : ℕ → Type 0 = λ k. StopsAt limit old new k device in
+    let cut : (rest : List ℕ) → MayCome new rest → IsCutShort device t.done (guest_call old.kept.low old.kept.high now.state now.kept.brk (t.done.taken ++ rest)) = λ rest may.
+    subst (λ low. IsCutShort device t.done (guest_call low old.kept.high now.state now.kept.brk (t.done.taken ++ rest))) r.same_low
+    (subst (λ high. IsCutShort device t.done (guest_call now.kept.low high now.state now.kept.brk (t.done.taken ++ rest))) r.same_high (t.call rest may)) in
+    subst P (sym e) (record {
+      below = below;
+      act = r.act;
+      done = t.done;
+      acts = Acts-joint_act old.outside now.outside new.outside r.act t.done r.acts t.acts;
+      run = λ rest may. ap (λ p. run_of n p) (r.run (t.done.taken ++ rest) (t.came rest may));
+      call = λ rest may. record {
+        position = position_in now (t.done.taken ++ rest) r.act;
+        stands = r.run (t.done.taken ++ rest) (t.came rest may);
+        asks = t.asks;
+        call = cut rest may;
+      };
+      begins = λ rest may. begins_at_call old.kept.low old.kept.high (first_position old.state old.kept.low (r.act.taken ++ (t.done.taken ++ rest))) n limit below
+          (position_in now (t.done.taken ++ rest) r.act) (r.run (t.done.taken ++ rest) (t.came rest may)) t.asks device t.done (cut rest may);
+      known = t.known r.known;
+      steps = t.steps ∙ r.steps;
+    })

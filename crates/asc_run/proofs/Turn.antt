@@ -1,25 +1,22 @@
 -- The turns of a program: a step that goes on, a fault, and a call.
-use Rattle.std.proofs.Common.{◌≡◌, ℕ, ◌+◌, List, [], ◌++◌, Option, Some, None, IsTrue, Bool, true, false, MatchBool, refl, sym, ap, ◌∙◌, arith, length, drop}
+use Rattle.std.proofs.Common.{◌≡◌, ℕ, ◌+◌, List, [], ◌++◌, Option, Some, None, IsTrue, Bool, true, false, MatchBool, refl, sym, ap, ◌∙◌, subst, arith, length, drop}
 use Rattle.std.proofs.lemmas.Bool.{false≢true}
-use Rattle.std.proofs.lemmas.List.{append-nil, drop_at}
+use Rattle.std.proofs.lemmas.List.{drop_at}
 use Rattle.asc_model.specs.declared.fault.Fault.{Fault}
 use Rattle.asc_model.specs.State.{State}
 use Rattle.asc_model.specs.Step.{At, Call, Bad, next}
 use Rattle.asc_shape.specs.Outside.{Given, Takes, IsAtEnd}
 use Rattle.asc_calls.specs.declared.calls.Served.{Served}
 use Rattle.asc_calls.specs.declared.calls.Served.TheVariants as served
-use Rattle.asc_calls.specs.GuestCall.{Act, nothing, joint_act}
+use Rattle.asc_calls.specs.GuestCall.{Act, nothing, joint_act, Device, Input, Out, Err, CallResult}
 use Rattle.asc_calls.specs.World.{CallState, outside, World, world, Acts, Agrees, MayCome}
-use Rattle.asc_calls.specs.Serving.{Serves, call_of}
+use Rattle.asc_calls.specs.Serving.{Serves, call_of, IsCutShort, IsAnswer, steps_of}
 use Rattle.asc_run.specs.declared.walk.Ended.{Ended}
 use Rattle.asc_run.specs.declared.walk.Ended.TheVariants as ends
 use Rattle.asc_run.specs.Plain.{On, progress_after_step, progress_after_call}
-use Rattle.asc_run.specs.Turn.{position_in, IsAt, Turns}
+use Rattle.asc_run.specs.Turn.{position_in, IsAt, Turns, TurnFails, device_of_turn}
+use Rattle.asc_run.proofs.Growth.{joint_act-nothing}
 use Rattle.asc_run.proofs.Reach.{Acts-nothing}
-
--- nothing more behind an act
-pub joint_act-nothing : (act : Act) → joint_act act nothing ≡ act
-joint_act-nothing act = λ i. record { taken = append-nil act.taken i; out = append-nil act.out i; err = append-nil act.err i }
 
 -- devices that stay took and were given nothing, whatever the counter of steps did
 Acts-kept : (left : Option (List ℕ)) (out err : Given) (n m : ℕ) → Acts (outside left out err n) (outside left out err m) nothing
@@ -64,10 +61,29 @@ Turns-bad s kept left out err n k fault e = record {
   one = λ h. absurd (cc);
 }
 
--- how a call ended the program
+-- how a call ended the run
 abbrev pub end_of : Served → Option Ended
 end_of served.Went = None
 end_of (served.Exit code) = Some (ends.Exit code)
+end_of served.ReadFault = Some ends.ReadFault
+end_of served.WriteFault = Some ends.WriteFault
+end_of served.ErrFault = Some ends.ErrFault
+
+-- a call in which no device failed counts one step
+steps_of-one : (answer : Served) → device_of_turn (end_of answer) ≡ None → steps_of answer ≡ 1
+steps_of-one served.Went h = refl
+steps_of-one (served.Exit code) h = refl
+steps_of-one served.ReadFault h = cc
+steps_of-one served.WriteFault h = cc
+steps_of-one served.ErrFault h = cc
+
+-- a call in which one failed counts none
+steps_of-none : (answer : Served) (device : Device) → device_of_turn (end_of answer) ≡ Some device → steps_of answer ≡ 0
+steps_of-none served.Went device h = cc
+steps_of-none (served.Exit code) device h = cc
+steps_of-none served.ReadFault device h = refl
+steps_of-none served.WriteFault device h = refl
+steps_of-none served.ErrFault device h = refl
 
 -- an input that agrees with what is left after bytes were taken agrees, behind them, with what was left before
 pub Agrees-before : (before now : Option (List ℕ)) (taken rest : List ℕ) → Takes before now taken → Agrees now rest → Agrees before (taken ++ rest)
@@ -104,30 +120,54 @@ progress_after_step-call : (old : World) (left : List ℕ) (first : Act) (k : �
 progress_after_step-call old left first k e = ap (λ x. progress_after_step old.kept.low old.kept.high k (position_in old left first) x) e
 
 -- plain execution comes to where a call that is served does
-IsAt-call : (old new : World) (answer : Served) (s : Serves old new answer) (k : ℕ) → next old.state ≡ Call → (first : Act) (rest : List ℕ) → MayCome new rest
+IsAt-call : (old new : World) (answer : Served) (s : Serves old new answer) (k : ℕ) → device_of_turn (end_of answer) ≡ None → next old.state ≡ Call → (first : Act) (rest : List ℕ) → MayCome new rest
     → IsAt (end_of answer) (k + 1) (position_in new rest (joint_act first s.act)) (progress_after_step old.kept.low old.kept.high k (position_in old (s.act.taken ++ rest) first) (next old.state))
-IsAt-call old new served.Went s k e first rest may =
+IsAt-call old new served.Went s k h e first rest may =
     progress_after_step-call old (s.act.taken ++ rest) first k e
     ∙ ap (λ x. progress_after_call k (position_in old (s.act.taken ++ rest) first) x) (s.call rest may)
     ∙ ap (λ x. On (record { state = new.state; brk = new.kept.brk; left = x; act = joint_act first s.act })) (drop-taken s.act.taken rest)
-IsAt-call old new (served.Exit code) s k e first rest may = (
+IsAt-call old new (served.Exit code) s k h e first rest may = (
   position_in old (s.act.taken ++ rest) first,
   progress_after_step-call old (s.act.taken ++ rest) first k e
       ∙ ap (λ x. progress_after_call k (position_in old (s.act.taken ++ rest) first) x) (s.call rest may),
-  sym (ap (λ a. joint_act first a) s.exit.2 ∙ joint_act-nothing first),
+  sym (ap (λ a. joint_act first a) s.leaves.none ∙ joint_act-nothing first),
 )
+IsAt-call old new served.ReadFault s k h e first rest may = absurd (cc)
+IsAt-call old new served.WriteFault s k h e first rest may = absurd (cc)
+IsAt-call old new served.ErrFault s k h e first rest may = absurd (cc)
 
 -- a call that was served
-pub Turns-call : (old new : World) (answer : Served) (k : ℕ) → next old.state ≡ Call → Serves old new answer → Turns old new k (k + 1) (end_of answer)
-Turns-call old new answer k e s = record {
+pub Turns-call : (old new : World) (answer : Served) (k : ℕ) → device_of_turn (end_of answer) ≡ None → next old.state ≡ Call → Serves old new answer → Turns old new k (k + 1) (end_of answer)
+Turns-call old new answer k h e s = record {
   act = s.act;
   acts = s.acts;
-  turn = IsAt-call old new answer s k e;
+  turn = IsAt-call old new answer s k h e;
   came = MayCome-before old new answer s;
   known = s.known;
   low = s.low;
   high = s.high;
-  steps = omega (arith, s.steps);
+  steps = omega (arith, s.steps, steps_of-one answer h);
   most = omega arith;
   one = λ _. refl;
+}
+
+-- what a call in which a device failed says of it
+IsCutShort-call : (new : World) (answer : Served) (device : Device) (act : Act) (call : CallResult) → device_of_turn (end_of answer) ≡ Some device → IsAnswer answer new act call
+    → IsCutShort device act call
+IsCutShort-call new served.Went device act call h says = absurd (cc)
+IsCutShort-call new (served.Exit code) device act call h says = absurd (cc)
+IsCutShort-call new served.ReadFault device act call h says = let same : Input ≡ device = cc in subst (λ d. IsCutShort d act call) same says
+IsCutShort-call new served.WriteFault device act call h says = let same : Out ≡ device = cc in subst (λ d. IsCutShort d act call) same says
+IsCutShort-call new served.ErrFault device act call h says = let same : Err ≡ device = cc in subst (λ d. IsCutShort d act call) same says
+
+-- a call in which a device failed
+pub TurnFails-call : (old new : World) (answer : Served) (device : Device) → device_of_turn (end_of answer) ≡ Some device → next old.state ≡ Call → Serves old new answer → TurnFails old new device
+TurnFails-call old new answer device h e s = record {
+  done = s.act;
+  acts = s.acts;
+  asks = e;
+  call = λ rest may. IsCutShort-call new answer device s.act (call_of old (s.act.taken ++ rest)) h (s.call rest may);
+  came = MayCome-before old new answer s;
+  known = s.known;
+  steps = omega (arith, s.steps, steps_of-none answer device h);
 }

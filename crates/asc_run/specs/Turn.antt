@@ -1,9 +1,11 @@
 -- What one turn of a program does to the world: one step, or one guest call.
 use Rattle.std.specs.Prelude.{◌≡◌, ℕ, ◌+◌, ◌≤◌, List, ◌++◌, Option, Some, None, IsNone}
-use Rattle.asc_calls.specs.GuestCall.{Act, joint_act}
+use Rattle.asc_model.specs.Step.{Call, next}
+use Rattle.asc_calls.specs.GuestCall.{Act, joint_act, Device}
 use Rattle.asc_calls.specs.World.{World, Acts, MayCome, KnowsEnd}
+use Rattle.asc_calls.specs.Serving.{call_of, IsCutShort}
 use Rattle.asc_run.specs.declared.walk.Ended.{Ended}
-use Rattle.asc_run.specs.Plain.{Position, Progress, On, Off, next_progress}
+use Rattle.asc_run.specs.Plain.{Position, Progress, On, Off, next_progress, device_of}
 
 -- where a program stands in a world, over this input, if it took and put act so far
 abbrev pub position_in : World → List ℕ → Act → Position
@@ -14,7 +16,12 @@ abbrev pub IsAt : Option Ended → (count : ℕ) → Position → Progress → T
 IsAt None count r progress = progress ≡ On r
 IsAt (Some ended) count r progress = (last : Position) × (progress ≡ Off count ended last) × (last.act ≡ r.act)
 
--- From old to new a program made one turn, before which it had done some steps, and done after it. What the turn took
+-- the device that failed in a turn, where one did
+abbrev pub device_of_turn : Option Ended → Option Device
+device_of_turn None = None
+device_of_turn (Some ended) = device_of ended
+
+-- From old to new a program made one turn in which no device failed, before which it had done some steps, and done after it. What the turn took
 -- and put is act.
 pub record Turns (old new : World) (before done : ℕ) (ended : Option Ended) : Type 0 where
   pub act : Act
@@ -31,3 +38,13 @@ pub record Turns (old new : World) (before done : ℕ) (ended : Option Ended) : 
   pub steps : new.steps + before ≡ old.steps + done
   pub most : done ≤ before + 1
   pub one : IsNone ended → done ≡ before + 1
+
+-- From old to new a device failed in the call at which a program stands. What the call took and put is done.
+pub record TurnFails (old new : World) (device : Device) : Type 0 where
+  pub done : Act
+  pub acts : Acts old.outside new.outside done
+  pub asks : next old.state ≡ Call
+  pub call : (rest : List ℕ) → MayCome new rest → IsCutShort device done (call_of old (done.taken ++ rest))
+  pub came : (rest : List ℕ) → MayCome new rest → MayCome old (done.taken ++ rest)
+  pub known : KnowsEnd old → KnowsEnd new
+  pub steps : new.steps ≡ old.steps

@@ -1,4 +1,4 @@
-ghost use Rattle.std.specs.Prelude.{◌≡◌, ◌≤◌, ◌<◌, ◌+◌, ◌^◌, None, false};
+ghost use Rattle.std.specs.Prelude.{◌≡◌, ◌≤◌, ◌<◌, ◌+◌, ◌^◌, Some, None, false};
 
 use crate::walk::Ended;
 use asc_calls::{Calls, Served};
@@ -16,11 +16,13 @@ pub(crate) struct Process {
 }
 
 impl Process {
-    ghost use Rattle.asc_calls.specs.World.{world};
-    ghost use Rattle.asc_run.specs.Turn.{Turns};
-    ghost use Rattle.asc_run.specs.Walk.{Follows};
+    ghost use Rattle.asc_calls.specs.GuestCall.{Device};
+    ghost use Rattle.asc_calls.specs.World.{Blames, world};
+    ghost use Rattle.asc_run.specs.Plain.{device_of};
+    ghost use Rattle.asc_run.specs.Turn.{Turns, TurnFails, device_of_turn};
+    ghost use Rattle.asc_run.specs.Walk.{Follows, StopsAt};
 
-    /// Runs a program that has not begun until it ends, or `limit` steps are done.
+    /// Runs a program that has not begun until it ends, a device fails, or `limit` steps are done.
     pub(crate) fn run<I: Source, O: Sink, E: Sink, L: Ledger>(
         &mut self,
         limit: u64,
@@ -32,14 +34,18 @@ impl Process {
         requires count { self.old.count ≡ 0 }
         requires brk { self.old.calls.brk ≡ self.old.calls.low }
         requires ended { self.old.calls.ended ≡ false }
-        ensures run { Follows limit
+        ensures run { device_of result ≡ None → Follows limit
             (world self.old.state self.old.calls (I.left input.old) (O.given out.old) (E.given err.old) steps.old)
             (world self.new.state self.new.calls (I.left input.new) (O.given out.new) (E.given err.new) steps.new)
             self.new.count result }
+        ensures stops { (device : Device) → device_of result ≡ Some device → StopsAt limit
+            (world self.old.state self.old.calls (I.left input.old) (O.given out.old) (E.given err.old) steps.old)
+            (world self.new.state self.new.calls (I.left input.new) (O.given out.new) (E.given err.new) steps.new)
+            self.new.count device }
         ensures limit { self.new.count ≤ limit }
-        ensures input_faults { I.faults input.new ≡ I.faults input.old }
-        ensures out_faults { O.faults out.new ≡ O.faults out.old }
-        ensures err_faults { E.faults err.new ≡ E.faults err.old }
+        ensures input_faults { Blames (result ≡ Ended.ReadFault) (I.faults input.old) (I.faults input.new) }
+        ensures out_faults { Blames (result ≡ Ended.WriteFault) (O.faults out.old) (O.faults out.new) }
+        ensures err_faults { Blames (result ≡ Ended.ErrFault) (E.faults err.old) (E.faults err.new) }
     {
         while self.count < limit {
             if let Some(ended) = self.turn(input, out, err, steps) {
@@ -49,7 +55,7 @@ impl Process {
         Ended::Limit
     }
 
-    /// One step, or one guest call. It answers how the program ended, if it did.
+    /// One step, or one guest call. It answers how the run ended, if it did.
     fn turn<I: Source, O: Sink, E: Sink, L: Ledger>(
         &mut self,
         input: &mut I,
@@ -58,13 +64,18 @@ impl Process {
         steps: &mut Steps<L>,
     ) -> Option<Ended>
         requires { self.old.count + 1 < 2 ^ 64 }
-        ensures turn { Turns
+        ensures turn { device_of_turn result ≡ None → Turns
             (world self.old.state self.old.calls (I.left input.old) (O.given out.old) (E.given err.old) steps.old)
             (world self.new.state self.new.calls (I.left input.new) (O.given out.new) (E.given err.new) steps.new)
             self.old.count self.new.count result }
-        ensures input_faults { I.faults input.new ≡ I.faults input.old }
-        ensures out_faults { O.faults out.new ≡ O.faults out.old }
-        ensures err_faults { E.faults err.new ≡ E.faults err.old }
+        ensures fails { (device : Device) → device_of_turn result ≡ Some device → TurnFails
+            (world self.old.state self.old.calls (I.left input.old) (O.given out.old) (E.given err.old) steps.old)
+            (world self.new.state self.new.calls (I.left input.new) (O.given out.new) (E.given err.new) steps.new)
+            device }
+        ensures count { (device : Device) → device_of_turn result ≡ Some device → self.new.count ≡ self.old.count }
+        ensures input_faults { Blames (result ≡ Some Ended.ReadFault) (I.faults input.old) (I.faults input.new) }
+        ensures out_faults { Blames (result ≡ Some Ended.WriteFault) (O.faults out.old) (O.faults out.new) }
+        ensures err_faults { Blames (result ≡ Some Ended.ErrFault) (E.faults err.old) (E.faults err.new) }
     {
         match step(&mut self.state, steps) {
             Stepped::Went => {
@@ -72,14 +83,19 @@ impl Process {
                 None
             }
             Stepped::Fault(fault) => Some(Ended::Fault(fault)),
-            Stepped::Call => {
-                let served = self.calls.serve(&mut self.state, input, out, err, steps);
-                self.count += 1;
-                match served {
-                    Served::Went => None,
-                    Served::Exit(code) => Some(Ended::Exit(code)),
+            Stepped::Call => match self.calls.serve(&mut self.state, input, out, err, steps) {
+                Served::Went => {
+                    self.count += 1;
+                    None
                 }
-            }
+                Served::Exit(code) => {
+                    self.count += 1;
+                    Some(Ended::Exit(code))
+                }
+                Served::ReadFault => Some(Ended::ReadFault),
+                Served::WriteFault => Some(Ended::WriteFault),
+                Served::ErrFault => Some(Ended::ErrFault),
+            },
         }
     }
 }

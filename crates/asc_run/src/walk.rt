@@ -1,4 +1,4 @@
-ghost use Rattle.std.specs.Prelude.{◌≡◌, ◌≤◌, ◌^◌, List, ℕ, IfOk, IfSome, IsNone, Some};
+ghost use Rattle.std.specs.Prelude.{◌≡◌, ◌≤◌, ◌^◌, List, ℕ, IfOk, IfSome, IsNone, Some, None};
 
 use crate::process::Process;
 use asc_calls::Calls;
@@ -18,6 +18,12 @@ pub enum Ended {
     Fault(Fault),
     /// The limit on steps was reached.
     Limit,
+    /// The input failed in a call, which counts no step.
+    ReadFault,
+    /// The sink of file 1 failed in a call, which counts no step.
+    WriteFault,
+    /// The sink of file 2 failed in a call, which counts no step.
+    ErrFault,
 }
 
 /// How a program is run.
@@ -80,7 +86,10 @@ impl Model for Walk {
 }
 
 impl Walk {
-    ghost use Rattle.asc_run.specs.Walk.{new_walk, world_of, Follows};
+    ghost use Rattle.asc_calls.specs.GuestCall.{Device};
+    ghost use Rattle.asc_calls.specs.World.{Blames};
+    ghost use Rattle.asc_run.specs.Plain.{device_of};
+    ghost use Rattle.asc_run.specs.Walk.{new_walk, world_of, Follows, StopsAt};
 
     /// A walk that has not begun. It takes the memory of one state.
     pub fn new(alloc: Global, image: &Image<'_>, settings: Settings) -> Result<Walk, Memory>
@@ -103,7 +112,7 @@ impl Walk {
         })
     }
 
-    /// Runs the program to its end or its limit. It takes no memory.
+    /// Runs the program to its end, its limit, or a call in which a device fails. It takes no memory.
     ///
     /// A second call answers as the first did, and changes nothing.
     pub fn go<I: Source, O: Sink, E: Sink, L: Ledger>(
@@ -113,11 +122,17 @@ impl Walk {
         err: &mut E,
         steps: &mut Steps<L>,
     ) -> Ended
-        // The first call goes as plain execution does.
-        ensures plain { IsNone self.old.ended → Follows self.old.limit
+        // The first call goes as plain execution does, where no device fails.
+        ensures plain { IsNone self.old.ended → device_of result ≡ None → Follows self.old.limit
             (world_of self.old (I.left input.old) (O.given out.old) (E.given err.old) steps.old)
             (world_of self.new (I.left input.new) (O.given out.new) (E.given err.new) steps.new)
             self.new.count result }
+
+        // Where one fails, it goes so up to the call in which that happens.
+        ensures stops { IsNone self.old.ended → (device : Device) → device_of result ≡ Some device → StopsAt self.old.limit
+            (world_of self.old (I.left input.old) (O.given out.old) (E.given err.old) steps.old)
+            (world_of self.new (I.left input.new) (O.given out.new) (E.given err.new) steps.new)
+            self.new.count device }
         ensures limit { self.new.count ≤ self.old.limit }
         ensures kept { self.new.ended ≡ Some result }
 
@@ -128,10 +143,13 @@ impl Walk {
             world_of self.new (I.left input.new) (O.given out.new) (E.given err.new) steps.new
             ≡ world_of self.old (I.left input.old) (O.given out.old) (E.given err.old) steps.old) }
 
-        // No device counts a fault.
-        ensures input_faults { I.faults input.new ≡ I.faults input.old }
-        ensures out_faults { O.faults out.new ≡ O.faults out.old }
-        ensures err_faults { E.faults err.new ≡ E.faults err.old }
+        // A device's count of faults rises where the first call blames it, and else it stays.
+        ensures input_faults { Blames (IsNone self.old.ended × (result ≡ Ended.ReadFault))
+            (I.faults input.old) (I.faults input.new) }
+        ensures out_faults { Blames (IsNone self.old.ended × (result ≡ Ended.WriteFault))
+            (O.faults out.old) (O.faults out.new) }
+        ensures err_faults { Blames (IsNone self.old.ended × (result ≡ Ended.ErrFault))
+            (E.faults err.old) (E.faults err.new) }
     {
         if let Some(ended) = self.ended {
             return ended;

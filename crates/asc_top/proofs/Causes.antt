@@ -43,22 +43,34 @@ exit_of : (how : Ended) (count code : ℕ) → answers.Exit code ≡ answer_at h
 exit_of (ends.Exit c) count code is = cc
 exit_of (ends.Fault f) count code is = cc
 exit_of ends.Limit count code is = cc
+exit_of ends.ReadFault count code is = cc
+exit_of ends.WriteFault count code is = cc
+exit_of ends.ErrFault count code is = cc
 
 limit_of : (how : Ended) (count n : ℕ) → answers.Limit n ≡ answer_at how count → (how ≡ ends.Limit) × (count ≡ n)
 limit_of (ends.Exit c) count n is = absurd (cc)
 limit_of (ends.Fault f) count n is = absurd (cc)
 limit_of ends.Limit count n is = (refl, cc)
+limit_of ends.ReadFault count n is = absurd (cc)
+limit_of ends.WriteFault count n is = absurd (cc)
+limit_of ends.ErrFault count n is = absurd (cc)
 
 fault_of : (how : Ended) (count n : ℕ) (f : Fault) → answers.Fault f n ≡ answer_at how count → (how ≡ ends.Fault f) × (count ≡ n)
 fault_of (ends.Exit c) count n f is = absurd (cc)
 fault_of (ends.Fault g) count n f is = (cc, cc)
 fault_of ends.Limit count n f is = absurd (cc)
+fault_of ends.ReadFault count n f is = absurd (cc)
+fault_of ends.WriteFault count n f is = absurd (cc)
+fault_of ends.ErrFault count n f is = absurd (cc)
 
 -- no run is refused as an image
 image_of_run : (how : Ended) (count : ℕ) (fault : ElfFault) → answers.Image fault ≡ answer_at how count → ⊥
 image_of_run (ends.Exit c) count fault is = cc
 image_of_run (ends.Fault f) count fault is = cc
 image_of_run ends.Limit count fault is = cc
+image_of_run ends.ReadFault count fault is = cc
+image_of_run ends.WriteFault count fault is = cc
+image_of_run ends.ErrFault count fault is = cc
 
 -- an answer that a load comes to
 abbrev IsOfLoad : Answer → Type 0
@@ -70,11 +82,17 @@ IsOfLoad (answers.Usage bad) = ⊥
 IsOfLoad answers.TooLong = ⊥
 IsOfLoad answers.StoreFault = ⊥
 IsOfLoad answers.Memory = ⊥
+IsOfLoad answers.ReadFault = Unit {0}
+IsOfLoad answers.WriteFault = Unit {0}
+IsOfLoad answers.ErrFault = Unit {0}
 
 IsOfLoad-answer_at : (how : Ended) (count : ℕ) → IsOfLoad (answer_at how count)
 IsOfLoad-answer_at (ends.Exit c) count = tt
 IsOfLoad-answer_at (ends.Fault f) count = tt
 IsOfLoad-answer_at ends.Limit count = tt
+IsOfLoad-answer_at ends.ReadFault count = tt
+IsOfLoad-answer_at ends.WriteFault count = tt
+IsOfLoad-answer_at ends.ErrFault count = tt
 
 IsOfLoad-answer : (result : Result loader.Image ElfFault) (left : List ℕ) → IsOfLoad (result_of_load result left).answer
 IsOfLoad-answer (Err fault) left = tt

@@ -1,12 +1,13 @@
 -- The headline, at each way in which an answer comes.
-use Rattle.std.proofs.Common.{◌≡◌, ◌≢◌, ℕ, ◌+◌, ◌<◌, ◌≤◌, Option, Some, None, List, length, replicate, subst, arith}
+use Rattle.std.proofs.Common.{◌≡◌, ◌≢◌, ℕ, ◌+◌, ◌<◌, ◌≤◌, Option, Some, None, List, length, replicate, refl, subst, arith}
 use Rattle.std.proofs.lemmas.List.{length-replicate}
 use Rattle.asc_shape.specs.Outside.{File, MayHold, MayHoldLonger}
+use Rattle.asc_calls.specs.GuestCall.{Device}
 use Rattle.asc_calls.specs.World.{Outside, Agrees}
 use Rattle.asc_top.specs.declared.answer.Answer.{Answer}
 use Rattle.asc_top.specs.declared.answer.Answer.TheVariants as answers
 use Rattle.asc_top.specs.Line.{line_of}
-use Rattle.asc_top.specs.Program.{file_limit, meaning, Gives, Means, HasFile, IsHeld}
+use Rattle.asc_top.specs.Program.{file_limit, meaning, Gives, Means, HasFile, IsHeld, IsStopped, Completes, device_of_answer}
 
 -- words ask for one name
 pub same_name : (asked : Option (List ℕ)) (name own : List ℕ) → asked ≡ Some name → asked ≡ Some own → name ≡ own
@@ -46,7 +47,22 @@ pub record FileRead (words : List (List ℕ)) (files : Option (List File)) (old 
   pub content : List ℕ
   pub held : MayHold files name content
   pub within : length content ≤ file_limit
-  pub means : answered ≢ answers.Memory → Means old new answered content
+  pub means : answered ≢ answers.Memory → device_of_answer answered ≡ None → Means old new answered content
+  pub stopped : (device : Device) → device_of_answer answered ≡ Some device → IsStopped old new device content
+
+-- an answer without a failure
+pub completed : (answered : Answer) → Completes answered → (answered ≢ answers.Memory) × (device_of_answer answered ≡ None)
+completed (answers.Exit code) h = ((λ is. cc), refl)
+completed (answers.Limit count) h = ((λ is. cc), refl)
+completed (answers.Fault fault count) h = ((λ is. cc), refl)
+completed (answers.Usage bad) h = ((λ is. cc), refl)
+completed (answers.Image fault) h = ((λ is. cc), refl)
+completed answers.TooLong h = ((λ is. cc), refl)
+completed answers.StoreFault h = absurd h
+completed answers.Memory h = absurd h
+completed answers.ReadFault h = absurd h
+completed answers.WriteFault h = absurd h
+completed answers.ErrFault h = absurd h
 
 -- the file has what holds of its content
 pub has_file : (words : List (List ℕ)) (files : Option (List File)) (old new : Outside) (answered : Answer) (P : List ℕ → Type 0)

@@ -1,18 +1,20 @@
 -- What a walk did, as what its file means.
-use Rattle.std.proofs.Common.{◌≡◌, ℕ, ◌≤◌, ◌<◌, Bool, true, false, Option, Some, None, List, [], ◌++◌, length, IsTrue, MatchBool, Ok, Err, refl, sym, ◌∙◌, ap, subst, arith}
+use Rattle.std.proofs.Common.{◌≡◌, ℕ, ◌≤◌, ◌<◌, Bool, true, false, Option, Some, None, List, [], ◌++◌, length, IsTrue, MatchBool, Ok, Err, refl, sym, ◌∙◌, ap, subst, arith, append_assoc}
 use Rattle.asc_model.specs.declared.version.Version.TheVariants.{Two}
-use Rattle.asc_shape.specs.Outside.{IsAtEnd}
+use Rattle.asc_shape.specs.Outside.{IsAtEnd, Given}
 use Rattle.asc_elf.specs.declared.fault.ElfFault.{ElfFault}
 use Rattle.asc_elf.specs.Image as loader
-use Rattle.asc_calls.specs.World.{Outside, World, Agrees, MayCome, KnowsEnd}
+use Rattle.asc_calls.specs.GuestCall.{Device}
+use Rattle.asc_calls.specs.World.{Outside, outside, World, Agrees, MayCome, KnowsEnd}
 use Rattle.asc_run.specs.declared.walk.Ended.{Ended}
-use Rattle.asc_run.specs.Plain.{Run}
-use Rattle.asc_run.specs.Walk.{run_from, Follows}
+use Rattle.asc_run.specs.declared.walk.Ended.TheVariants as ends
+use Rattle.asc_run.specs.Plain.{Run, device_of}
+use Rattle.asc_run.specs.Walk.{new_walk, world_of, run_from, Follows, StopsAt}
 use Rattle.asc_run.proofs.Reach.{Acts-nothing}
 use Rattle.asc_run.proofs.Turn.{Agrees-before}
 use Rattle.asc_top.specs.declared.answer.Answer.{Answer}
 use Rattle.asc_top.specs.declared.answer.Answer.TheVariants as answers
-use Rattle.asc_top.specs.Program.{file_limit, memory_size, step_limit, answer_at, refusal, result_of_run, result_of_load, run_of_image, meaning, Gives, Means}
+use Rattle.asc_top.specs.Program.{file_limit, memory_size, step_limit, answer_at, refusal, result_of_run, result_of_load, run_of_image, meaning, Gives, Means, IsStopped, device_of_answer}
 use Rattle.asc_top.proofs.Causes.{meaning-within, meaning-long}
 
 -- an input that may come after a run: it agrees with what is told then
@@ -88,3 +90,36 @@ means_image content fault o within loads =
 -- a file that is too long
 pub means_long : (o : Outside) (content : List ℕ) → file_limit < length content → Means o o answers.TooLong content
 means_long o content long = means_refusal content answers.TooLong o (λ left. meaning-long content left long)
+
+-- the device that a run's answer names
+pub device_of_answer-answer_at : (how : Ended) (count : ℕ) → device_of_answer (answer_at how count) ≡ device_of how
+device_of_answer-answer_at (ends.Exit c) count = refl
+device_of_answer-answer_at (ends.Fault f) count = refl
+device_of_answer-answer_at ends.Limit count = refl
+device_of_answer-answer_at ends.ReadFault count = refl
+device_of_answer-answer_at ends.WriteFault count = refl
+device_of_answer-answer_at ends.ErrFault count = refl
+
+-- a walk from an image's start that a device's failure stopped
+pub stopped_walk : (content : List ℕ) (image : loader.Image) (limit : ℕ) (told : Option (List ℕ)) (out err : Given) (n : ℕ) (new : World) (count : ℕ) (device : Device) → length content ≤ file_limit
+    → loader.image_of content memory_size Two ≡ Ok image → StopsAt step_limit (world_of (new_walk image limit) told out err n) new count device
+    → IsStopped (outside told out err n) new.outside device content
+stopped_walk content image limit told out err n new count device within loads s =
+    let r = rest_of new s.known in
+    let agrees = Agrees-before told new.left (s.act.taken ++ s.done.taken) r.rest s.acts.taken r.agrees in
+    record {
+      within = within;
+      image = image;
+      loads = loads;
+      left = s.act.taken ++ (s.done.taken ++ r.rest);
+      agrees = subst (λ l. Agrees told l) (append_assoc s.act.taken s.done.taken r.rest) agrees;
+      count = count;
+      below = s.below;
+      act = s.act;
+      done = s.done;
+      acts = s.acts;
+      run = s.run r.rest r.may;
+      call = s.call r.rest r.may;
+      begins = s.begins r.rest r.may;
+      steps = s.steps;
+    }

@@ -1,14 +1,14 @@
 -- What a file means as a program, and what `top` does with it.
-use Rattle.std.specs.Prelude.{◌≡◌, ℕ, ◌+◌, ◌^◌, ◌≤◌, List, length, Option, Some, None, Result, Ok, Err, nat_lt, if◌then◌else◌}
+use Rattle.std.specs.Prelude.{◌≡◌, ℕ, ◌+◌, ◌^◌, ◌<◌, ◌≤◌, List, length, Option, Some, None, Result, Ok, Err, nat_lt, if◌then◌else◌}
 use Rattle.asc_model.specs.declared.version.Version.TheVariants.{Two}
 use Rattle.asc_shape.specs.Outside.{File, MayHold, content_of}
 use Rattle.asc_elf.specs.declared.fault.ElfFault.{ElfFault}
 use Rattle.asc_elf.specs.Image as loader
-use Rattle.asc_calls.specs.GuestCall.{Act, nothing}
+use Rattle.asc_calls.specs.GuestCall.{Act, nothing, joint_act, IsBeginning, Device, Input, Out, Err}
 use Rattle.asc_calls.specs.World.{Outside, Acts, Agrees}
 use Rattle.asc_run.specs.declared.walk.Ended.{Ended}
 use Rattle.asc_run.specs.declared.walk.Ended.TheVariants as ends
-use Rattle.asc_run.specs.Plain.{Run, exec}
+use Rattle.asc_run.specs.Plain.{Run, exec, progress, first_position, StandsAtFailure}
 use Rattle.asc_top.specs.Line.{line_of}
 use Rattle.asc_top.specs.declared.answer.Answer.{Answer}
 use Rattle.asc_top.specs.declared.answer.Answer.TheVariants as answers
@@ -34,6 +34,9 @@ abbrev pub answer_at : Ended → ℕ → Answer
 answer_at (ends.Exit code) count = answers.Exit code
 answer_at (ends.Fault fault) count = answers.Fault fault count
 answer_at ends.Limit count = answers.Limit count
+answer_at ends.ReadFault count = answers.ReadFault
+answer_at ends.WriteFault count = answers.WriteFault
+answer_at ends.ErrFault count = answers.ErrFault
 
 -- what a program comes to: the answer, what it took and put, and how many steps it did
 pub record ProgramResult : Type 0 where
@@ -94,6 +97,41 @@ pub record Runs (told : Option (List ℕ)) (P : Run → Type 0) (content : List 
   pub agrees : Agrees told left
   pub holds : P (run_of_image image left)
 
+-- A file that is not too long is an image, whose plain run over some input that agrees with what is told was stopped when
+-- a device failed: its steps so far took and put act, and what was done of the call at which it stood is done. The whole
+-- plain run begins with both.
+pub record IsStopped (old new : Outside) (device : Device) (content : List ℕ) : Type 0 where
+  pub within : length content ≤ file_limit
+  pub image : loader.Image
+  pub loads : loader.image_of content memory_size Two ≡ Ok image
+  pub left : List ℕ
+  pub agrees : Agrees old.left left
+  pub count : ℕ
+  pub below : count < step_limit
+  pub act : Act
+  pub done : Act
+  pub acts : Acts old new (joint_act act done)
+  pub run : exec count image.low (loader.high_of image) image.start left
+      ≡ record { ended = ends.Limit; count = count; act = act }
+  pub call : StandsAtFailure image.low (loader.high_of image) device done
+      (progress image.low (loader.high_of image) (first_position image.start image.low left) count)
+  pub begins : IsBeginning (joint_act act done) (run_of_image image left).act
+  pub steps : new.steps ≡ old.steps + count
+
+-- the device that failed, where the answer says that one did
+abbrev pub device_of_answer : Answer → Option Device
+device_of_answer answers.ReadFault = Some Input
+device_of_answer answers.WriteFault = Some Out
+device_of_answer answers.ErrFault = Some Err
+device_of_answer (answers.Exit code) = None
+device_of_answer (answers.Limit count) = None
+device_of_answer (answers.Fault fault count) = None
+device_of_answer (answers.Usage bad) = None
+device_of_answer (answers.Image fault) = None
+device_of_answer answers.TooLong = None
+device_of_answer answers.StoreFault = None
+device_of_answer answers.Memory = None
+
 -- an answer for which the guest was not run
 abbrev pub IsRefusal : Answer → Type 0
 IsRefusal (answers.Usage bad) = Unit {0}
@@ -104,6 +142,9 @@ IsRefusal answers.Memory = Unit {0}
 IsRefusal (answers.Exit code) = ⊥
 IsRefusal (answers.Limit count) = ⊥
 IsRefusal (answers.Fault fault count) = ⊥
+IsRefusal answers.ReadFault = ⊥
+IsRefusal answers.WriteFault = ⊥
+IsRefusal answers.ErrFault = ⊥
 
 -- an answer that a file's meaning gives
 abbrev pub ComesOfFile : Answer → Type 0
@@ -115,11 +156,17 @@ ComesOfFile answers.TooLong = Unit {0}
 ComesOfFile (answers.Usage bad) = ⊥
 ComesOfFile answers.StoreFault = ⊥
 ComesOfFile answers.Memory = ⊥
+ComesOfFile answers.ReadFault = ⊥
+ComesOfFile answers.WriteFault = ⊥
+ComesOfFile answers.ErrFault = ⊥
 
--- neither the store failed nor memory was wanting
+-- no device failed, and no memory was wanting
 abbrev pub Completes : Answer → Type 0
 Completes answers.StoreFault = ⊥
 Completes answers.Memory = ⊥
+Completes answers.ReadFault = ⊥
+Completes answers.WriteFault = ⊥
+Completes answers.ErrFault = ⊥
 Completes (answers.Exit code) = Unit {0}
 Completes (answers.Limit count) = Unit {0}
 Completes (answers.Fault fault count) = Unit {0}

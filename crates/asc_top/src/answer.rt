@@ -29,6 +29,12 @@ pub enum Answer {
     StoreFault,
     /// Want of memory, before the guest's first step.
     Memory,
+    /// The input failed.
+    ReadFault,
+    /// The sink of file 1 failed.
+    WriteFault,
+    /// The sink of file 2 failed.
+    ErrFault,
 }
 
 impl Answer {
@@ -44,6 +50,7 @@ impl Answer {
             Answer::Image(_) | Answer::TooLong => 65,
             Answer::StoreFault => 66,
             Answer::Memory => 71,
+            Answer::ReadFault | Answer::WriteFault | Answer::ErrFault => 74,
             Answer::Limit(_) => 75,
             Answer::Fault(..) => 76,
         }

@@ -5,9 +5,10 @@ ghost use Rattle.asc_model.specs.declared.version.Version.TheVariants.{Two};
 ghost use Rattle.asc_elf.specs.declared.fault.ElfFault.{ElfFault};
 ghost use Rattle.asc_elf.specs.Image.{image_of};
 ghost use Rattle.asc_shape.specs.Outside.{Rose};
-ghost use Rattle.asc_calls.specs.World.{outside};
+ghost use Rattle.asc_calls.specs.GuestCall.{Device};
+ghost use Rattle.asc_calls.specs.World.{Blames, outside};
 ghost use Rattle.asc_top.specs.Line.{line_of};
-ghost use Rattle.asc_top.specs.Program.{Gives, Means, HasFile, Runs, IsHeld, IsRefusal, ComesOfFile, Completes, meaning, answer_at, file_limit, memory_size};
+ghost use Rattle.asc_top.specs.Program.{Gives, Means, HasFile, Runs, IsHeld, IsStopped, IsRefusal, ComesOfFile, Completes, device_of_answer, meaning, answer_at, file_limit, memory_size};
 
 use crate::answer::{Answer, Bad};
 use crate::line::image_name;
@@ -38,8 +39,8 @@ pub fn top<F: Store, I: Source, O: Sink, E: Sink, R: Sink, G: Gate, L: Ledger>(
     gate: &G,
     steps: &mut Steps<L>,
 ) -> Answer
-    // The headline: for a file and an input that are told, the answer, what is taken and put and the rise of the
-    // counter are plain execution's.
+    // The headline: for a file and an input that are told, where no device fails, the answer, what is taken and put and
+    // the rise of the counter are plain execution's.
     ensures headline { (name content left : List ℕ) → line_of (map string_bytes words.now) ≡ Some name
         → IsHeld (F.files store.old) name content → I.left input.old ≡ Some left → Completes result
         → Gives (outside (I.left input.old) (O.given out.old) (E.given err.old) steps.old)
@@ -52,7 +53,14 @@ pub fn top<F: Store, I: Source, O: Sink, E: Sink, R: Sink, G: Gate, L: Ledger>(
         (outside (I.left input.new) (O.given out.new) (E.given err.new) steps.new)
         result) }
 
-    // Each answer comes only there. That it comes there, unless the answer is StoreFault or Memory, is the headline.
+    // Where a device fails under the guest, all is plain execution's up to the call in which that happens.
+    ensures stopped { (device : Device) → device_of_answer result ≡ Some device
+        → HasFile (map string_bytes words.now) (F.files store.old)
+        (IsStopped (outside (I.left input.old) (O.given out.old) (E.given err.old) steps.old)
+        (outside (I.left input.new) (O.given out.new) (E.given err.new) steps.new)
+        device) }
+
+    // Each answer comes only there. That it comes there, unless a device failed or the answer is Memory, is the headline.
     ensures exit { (code : ℕ) → result ≡ Answer.Exit code → HasFile (map string_bytes words.now) (F.files store.old)
         (Runs (I.left input.old) (λ run. run.ended ≡ Ended.Exit code)) }
     ensures limit { (count : ℕ) → result ≡ Answer.Limit count → HasFile (map string_bytes words.now) (F.files store.old)
@@ -76,11 +84,11 @@ pub fn top<F: Store, I: Source, O: Sink, E: Sink, R: Sink, G: Gate, L: Ledger>(
     ensures report { R.given report.new ≡ R.given report.old }
     ensures files { F.files store.new ≡ F.files store.old }
 
-    // No device but the store counts a fault, and the store only where the answer says so.
+    // A device's count of faults rises where the answer blames it, and else it stays.
     ensures store_faults { result ≢ Answer.StoreFault → F.faults store.new ≡ F.faults store.old }
-    ensures input_faults { I.faults input.new ≡ I.faults input.old }
-    ensures out_faults { O.faults out.new ≡ O.faults out.old }
-    ensures err_faults { E.faults err.new ≡ E.faults err.old }
+    ensures read_fault { Blames (result ≡ Answer.ReadFault) (I.faults input.old) (I.faults input.new) }
+    ensures write_fault { Blames (result ≡ Answer.WriteFault) (O.faults out.old) (O.faults out.new) }
+    ensures err_fault { Blames (result ≡ Answer.ErrFault) (E.faults err.old) (E.faults err.new) }
     ensures report_faults { R.faults report.new ≡ R.faults report.old }
 {
     let Some(name) = image_name(words) else {
@@ -105,15 +113,19 @@ fn run<I: Source, O: Sink, E: Sink, L: Ledger>(
     steps: &mut Steps<L>,
 ) -> Answer
     requires { length file.now ≤ file_limit }
-    ensures means { result ≢ Answer.Memory → Means (outside (I.left input.old) (O.given out.old) (E.given err.old) steps.old)
+    ensures means { result ≢ Answer.Memory → device_of_answer result ≡ None → Means (outside (I.left input.old) (O.given out.old) (E.given err.old) steps.old)
         (outside (I.left input.new) (O.given out.new) (E.given err.new) steps.new)
         result file.now }
+    ensures stopped { (device : Device) → device_of_answer result ≡ Some device
+        → IsStopped (outside (I.left input.old) (O.given out.old) (E.given err.old) steps.old)
+        (outside (I.left input.new) (O.given out.new) (E.given err.new) steps.new)
+        device file.now }
     ensures refused { IsRefusal result
         → outside (I.left input.new) (O.given out.new) (E.given err.new) steps.new
         ≡ outside (I.left input.old) (O.given out.old) (E.given err.old) steps.old }
-    ensures input_faults { I.faults input.new ≡ I.faults input.old }
-    ensures out_faults { O.faults out.new ≡ O.faults out.old }
-    ensures err_faults { E.faults err.new ≡ E.faults err.old }
+    ensures input_faults { Blames (result ≡ Answer.ReadFault) (I.faults input.old) (I.faults input.new) }
+    ensures out_faults { Blames (result ≡ Answer.WriteFault) (O.faults out.old) (O.faults out.new) }
+    ensures err_faults { Blames (result ≡ Answer.ErrFault) (E.faults err.old) (E.faults err.new) }
 {
     let image = match read(file, MEMORY, Version::Two) {
         Ok(image) => image,
@@ -134,5 +146,8 @@ fn answer_at(ended: Ended, count: u64) -> Answer
         Ended::Exit(code) => Answer::Exit(code),
         Ended::Fault(fault) => Answer::Fault(fault, count),
         Ended::Limit => Answer::Limit(count),
+        Ended::ReadFault => Answer::ReadFault,
+        Ended::WriteFault => Answer::WriteFault,
+        Ended::ErrFault => Answer::ErrFault,
     }
 }

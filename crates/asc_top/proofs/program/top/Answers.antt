@@ -1,13 +1,13 @@
 -- When each answer comes, by the way in which it came.
-use Rattle.std.proofs.Common.{◌≡◌, ◌≢◌, ℕ, List, map, Ok, sym, ap, subst, arith}
+use Rattle.std.proofs.Common.{◌≡◌, ℕ, List, map, Ok, sym, ap, subst, arith}
 use Rattle.std.specs.String.{string_bytes}
 use Rattle.asc_shape.specs.Outside.{MayHold}
 use Rattle.asc_calls.specs.World.{outside}
 use Rattle.asc_top.specs.declared.answer.Answer.TheVariants as answers
-use Rattle.asc_top.specs.Program.{IsHeld, Completes}
+use Rattle.asc_top.specs.Program.{IsHeld, device_of_answer}
 use Rattle.asc_top.proofs.Causes.{runs-exit, runs-limit, runs-fault, image-is, usage-never, too_long-never, store_fault-never}
 use Rattle.asc_top.proofs.Outcomes.{means_long}
-use Rattle.asc_top.proofs.Headline.{same_name, headline_means, longer_file, FileRead, has_file}
+use Rattle.asc_top.proofs.Headline.{same_name, headline_means, longer_file, FileRead, has_file, completed}
 use Rattle.asc_top.proofs.program.top.Given.{Over}
 use Rattle.asc_top.proofs.program.top.Goals as goal
 
@@ -45,6 +45,7 @@ file_read g c = record {
       (c.in-Ok-Whole.ensures.whole (ap (λ x. Ok x) c.in-Ok-Whole.field-0-is));
   within = omega (arith, c.deref.ensures.len, c.in-Ok-Whole.ensures.within);
   means = c.run.ensures.means;
+  stopped = c.run.ensures.stopped;
 }
 
 pub returns-clause-headline : goal.returns-clause-headline
@@ -52,41 +53,46 @@ returns-clause-headline g c = λ name content left named held told completes.
     let files = g.F.Store.files c.args.store.now in
     let f = file_read g c in
     let same : name ≡ f.name = same_name _ name f.name named f.named in
-    let not_memory : c.run.result ≢ answers.Memory = λ is. subst (λ a. Completes a) is completes in
-    headline_means files f.name f.content _ _ c.run.result f.held (f.means not_memory) content left
+    let whole = completed c.run.result completes in
+    headline_means files f.name f.content _ _ c.run.result f.held (f.means whole.0 whole.1) content left
     (subst (λ (n : List ℕ). IsHeld files n content) same held) told
 
 pub returns-clause-exit : goal.returns-clause-exit
 returns-clause-exit g c = λ code is.
     let f = file_read g c in
-    has_file _ _ _ _ _ _ f (runs-exit f.content f.within _ _ c.run.result (f.means (λ memory. absurd (cc (is, memory)))) code is)
+    has_file _ _ _ _ _ _ f (runs-exit f.content f.within _ _ c.run.result (f.means (λ memory. absurd (cc (is, memory))) (ap (λ a. device_of_answer a) is)) code is)
 
 pub returns-clause-limit : goal.returns-clause-limit
 returns-clause-limit g c = λ count is.
     let f = file_read g c in
-    has_file _ _ _ _ _ _ f (runs-limit f.content f.within _ _ c.run.result (f.means (λ memory. absurd (cc (is, memory)))) count is)
+    has_file _ _ _ _ _ _ f (runs-limit f.content f.within _ _ c.run.result (f.means (λ memory. absurd (cc (is, memory))) (ap (λ a. device_of_answer a) is)) count is)
 
 pub returns-clause-fault : goal.returns-clause-fault
 returns-clause-fault g c = λ fault count is.
     let f = file_read g c in
-    has_file _ _ _ _ _ _ f (runs-fault f.content f.within _ _ c.run.result (f.means (λ memory. absurd (cc (is, memory)))) fault count is)
+    has_file _ _ _ _ _ _ f (runs-fault f.content f.within _ _ c.run.result (f.means (λ memory. absurd (cc (is, memory))) (ap (λ a. device_of_answer a) is)) fault count is)
 
 pub returns-clause-image : goal.returns-clause-image
 returns-clause-image g c = λ fault is.
     let f = file_read g c in
-    has_file _ _ _ _ _ _ f (image-is f.content f.within _ _ c.run.result (f.means (λ memory. absurd (cc (is, memory)))) fault is)
+    has_file _ _ _ _ _ _ f (image-is f.content f.within _ _ c.run.result (f.means (λ memory. absurd (cc (is, memory))) (ap (λ a. device_of_answer a) is)) fault is)
 
 pub returns-clause-usage : goal.returns-clause-usage
 returns-clause-usage g c = λ is.
     let f = file_read g c in
-    absurd (usage-never f.content f.within _ _ c.run.result (f.means (λ memory. absurd (cc (is, memory)))) is)
+    absurd (usage-never f.content f.within _ _ c.run.result (f.means (λ memory. absurd (cc (is, memory))) (ap (λ a. device_of_answer a) is)) is)
 
 pub returns-clause-too_long : goal.returns-clause-too_long
 returns-clause-too_long g c = λ is.
     let f = file_read g c in
-    absurd (too_long-never f.content f.within _ _ c.run.result (f.means (λ memory. absurd (cc (is, memory)))) is)
+    absurd (too_long-never f.content f.within _ _ c.run.result (f.means (λ memory. absurd (cc (is, memory))) (ap (λ a. device_of_answer a) is)) is)
 
 pub returns-clause-store_fault : goal.returns-clause-store_fault
 returns-clause-store_fault g c = λ is.
     let f = file_read g c in
-    absurd (store_fault-never f.content f.within _ _ c.run.result (f.means (λ memory. absurd (cc (is, memory)))) is)
+    absurd (store_fault-never f.content f.within _ _ c.run.result (f.means (λ memory. absurd (cc (is, memory))) (ap (λ a. device_of_answer a) is)) is)
+
+pub returns-clause-stopped : goal.returns-clause-stopped
+returns-clause-stopped g c = λ device h.
+    let f = file_read g c in
+    has_file _ _ _ _ _ _ f (f.stopped device h)
