@@ -1,0 +1,111 @@
+#!/usr/bin/env python3
+"""Times long loops of the built program, outside the gate.
+
+    python3 bench/loops.py [STEPS] [PROGRAM]
+
+STEPS is how many guest steps each loop does, 100,000,000 where it is not given. PROGRAM is the built `asc`,
+crates/asc_cli/out/asc_cli where it is not given; `rt run` in crates/asc_cli builds it. For each loop its name, the
+processor's seconds and the million guest steps a second are printed:
+
+    alu     six operations on registers and two on immediates, a counter and a branch
+    memory  three stores, three loads and two sums, a counter and a branch
+    call    a call of a function of two instructions, a counter and a branch
+"""
+
+import os
+import resource
+import struct
+import subprocess
+import sys
+import tempfile
+from pathlib import Path
+
+ROOT = Path(__file__).resolve().parent.parent
+
+# ---------------------------------------------------------------------------------------------------------------------
+# Instructions
+
+def addi(rd, rs1, immediate):
+    return (immediate & 0xFFF) << 20 | rs1 << 15 | rd << 7 | 0x13
+
+def lui(rd, upper):
+    return (upper & 0xFFFFF) << 12 | rd << 7 | 0x37
+
+def op(funct7, funct3, rd, rs1, rs2):
+    return funct7 << 25 | rs2 << 20 | rs1 << 15 | funct3 << 12 | rd << 7 | 0x33
+
+def bne(rs1, rs2, offset):
+    return (
+        (offset >> 12 & 1) << 31 | (offset >> 5 & 0x3F) << 25 | rs2 << 20 | rs1 << 15 | 1 << 12
+        | (offset >> 1 & 0xF) << 8 | (offset >> 11 & 1) << 7 | 0x63
+    )
+
+def lw(rd, rs1, offset):
+    return (offset & 0xFFF) << 20 | rs1 << 15 | 2 << 12 | rd << 7 | 0x03
+
+def sw(rs2, rs1, offset):
+    return (offset >> 5 & 0x7F) << 25 | rs2 << 20 | rs1 << 15 | 2 << 12 | (offset & 0x1F) << 7 | 0x23
+
+def jal(rd, offset):
+    return (
+        (offset >> 20 & 1) << 31 | (offset >> 1 & 0x3FF) << 21 | (offset >> 11 & 1) << 20 | (offset >> 12 & 0xFF) << 12
+        | rd << 7 | 0x6F
+    )
+
+def jalr(rd, rs1, offset):
+    return (offset & 0xFFF) << 20 | rs1 << 15 | rd << 7 | 0x67
+
+# x17 is 93 and x10 is 0: the guest ends with 0.
+EXIT = [addi(17, 0, 93), addi(10, 0, 0), 0x73]
+
+# ---------------------------------------------------------------------------------------------------------------------
+# Programs
+
+def counted(turns, before, body, behind=()):
+    """A loop that does `body` so often, counting x5 down, and then ends; `behind` stands behind the end."""
+    upper = (turns + 0x800) >> 12
+    loop = [*body, addi(5, 5, -1)]
+    return [
+        lui(5, upper), addi(5, 5, turns - (upper << 12)), *before,
+        *loop, bne(5, 0, -4 * len(loop)), *EXIT, *behind,
+    ]
+
+def loops(steps):
+    alu = [
+        addi(6, 6, 1), op(0, 0, 7, 6, 5), op(0x20, 0, 9, 7, 6), op(0, 4, 10, 7, 9),
+        op(0, 7, 11, 10, 6), op(0, 6, 12, 11, 7), op(0, 3, 13, 12, 5), addi(14, 13, 3),
+    ]
+    memory = [
+        sw(5, 8, 0), lw(6, 8, 0), sw(6, 8, 4), lw(7, 8, 4), addi(6, 7, 1), sw(6, 8, 8), lw(9, 8, 8), addi(9, 9, 1),
+    ]
+    call = [jal(1, 4 * 6)]
+    return {
+        "alu": counted(steps // 10, [], alu),
+        "memory": counted(steps // 10, [lui(8, 0x20)], memory),
+        "call": counted(steps // 5, [], call, [addi(6, 6, 1), jalr(0, 1, 0)]),
+    }
+
+def image(words):
+    """The smallest ELF file around these words, loaded and entered at 0x10000."""
+    size = 4 * len(words)
+    header = struct.pack("<4s12B", b"\x7fELF", 1, 1, 1, *[0] * 9)
+    header += struct.pack("<HHIIIIIHHHHHH", 2, 243, 1, 0x10000, 52, 0, 0, 52, 32, 1, 0, 0, 0)
+    segment = struct.pack("<8I", 1, 84, 0x10000, 0x10000, size, size, 7, 4)
+    return header + segment + struct.pack(f"<{len(words)}I", *words)
+
+# ---------------------------------------------------------------------------------------------------------------------
+
+def main():
+    steps = int(sys.argv[1]) if len(sys.argv) > 1 else 100_000_000
+    program = sys.argv[2] if len(sys.argv) > 2 else ROOT / "crates/asc_cli/out/asc_cli"
+    with tempfile.TemporaryDirectory() as folder:
+        for name, words in loops(steps).items():
+            path = os.path.join(folder, name)
+            Path(path).write_bytes(image(words))
+            before = resource.getrusage(resource.RUSAGE_CHILDREN).ru_utime
+            subprocess.run([program, "run", path], check=True)
+            seconds = resource.getrusage(resource.RUSAGE_CHILDREN).ru_utime - before
+            print(f"{name:8}{seconds:8.2f} s{steps / seconds / 1e6:8.0f} million steps a second")
+
+if __name__ == "__main__":
+    main()
