@@ -1,0 +1,4 @@
+pub mod Fitting
+pub mod Numbers
+pub mod Taken
+pub mod Lines

@@ -1,0 +1,20 @@
+-- The exit codes of the answers.
+use Rattle.std.specs.Prelude.{ℕ}
+use Rattle.asc_words.specs.declared.answer.Answer.{Answer}
+use Rattle.asc_words.specs.declared.answer.Answer.TheVariants.{Exit, Usage, Image, TooLong, StoreFault, Memory, ReadFault, WriteFault, ErrFault, ReportFault, Limit, Fault}
+
+-- The guest's own code, and else as in BSD's sysexits where it has one: EX_USAGE, EX_DATAERR, EX_NOINPUT, EX_OSERR,
+-- EX_IOERR, EX_TEMPFAIL, EX_PROTOCOL.
+abbrev pub code_of : Answer → ℕ
+code_of (Exit code) = code
+code_of (Usage bad) = 64
+code_of (Image fault) = 65
+code_of TooLong = 65
+code_of StoreFault = 66
+code_of Memory = 71
+code_of ReadFault = 74
+code_of WriteFault = 74
+code_of ErrFault = 74
+code_of ReportFault = 74
+code_of (Limit count) = 75
+code_of (Fault fault count) = 76

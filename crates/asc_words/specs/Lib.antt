@@ -1,0 +1,6 @@
+pub mod Command
+pub mod Rows
+pub mod Line
+pub mod Laws
+pub mod Answer
+pub mod Report

@@ -1,0 +1,67 @@
+-- The text of an answer on the report.
+use Rattle.std.specs.Prelude.{ℕ, codes, decimal, List, [], ◌++◌}
+use Rattle.std.specs.Int.{to_be_bytes, w32}
+use Rattle.hex.specs.Hex.{encode_lower}
+use Rattle.asc_model.specs.declared.fault.FaultKind.{FaultKind}
+use Rattle.asc_model.specs.declared.fault.FaultKind.TheVariants as kinds
+use Rattle.asc_elf.specs.declared.fault.ElfFault.{ElfFault}
+use Rattle.asc_elf.specs.declared.fault.ElfFault.TheVariants as elf
+use Rattle.asc_words.specs.declared.answer.Answer.{Answer}
+use Rattle.asc_words.specs.declared.answer.Answer.TheVariants.{Exit, Usage, Image, TooLong, StoreFault, Memory, ReadFault, WriteFault, ErrFault, ReportFault, Limit, Fault as Failed}
+
+-- the number of a machine fault's kind
+abbrev pub kind_number : FaultKind → ℕ
+kind_number kinds.Misaligned = 1
+kind_number kinds.FetchOutside = 2
+kind_number kinds.Illegal = 3
+kind_number kinds.LoadOutside = 4
+kind_number kinds.StoreOutside = 5
+kind_number kinds.Break = 6
+kind_number kinds.AtomicMisaligned = 7
+
+-- the number of an image's fault
+abbrev pub image_number : ElfFault → ℕ
+image_number elf.Short = 1
+image_number elf.Magic = 2
+image_number elf.Class = 3
+image_number elf.Data = 4
+image_number elf.Version = 5
+image_number elf.FileType = 6
+image_number elf.Machine = 7
+image_number elf.Flags = 8
+image_number elf.HeaderSize = 9
+image_number elf.Table = 10
+image_number elf.Interp = 11
+image_number (elf.Segment index) = 12
+image_number elf.NoLoad = 13
+image_number elf.TooLarge = 14
+image_number elf.Entry = 15
+
+-- where an image's fault is that of a program header, which
+abbrev pub header_text : ElfFault → List ℕ
+header_text (elf.Segment index) = codes " header " ++ decimal index
+header_text fault = []
+
+-- a word as eight lower-case hexadecimal digits
+abbrev pub word_text : ℕ → List ℕ
+word_text word = encode_lower (to_be_bytes w32 word)
+
+-- The line of an answer. A guest that ends by itself has none. Where the report itself fails, it has a prefix of the
+-- line of the answer that this one replaces, and gets no more.
+unfoldable pub report_text : Answer → List ℕ
+report_text (Exit code) = []
+report_text (Usage bad) = codes "asc: usage\n"
+report_text (Image fault) = codes "asc: image fault " ++ decimal (image_number fault) ++ header_text fault ++ codes "\n"
+report_text TooLong = codes "asc: image too long\n"
+report_text StoreFault = codes "asc: store failed\n"
+report_text Memory = codes "asc: out of memory\n"
+report_text ReadFault = codes "asc: input failed\n"
+report_text WriteFault = codes "asc: output failed\n"
+report_text ErrFault = codes "asc: error output failed\n"
+report_text ReportFault = []
+report_text (Limit count) = codes "asc: limit after " ++ decimal count ++ codes "\n"
+report_text (Failed fault count) =
+    codes "asc: fault " ++ decimal (kind_number fault.kind)
+    ++ codes " at " ++ word_text fault.pc
+    ++ codes " value " ++ word_text fault.value
+    ++ codes " after " ++ decimal count ++ codes "\n"

@@ -1,0 +1,60 @@
+ghost use Rattle.std.specs.Prelude.{◌≡◌};
+
+use asc_elf::ElfFault;
+use asc_step::Fault;
+
+/// What is wrong with a command line.
+#[derive(Clone, Copy, Debug, PartialEq, Eq)]
+pub enum Bad {
+    /// The words are of no command.
+    Words,
+}
+
+/// How the program ends.
+#[derive(Clone, Copy, Debug, PartialEq, Eq)]
+pub enum Answer {
+    /// The guest ended with this code.
+    Exit(u8),
+    /// The guest had done this many steps when its limit was reached.
+    Limit(u64),
+    /// An instruction of the guest met a fault after this many steps.
+    Fault(Fault, u64),
+    /// The command line is wrong.
+    Usage(Bad),
+    /// The file is no image that can be run.
+    Image(ElfFault),
+    /// The file has more than 67,108,864 bytes.
+    TooLong,
+    /// The store failed, or has no file of that name.
+    StoreFault,
+    /// Want of memory, before the guest's first step.
+    Memory,
+    /// The guest's input failed.
+    ReadFault,
+    /// The guest's output failed.
+    WriteFault,
+    /// The guest's error output failed.
+    ErrFault,
+    /// The report failed, while it took the text of another answer.
+    ReportFault,
+}
+
+impl Answer {
+    ghost use Rattle.asc_words.specs.Answer.{code_of};
+
+    /// The exit status that stands for an answer: the guest's own, or one of BSD's sysexits where it has one.
+    pub fn code(&self) -> u8
+        ensures { result ≡ code_of self.now }
+    {
+        match self {
+            Answer::Exit(code) => *code,
+            Answer::Usage(_) => 64,
+            Answer::Image(_) | Answer::TooLong => 65,
+            Answer::StoreFault => 66,
+            Answer::Memory => 71,
+            Answer::ReadFault | Answer::WriteFault | Answer::ErrFault | Answer::ReportFault => 74,
+            Answer::Limit(_) => 75,
+            Answer::Fault(..) => 76,
+        }
+    }
+}

@@ -1,0 +1,16 @@
+//! The edge of the program: what the words of a command line mean, how a run is answered, and the answer's text.
+#![tactic(auto)]
+
+mod answer;
+mod command;
+mod laws;
+mod line;
+mod report;
+
+pub use answer::{Answer, Bad};
+pub use laws::{lines_are_within, taken_words_have_lines};
+pub use line::{Line, LineFault, parse};
+pub use report::text;
+
+#[cfg(test)]
+mod tests;

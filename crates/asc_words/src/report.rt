@@ -1,0 +1,158 @@
+//! The text of an answer, built in bytes on the stack.
+ghost use Rattle.std.specs.Prelude.{◌≡◌, ◌+◌, ◌≤◌, ◌++◌, codes, decimal, drop, length};
+ghost use Rattle.arrayvec.specs.ArrayVec.{array_vec_len};
+ghost use Rattle.asc_words.specs.Report.{header_text, image_number, kind_number, report_text, word_text};
+
+use crate::answer::Answer;
+use arrayvec::ArrayVec;
+use asc_elf::ElfFault;
+use asc_step::{Fault, FaultKind};
+use itoa::Buffer;
+
+/// The text of an answer as far as it is built.
+type Text = ArrayVec<u8, 512>;
+
+/// Puts the text of an answer, which is one line or none, at the front of `into`, and answers its length. It takes no
+/// memory.
+pub fn text(answer: &Answer, into: &mut [u8]) -> usize
+    requires { 512 ≤ length into.old }
+    ensures text { into.new ≡ report_text answer.now ++ drop (length (report_text answer.now)) into.old }
+    ensures length { result ≡ length (report_text answer.now) }
+{
+    let line = line(answer);
+    let length = line.len();
+    into[..length].copy_from_slice(line.as_slice());
+    length
+}
+
+/// The text of an answer.
+#[tactic(auto, unfolding(crate::specs::Report::report_text))]
+fn line(answer: &Answer) -> Text
+    ensures { result.items ≡ report_text answer.now }
+{
+    let mut line = Text::new();
+    match answer {
+        Answer::Exit(_) | Answer::ReportFault => {}
+        Answer::Usage(_) => put(&mut line, b"asc: usage\n"),
+        Answer::Image(fault) => put_image_fault(&mut line, fault),
+        Answer::TooLong => put(&mut line, b"asc: image too long\n"),
+        Answer::StoreFault => put(&mut line, b"asc: store failed\n"),
+        Answer::Memory => put(&mut line, b"asc: out of memory\n"),
+        Answer::ReadFault => put(&mut line, b"asc: input failed\n"),
+        Answer::WriteFault => put(&mut line, b"asc: output failed\n"),
+        Answer::ErrFault => put(&mut line, b"asc: error output failed\n"),
+        Answer::Limit(count) => put_limit(&mut line, *count),
+        Answer::Fault(fault, count) => put_fault(&mut line, fault, *count),
+    }
+    line
+}
+
+/// Appends the line of an image's fault.
+fn put_image_fault(line: &mut Text, fault: &ElfFault)
+    requires { array_vec_len line.old ≡ 0 }
+    ensures { line.new.items ≡ line.old.items ++ codes "asc: image fault " ++ decimal (image_number fault.now)
+        ++ header_text fault.now ++ codes "\n" }
+{
+    put(line, b"asc: image fault ");
+    put_number(line, image_number(fault));
+    if let ElfFault::Segment(index) = fault {
+        put(line, b" header ");
+        put_number(line, u64::from(*index));
+    }
+    put(line, b"\n");
+}
+
+/// Appends the line of a limit that was reached.
+fn put_limit(line: &mut Text, count: u64)
+    requires { array_vec_len line.old ≡ 0 }
+    ensures { line.new.items ≡ line.old.items ++ codes "asc: limit after " ++ decimal count ++ codes "\n" }
+{
+    put(line, b"asc: limit after ");
+    put_number(line, count);
+    put(line, b"\n");
+}
+
+/// Appends the line of a machine's fault.
+fn put_fault(line: &mut Text, fault: &Fault, count: u64)
+    requires { array_vec_len line.old ≡ 0 }
+    ensures { line.new.items ≡ line.old.items ++ codes "asc: fault " ++ decimal (kind_number fault.now.kind)
+        ++ codes " at " ++ word_text fault.now.pc ++ codes " value " ++ word_text fault.now.value
+        ++ codes " after " ++ decimal count ++ codes "\n" }
+{
+    put(line, b"asc: fault ");
+    put_number(line, kind_number(fault.kind));
+    put(line, b" at ");
+    put_word(line, fault.pc);
+    put(line, b" value ");
+    put_word(line, fault.value);
+    put(line, b" after ");
+    put_number(line, count);
+    put(line, b"\n");
+}
+
+/// Appends bytes.
+fn put(line: &mut Text, piece: &[u8])
+    requires { array_vec_len line.old + length piece.now ≤ 512 }
+    ensures { line.new.items ≡ line.old.items ++ piece.now }
+{
+    line.try_extend_from_slice(piece).unwrap();
+}
+
+/// Appends a number in decimal.
+fn put_number(line: &mut Text, number: u64)
+    requires { array_vec_len line.old + 20 ≤ 512 }
+    ensures number { line.new.items ≡ line.old.items ++ decimal number }
+    ensures room { array_vec_len line.new ≤ array_vec_len line.old + 20 }
+{
+    let mut buffer = Buffer::new();
+    put(line, buffer.format(number).as_bytes());
+}
+
+/// Appends a word as eight hexadecimal digits.
+fn put_word(line: &mut Text, word: u32)
+    requires { array_vec_len line.old + 8 ≤ 512 }
+    ensures word { line.new.items ≡ line.old.items ++ word_text word }
+    ensures room { array_vec_len line.new ≡ array_vec_len line.old + 8 }
+{
+    let mut digits = [0; 8];
+    hex::encode_to_slice(word.to_be_bytes(), &mut digits).unwrap();
+    put(line, &digits);
+}
+
+/// The number of a machine fault's kind.
+fn kind_number(kind: FaultKind) -> u64
+    ensures { result ≡ kind_number kind }
+{
+    match kind {
+        FaultKind::Misaligned => 1,
+        FaultKind::FetchOutside => 2,
+        FaultKind::Illegal => 3,
+        FaultKind::LoadOutside => 4,
+        FaultKind::StoreOutside => 5,
+        FaultKind::Break => 6,
+        FaultKind::AtomicMisaligned => 7,
+    }
+}
+
+/// The number of an image's fault.
+fn image_number(fault: &ElfFault) -> u64
+    ensures { result ≡ image_number fault.now }
+{
+    match fault {
+        ElfFault::Short => 1,
+        ElfFault::Magic => 2,
+        ElfFault::Class => 3,
+        ElfFault::Data => 4,
+        ElfFault::Version => 5,
+        ElfFault::FileType => 6,
+        ElfFault::Machine => 7,
+        ElfFault::Flags => 8,
+        ElfFault::HeaderSize => 9,
+        ElfFault::Table => 10,
+        ElfFault::Interp => 11,
+        ElfFault::Segment(_) => 12,
+        ElfFault::NoLoad => 13,
+        ElfFault::TooLarge => 14,
+        ElfFault::Entry => 15,
+    }
+}
