@@ -37,7 +37,8 @@ pub record Reads (before after : Option (List ℕ)) (old new : State) (buffer n 
   pub kept : now ≡ record was { ended = now.ended }
 
 -- a read whose source failed took fewer bytes
-pub record ReadsPart (before after : Option (List ℕ)) (old new : State) (buffer n : ℕ) (was now : CallState) : Type 0 where
+pub record ReadsPart (before after : Option (List ℕ)) (old new : State) (buffer n : ℕ) (was now : CallState)
+    : Type 0 where
   pub taken : List ℕ
   pub into : TakesInto before after old new buffer n taken
   pub fewer : length taken < n

@@ -21,8 +21,8 @@ abbrev pub device_of_turn : Option Ended → Option Device
 device_of_turn None = None
 device_of_turn (Some ended) = device_of ended
 
--- From old to new a program made one turn in which no device failed, before which it had done some steps, and done after it. What the turn took
--- and put is act.
+-- From old to new a program made one turn in which no device failed, before which it had done some steps, and done
+-- after it. What the turn took and put is act.
 pub record Turns (old new : World) (before done : ℕ) (ended : Option Ended) : Type 0 where
   pub act : Act
   pub acts : Acts old.outside new.outside act

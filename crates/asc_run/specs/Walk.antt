@@ -68,7 +68,8 @@ pub record StopsAt (limit : ℕ) (old new : World) (count : ℕ) (device : Devic
   pub run : (rest : List ℕ) → MayCome new rest
       → run_from count old (act.taken ++ (done.taken ++ rest)) ≡ record { ended = Limit; count = count; act = act }
   pub call : (rest : List ℕ) → MayCome new rest
-      → StandsAtFailure old.kept.low old.kept.high device done (progress_from old (act.taken ++ (done.taken ++ rest)) count)
+      → StandsAtFailure old.kept.low old.kept.high device done
+      (progress_from old (act.taken ++ (done.taken ++ rest)) count)
   pub begins : (rest : List ℕ) → MayCome new rest
       → IsBeginning (joint_act act done) (run_from limit old (act.taken ++ (done.taken ++ rest))).act
   pub known : KnowsEnd new

@@ -47,18 +47,12 @@ fn run<L: Ledger, R: Abort>(
         asked,
         hits,
     } = walk.counts();
-    counted(&steps, count);
     assert_eq!(rt; (executed, skipped, asked, hits), (count, 0, 0, 0));
     let again = walk.go(&mut input, &mut out, &mut err, &mut steps);
     assert_eq!(rt; again, ended);
     assert_eq!(rt; walk.counts().count, count);
-    counted(&steps, count);
     (ended, count)
 }
-
-fn counted<L: Ledger>(_steps: &Steps<L>, _count: u64)
-    requires { _steps.now ≡ _count }
-{}
 
 #[test]
 fn runs(rt: HostRuntime) {

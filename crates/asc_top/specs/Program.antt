@@ -97,9 +97,9 @@ pub record Runs (told : Option (List ℕ)) (P : Run → Type 0) (content : List 
   pub agrees : Agrees told left
   pub holds : P (run_of_image image left)
 
--- A file that is not too long is an image, whose plain run over some input that agrees with what is told was stopped when
--- a device failed: its steps so far took and put act, and what was done of the call at which it stood is done. The whole
--- plain run begins with both.
+-- A file that is not too long is an image, whose plain run over some input that agrees with what is told was stopped
+-- when a device failed: its steps so far took and put act, and what was done of the call at which it stood is done. The
+-- whole plain run begins with both.
 pub record IsStopped (old new : Outside) (device : Device) (content : List ℕ) : Type 0 where
   pub within : length content ≤ file_limit
   pub image : loader.Image

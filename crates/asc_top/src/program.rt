@@ -113,7 +113,8 @@ fn run<I: Source, O: Sink, E: Sink, L: Ledger>(
     steps: &mut Steps<L>,
 ) -> Answer
     requires { length file.now ≤ file_limit }
-    ensures means { result ≢ Answer.Memory → device_of_answer result ≡ None → Means (outside (I.left input.old) (O.given out.old) (E.given err.old) steps.old)
+    ensures means { result ≢ Answer.Memory → device_of_answer result ≡ None
+        → Means (outside (I.left input.old) (O.given out.old) (E.given err.old) steps.old)
         (outside (I.left input.new) (O.given out.new) (E.given err.new) steps.new)
         result file.now }
     ensures stopped { (device : Device) → device_of_answer result ≡ Some device
