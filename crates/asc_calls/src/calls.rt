@@ -1,4 +1,4 @@
-ghost use Rattle.std.specs.Prelude.{◌≡◌, ◌≤◌, ◌+◌, ◌==◌, ◌||◌, ℕ, List, Option, IsTrue, IfOk, OnErr, length, false};
+ghost use Rattle.std.specs.Prelude.{◌≡◌, ◌+◌, ◌==◌, ◌||◌, ℕ, List, Option, IsTrue, IfOk, OnErr, length, false};
 ghost use Rattle.asc_model.specs.Shape.{holds};
 ghost use Rattle.asc_model.specs.Machine.{register, view_of};
 ghost use Rattle.asc_shape.specs.Outside.{Given, HasCause};
@@ -49,7 +49,6 @@ impl Calls {
 
     /// The calls of a run whose break stands at `low` at first, and may rise to `high`.
     pub fn new(low: u32, high: u32) -> Calls
-        requires { low ≤ high }
         ensures { result ≡ record { low = low; high = high; brk = low; ended = false } }
     {
         Calls {

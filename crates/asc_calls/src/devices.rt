@@ -10,7 +10,8 @@ use asc_shape::{Failed, Sink, Source};
 
 /// Takes bytes to the front of a buffer until it is full, or the end of the input is found, and tells how many.
 pub(crate) fn fill<I: Source>(input: &mut I, buffer: &mut [u8]) -> Result<usize, Failed>
-    ensures fills { IfOk result (λ count. Fills (I.left input.old) (I.left input.new) buffer.old buffer.new count) }
+    ensures fills { IfOk result
+        (λ count. Fills (I.left input.old) (I.left input.new) buffer.old buffer.new count) }
     ensures end { IfOk result (λ count. count < length buffer.old → IsAtEnd (I.left input.new)) }
     ensures part { OnErr result (FillsPart (I.left input.old) (I.left input.new) buffer.old buffer.new) }
     ensures cause { HasCause (I.faults input.old) (I.faults input.new) result }

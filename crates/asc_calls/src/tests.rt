@@ -149,22 +149,27 @@ fn reads<L: Ledger, R: Abort>(rt: &R, alloc: Global, blank: Blank, mut input: Li
     let mut out = CountSink::new();
     let mut err = CountSink::new();
     let mut pc = 0x10000_u32;
-    for (call, x10) in [
-        ([READ, 0, BUFFER, 4], 3),
-        ([READ, 0, BUFFER, 4], 0),
-        ([READ, 0, BUFFER, 0], 0),
-        ([READ, 0, 0x1FFFE, 4], 0xFFFF_FFF2),
+    for (call, x10, buffer) in [
+        ([READ, 0, 0x1FFFE, 4], 0xFFFF_FFF2, [0xEE; 4]),
         // A sum that wraps to an address in memory.
-        ([READ, 0, 0xFFFF_FFFF, 0x10002], 0xFFFF_FFF2),
-        ([READ, 5, BUFFER, 4], 0xFFFF_FFF7),
-        ([1000, 0, BUFFER, 4], 0xFFFF_FFDA),
+        ([READ, 0, 0xFFFF_FFFF, 0x10002], 0xFFFF_FFF2, [0xEE; 4]),
+        ([READ, 5, BUFFER, 4], 0xFFFF_FFF7, [0xEE; 4]),
+        ([READ, 0, 0, 0], 0, [0xEE; 4]),
+        ([WRITE, 1, 0, 0], 0, [0xEE; 4]),
+        ([WRITE, 1, 0x1FFFE, 4], 0xFFFF_FFF2, [0xEE; 4]),
+        ([READ, 0, BUFFER, 4], 3, *b"abc\xEE"),
+        ([READ, 0, BUFFER, 4], 0, *b"abc\xEE"),
+        ([READ, 0, BUFFER, 0], 0, *b"abc\xEE"),
+        ([1000, 0, BUFFER, 4], 0xFFFF_FFDA, *b"abc\xEE"),
     ] {
         let served = guest.ask(call, &mut input, &mut out, &mut err);
         pc = pc.wrapping_add(4);
-        assert_eq!(rt; served, Served::Went);
-        assert_eq!(rt; guest.stands(), (pc, x10));
-        assert_eq!(rt; guest.buffer(rt), *b"abc\xEE");
+        assert_eq!(rt;
+            (served, guest.stands(), guest.buffer(rt)),
+            (Served::Went, (pc, x10), buffer)
+        );
     }
+    assert_eq!(rt; out.count(), 0);
 }
 
 #[test]

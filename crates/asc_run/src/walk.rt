@@ -129,11 +129,13 @@ impl Walk {
             self.new.count result }
 
         // Where one fails, it goes so up to the call in which that happens.
-        ensures stops { IsNone self.old.ended → (device : Device) → device_of result ≡ Some device → StopsAt self.old.limit
+        ensures stops { IsNone self.old.ended → (device : Device) → device_of result ≡ Some device
+            → StopsAt self.old.limit
             (world_of self.old (I.left input.old) (O.given out.old) (E.given err.old) steps.old)
             (world_of self.new (I.left input.new) (O.given out.new) (E.given err.new) steps.new)
             self.new.count device }
         ensures limit { self.new.count ≤ self.old.limit }
+        ensures same_limit { self.new.limit ≡ self.old.limit }
         ensures kept { self.new.ended ≡ Some result }
 
         // A second one answers the same, and changes nothing.

@@ -28,7 +28,7 @@ run_arguments =
 abbrev pub run_command : Shape
 run_command = record (new_shape (codes "run")) { rules = run_arguments }
 
--- asc with its subcommands, of which one must be there; it takes no word for help or a version
+-- asc with its subcommands, of which one must be there; it has no version, and no flag or subcommand for help
 abbrev pub asc_command : App
 asc_command = record {
   top = record (new_shape (codes "asc")) {

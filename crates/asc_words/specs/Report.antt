@@ -51,7 +51,8 @@ word_text word = encode_lower (to_be_bytes w32 word)
 unfoldable pub report_text : Answer → List ℕ
 report_text (Exit code) = []
 report_text (Usage bad) = codes "asc: usage\n"
-report_text (Image fault) = codes "asc: image fault " ++ decimal (image_number fault) ++ header_text fault ++ codes "\n"
+report_text (Image fault) =
+    codes "asc: image fault " ++ decimal (image_number fault) ++ header_text fault ++ codes "\n"
 report_text TooLong = codes "asc: image too long\n"
 report_text StoreFault = codes "asc: store failed\n"
 report_text Memory = codes "asc: out of memory\n"

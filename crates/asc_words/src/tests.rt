@@ -7,7 +7,7 @@ use std::test::Fail;
 
 // Command lines, with one space between two words, and what they mean by clap's rules: the image, the memory in KiB, the
 // limit and the version.
-static LINES: [(&str, &str); 66] = [
+static LINES: [(&str, &str); 69] = [
     // the image alone
     ("asc run a", "a 1024 1099511627776 2"),
     ("asc run ", " 1024 1099511627776 2"),
@@ -68,6 +68,9 @@ static LINES: [(&str, &str); 66] = [
     // repeated
     ("asc run a --memory 64 --memory 64", "refused"),
     ("asc run a --steps 1 --steps=2", "refused"),
+    ("asc run a --machine 1 --machine 1", "refused"),
+    ("asc run a --steps", "refused"),
+    ("asc run -- -h", "-h 1024 1099511627776 2"),
     // two hyphens
     ("asc run -- a", "a 1024 1099511627776 2"),
     ("asc run a --", "a 1024 1099511627776 2"),
