@@ -28,8 +28,11 @@ pub(crate) fn fill<I: Source>(input: &mut I, buffer: &mut [u8]) -> Result<usize,
     Ok(filled)
 }
 
-/// Puts all bytes of a piece.
-pub(crate) fn put_all<S: Sink>(sink: &mut S, piece: &[u8]) -> Result<(), Failed>
+/// Puts all bytes of a piece to a sink, which may take fewer than it is offered, and is then asked again for the rest.
+///
+/// Where the sink fails, it was given the first bytes of the piece, and not all. Where the piece is empty the sink isn't
+/// asked.
+pub fn put_all<S: Sink>(sink: &mut S, piece: &[u8]) -> Result<(), Failed>
     ensures all { OnOk result (S.given sink.new ≡ given_after (S.given sink.old) piece.now) }
     ensures part { OnErr result (PutsPart (S.given sink.old) (S.given sink.new) piece.now) }
     ensures cause { HasCause (S.faults sink.old) (S.faults sink.new) result }

@@ -7,3 +7,4 @@ mod devices;
 mod tests;
 
 pub use calls::{Calls, Served};
+pub use devices::put_all;

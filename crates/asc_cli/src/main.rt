@@ -4,7 +4,7 @@
 ghost use Rattle.std.specs.Prelude.{◌≡◌, ◌≢◌, ◌⊎◌, ◌<◌, map, None, IfErr};
 ghost use Rattle.std.specs.Process.{exit_status};
 ghost use Rattle.std.specs.String.{string_bytes};
-ghost use Rattle.asc_top.specs.declared.answer.Answer.{Answer};
+ghost use Rattle.asc_top.specs.Program.{Answer};
 ghost use Rattle.asc_top.specs.Answer.{code_of};
 ghost use Rattle.asc_top.specs.Line.{line_of};
 
@@ -15,7 +15,7 @@ mod store;
 mod tests;
 
 use asc_shape::{Open, Steps};
-use asc_top::{Answer, Bad, top};
+use asc_top::{Answer, Bad, reported, top};
 use sink::StreamSink;
 use source::StreamSource;
 use std::env;
@@ -28,7 +28,10 @@ use store::FileStore;
 fn main(rt: HostRuntime) -> ExitCode {
     match words(&rt) {
         Ok(words) => run::<Brand>(&rt, &words, Blank::new(1)),
-        Err(refusal) => ExitCode::from(refusal.code()),
+        Err(refusal) => {
+            let mut report = StreamSink::new(rt.stderr());
+            ExitCode::from(reported(refusal, &mut report).code())
+        }
     }
 }
 
@@ -50,7 +53,8 @@ fn run<L: Ledger>(rt: &HostRuntime, words: &[String], blank: Blank) -> ExitCode
     requires some { 0 < L.parts }
     // The status is the code of an answer, which is that for wrong words where they are wrong.
     ensures { (answer : Answer) × (exit_status result ≡ code_of answer)
-        × (line_of (map string_bytes words.now) ≡ None → answer ≢ Answer.Memory → answer ≡ Answer.Usage Bad.Words) }
+        × (line_of (map string_bytes words.now) ≡ None → answer ≢ Answer.Memory → answer ≢ Answer.ReportFault
+        → answer ≡ Answer.Usage Bad.Words) }
 {
     let mut store = FileStore::new(rt);
     let mut input = StreamSource::new(rt.stdin());

@@ -4,12 +4,14 @@
 #![tactic(auto)]
 
 #[cfg(test)]
-mod devices;
-#[cfg(test)]
 mod images;
+#[cfg(test)]
+mod loading;
+#[cfg(test)]
+mod outside;
 #[cfg(test)]
 mod programs;
 #[cfg(test)]
-mod runs;
-#[cfg(test)]
 mod single_steps;
+#[cfg(test)]
+mod whole_runs;

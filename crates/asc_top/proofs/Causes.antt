@@ -2,42 +2,42 @@
 use Rattle.std.proofs.Common.{◌≡◌, ℕ, ◌<◌, ◌≤◌, Bool, true, false, nat_lt, cond, List, length, Result, Ok, Err, refl, sym, ◌∙◌, ap, subst, arith}
 use Rattle.std.proofs.lemmas.Bool.Decides.{nat_tests}
 use Rattle.asc_model.specs.declared.fault.Fault.{Fault}
-use Rattle.asc_model.specs.declared.version.Version.TheVariants.{Two}
 use Rattle.asc_calls.specs.World.{Outside}
 use Rattle.asc_elf.specs.declared.fault.ElfFault.{ElfFault}
 use Rattle.asc_elf.specs.Image as loader
 use Rattle.asc_run.specs.declared.walk.Ended.{Ended}
 use Rattle.asc_run.specs.declared.walk.Ended.TheVariants as ends
 use Rattle.asc_run.specs.Plain.{Run}
-use Rattle.asc_top.specs.declared.answer.Answer.{Answer}
-use Rattle.asc_top.specs.declared.answer.Answer.TheVariants as answers
-use Rattle.asc_top.specs.declared.answer.Bad.TheVariants.{Words}
-use Rattle.asc_top.specs.Program.{file_limit, memory_size, answer_at, refusal, result_of_load, run_of_image, meaning, Means, Runs, IsRefusal}
+use Rattle.asc_words.specs.Line.{Run as Line}
+use Rattle.asc_words.specs.declared.answer.Answer.{Answer}
+use Rattle.asc_words.specs.declared.answer.Answer.TheVariants as answers
+use Rattle.asc_words.specs.declared.answer.Bad.TheVariants.{Words}
+use Rattle.asc_top.specs.Program.{file_limit, load_of, IsNoImage, answer_at, refusal, result_of_load, run_of_image, meaning, Means, Runs, IsRefusal}
 
 -- a file that is not too long means what its load comes to
-pub meaning-within : (content left : List ℕ) → length content ≤ file_limit → meaning content left ≡ result_of_load (loader.image_of content memory_size Two) left
+pub meaning-within : (line : Line) (content left : List ℕ) → length content ≤ file_limit → meaning line content left ≡ result_of_load line (load_of line content) left
 unfolding meaning
-meaning-within content left within =
+meaning-within line content left within =
     let short : nat_lt file_limit (length content) ≡ false = grind (arith, nat_tests) in
-    ap (λ (b : Bool). cond b (refusal answers.TooLong) (result_of_load (loader.image_of content memory_size Two) left)) short
+    ap (λ (b : Bool). cond b (refusal answers.TooLong) (result_of_load line (load_of line content) left)) short
 
 -- one that is too long is refused
-pub meaning-long : (content left : List ℕ) → file_limit < length content → meaning content left ≡ refusal answers.TooLong
+pub meaning-long : (line : Line) (content left : List ℕ) → file_limit < length content → meaning line content left ≡ refusal answers.TooLong
 unfolding meaning
-meaning-long content left long =
+meaning-long line content left long =
     let is : nat_lt file_limit (length content) ≡ true = grind (arith, nat_tests) in
-    ap (λ (b : Bool). cond b (refusal answers.TooLong) (result_of_load (loader.image_of content memory_size Two) left)) is
+    ap (λ (b : Bool). cond b (refusal answers.TooLong) (result_of_load line (load_of line content) left)) is
 
 -- the image of a load, and the answer of its run
-record RunOf (result : Result loader.Image ElfFault) (left : List ℕ) (answered : Answer) : Type 0 where
+record RunOf (line : Line) (result : Result loader.Image ElfFault) (left : List ℕ) (answered : Answer) : Type 0 where
   image : loader.Image
   loads : result ≡ Ok image
-  answer : answered ≡ answer_at (run_of_image image left).ended (run_of_image image left).count
+  answer : answered ≡ answer_at (run_of_image line image left).ended (run_of_image line image left).count
 
 -- an answer that is no refusal is an image's
-run_of-answer : (result : Result loader.Image ElfFault) (left : List ℕ) (answered : Answer) → (IsRefusal answered → ⊥) → answered ≡ (result_of_load result left).answer → RunOf result left answered
-run_of-answer (Ok image) left answered runs is = record { image = image; loads = refl; answer = is }
-run_of-answer (Err fault) left answered runs is = absurd (runs (subst (λ a. IsRefusal a) (sym is) tt))
+run_of-answer : (line : Line) (result : Result loader.Image ElfFault) (left : List ℕ) (answered : Answer) → (IsRefusal answered → ⊥) → answered ≡ (result_of_load line result left).answer → RunOf line result left answered
+run_of-answer line (Ok image) left answered runs is = record { image = image; loads = refl; answer = is }
+run_of-answer line (Err fault) left answered runs is = absurd (runs (subst (λ a. IsRefusal a) (sym is) tt))
 
 exit_of : (how : Ended) (count code : ℕ) → answers.Exit code ≡ answer_at how count → how ≡ ends.Exit code
 exit_of (ends.Exit c) count code is = cc
@@ -85,6 +85,7 @@ IsOfLoad answers.Memory = ⊥
 IsOfLoad answers.ReadFault = Unit {0}
 IsOfLoad answers.WriteFault = Unit {0}
 IsOfLoad answers.ErrFault = Unit {0}
+IsOfLoad answers.ReportFault = ⊥
 
 IsOfLoad-answer_at : (how : Ended) (count : ℕ) → IsOfLoad (answer_at how count)
 IsOfLoad-answer_at (ends.Exit c) count = tt
@@ -94,21 +95,21 @@ IsOfLoad-answer_at ends.ReadFault count = tt
 IsOfLoad-answer_at ends.WriteFault count = tt
 IsOfLoad-answer_at ends.ErrFault count = tt
 
-IsOfLoad-answer : (result : Result loader.Image ElfFault) (left : List ℕ) → IsOfLoad (result_of_load result left).answer
-IsOfLoad-answer (Err fault) left = tt
-IsOfLoad-answer (Ok image) left = IsOfLoad-answer_at (run_of_image image left).ended (run_of_image image left).count
+IsOfLoad-answer : (line : Line) (result : Result loader.Image ElfFault) (left : List ℕ) → IsOfLoad (result_of_load line result left).answer
+IsOfLoad-answer line (Err fault) left = tt
+IsOfLoad-answer line (Ok image) left = IsOfLoad-answer_at (run_of_image line image left).ended (run_of_image line image left).count
 
-image_of-answer : (result : Result loader.Image ElfFault) (left : List ℕ) (fault : ElfFault) → answers.Image fault ≡ (result_of_load result left).answer → result ≡ Err fault
-image_of-answer (Err f) left fault is = cc
-image_of-answer (Ok image) left fault is = absurd (image_of_run (run_of_image image left).ended (run_of_image image left).count fault is)
+image_of-answer : (line : Line) (result : Result loader.Image ElfFault) (left : List ℕ) (fault : ElfFault) → answers.Image fault ≡ (result_of_load line result left).answer → result ≡ Err fault
+image_of-answer line (Err f) left fault is = cc
+image_of-answer line (Ok image) left fault is = absurd (image_of_run (run_of_image line image left).ended (run_of_image line image left).count fault is)
 
-module _ (content : List ℕ) (within : length content ≤ file_limit) (old new : Outside) (answered : Answer) (m : Means old new answered content) where
-  answer : answered ≡ (result_of_load (loader.image_of content memory_size Two) m.left).answer
-  answer = subst (λ r. answered ≡ r.answer) (meaning-within content m.left within) m.gives.answer
+module _ (line : Line) (content : List ℕ) (within : length content ≤ file_limit) (old new : Outside) (answered : Answer) (m : Means old new answered line content) where
+  answer : answered ≡ (result_of_load line (load_of line content) m.left).answer
+  answer = subst (λ r. answered ≡ r.answer) (meaning-within line content m.left within) m.gives.answer
 
-  runs : (P : Run → Type 0) → (IsRefusal answered → ⊥) → ((image : loader.Image) (left : List ℕ) → answered ≡ answer_at (run_of_image image left).ended (run_of_image image left).count → P (run_of_image image left)) → Runs old.left P content
+  runs : (P : Run → Type 0) → (IsRefusal answered → ⊥) → ((image : loader.Image) (left : List ℕ) → answered ≡ answer_at (run_of_image line image left).ended (run_of_image line image left).count → P (run_of_image line image left)) → Runs old.left P line content
   runs P no_refusal holds =
-      let o = run_of-answer (loader.image_of content memory_size Two) m.left answered no_refusal answer in
+      let o = run_of-answer line (load_of line content) m.left answered no_refusal answer in
       record {
         within = within;
         image = o.image;
@@ -118,23 +119,23 @@ module _ (content : List ℕ) (within : length content ≤ file_limit) (old new 
         holds = holds o.image m.left o.answer;
       }
 
-  pub runs-exit : (code : ℕ) → answered ≡ answers.Exit code → Runs old.left (λ run. run.ended ≡ ends.Exit code) content
+  pub runs-exit : (code : ℕ) → answered ≡ answers.Exit code → Runs old.left (λ run. run.ended ≡ ends.Exit code) line content
   runs-exit code is =
-      runs _ (λ refused. subst (λ a. IsRefusal a) is refused) (λ image left answer. exit_of (run_of_image image left).ended (run_of_image image left).count code (sym is ∙ answer))
+      runs _ (λ refused. subst (λ a. IsRefusal a) is refused) (λ image left answer. exit_of (run_of_image line image left).ended (run_of_image line image left).count code (sym is ∙ answer))
 
-  pub runs-limit : (count : ℕ) → answered ≡ answers.Limit count → Runs old.left (λ run. (run.ended ≡ ends.Limit) × (run.count ≡ count)) content
+  pub runs-limit : (count : ℕ) → answered ≡ answers.Limit count → Runs old.left (λ run. (run.ended ≡ ends.Limit) × (run.count ≡ count)) line content
   runs-limit count is =
-      runs _ (λ refused. subst (λ a. IsRefusal a) is refused) (λ image left answer. limit_of (run_of_image image left).ended (run_of_image image left).count count (sym is ∙ answer))
+      runs _ (λ refused. subst (λ a. IsRefusal a) is refused) (λ image left answer. limit_of (run_of_image line image left).ended (run_of_image line image left).count count (sym is ∙ answer))
 
-  pub runs-fault : (fault : Fault) (count : ℕ) → answered ≡ answers.Fault fault count → Runs old.left (λ run. (run.ended ≡ ends.Fault fault) × (run.count ≡ count)) content
+  pub runs-fault : (fault : Fault) (count : ℕ) → answered ≡ answers.Fault fault count → Runs old.left (λ run. (run.ended ≡ ends.Fault fault) × (run.count ≡ count)) line content
   runs-fault fault count is =
-      runs _ (λ refused. subst (λ a. IsRefusal a) is refused) (λ image left answer. fault_of (run_of_image image left).ended (run_of_image image left).count count fault (sym is ∙ answer))
+      runs _ (λ refused. subst (λ a. IsRefusal a) is refused) (λ image left answer. fault_of (run_of_image line image left).ended (run_of_image line image left).count count fault (sym is ∙ answer))
 
-  pub image-is : (fault : ElfFault) → answered ≡ answers.Image fault → (length content ≤ file_limit) × (loader.image_of content memory_size Two ≡ Err fault)
-  image-is fault is = (within, image_of-answer (loader.image_of content memory_size Two) m.left fault (sym is ∙ answer))
+  pub image-is : (fault : ElfFault) → answered ≡ answers.Image fault → IsNoImage fault line content
+  image-is fault is = record { within = within; loads = image_of-answer line (load_of line content) m.left fault (sym is ∙ answer) }
 
   of_load : IsOfLoad answered
-  of_load = subst (λ a. IsOfLoad a) (sym answer) (IsOfLoad-answer (loader.image_of content memory_size Two) m.left)
+  of_load = subst (λ a. IsOfLoad a) (sym answer) (IsOfLoad-answer line (load_of line content) m.left)
 
   -- answers that no file that was read gives
   pub usage-never : answered ≡ answers.Usage Words → ⊥

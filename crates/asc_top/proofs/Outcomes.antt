@@ -1,6 +1,5 @@
 -- What a walk did, as what its file means.
 use Rattle.std.proofs.Common.{◌≡◌, ℕ, ◌≤◌, ◌<◌, Bool, true, false, Option, Some, None, List, [], ◌++◌, length, IsTrue, MatchBool, Ok, Err, refl, sym, ◌∙◌, ap, subst, arith, append_assoc}
-use Rattle.asc_model.specs.declared.version.Version.TheVariants.{Two}
 use Rattle.asc_shape.specs.Outside.{IsAtEnd, Given}
 use Rattle.asc_elf.specs.declared.fault.ElfFault.{ElfFault}
 use Rattle.asc_elf.specs.Image as loader
@@ -12,9 +11,10 @@ use Rattle.asc_run.specs.Plain.{Run, device_of}
 use Rattle.asc_run.specs.Walk.{new_walk, world_of, run_from, Follows, StopsAt}
 use Rattle.asc_run.proofs.Reach.{Acts-nothing}
 use Rattle.asc_run.proofs.Turn.{Agrees-before}
-use Rattle.asc_top.specs.declared.answer.Answer.{Answer}
-use Rattle.asc_top.specs.declared.answer.Answer.TheVariants as answers
-use Rattle.asc_top.specs.Program.{file_limit, memory_size, step_limit, answer_at, refusal, result_of_run, result_of_load, run_of_image, meaning, Gives, Means, IsStopped, device_of_answer}
+use Rattle.asc_words.specs.Line.{Run as Line}
+use Rattle.asc_words.specs.declared.answer.Answer.{Answer}
+use Rattle.asc_words.specs.declared.answer.Answer.TheVariants as answers
+use Rattle.asc_top.specs.Program.{file_limit, load_of, answer_at, refusal, result_of_run, result_of_load, run_of_image, meaning, Gives, Means, IsStopped, device_of_answer}
 use Rattle.asc_top.proofs.Causes.{meaning-within, meaning-long}
 
 -- an input that may come after a run: it agrees with what is told then
@@ -49,16 +49,16 @@ rest_of : (w : World) → KnowsEnd w → Rest w
 rest_of w known = rest_from w w.kept.ended w.left refl refl known
 
 -- a walk from an image's start did what its file means
-pub means_walk : (content : List ℕ) (image : loader.Image) (old new : World) (count : ℕ) (ended : Ended) → length content ≤ file_limit
-    → loader.image_of content memory_size Two ≡ Ok image → ((left : List ℕ) → run_from step_limit old left ≡ run_of_image image left)
-    → Follows step_limit old new count ended → Means old.outside new.outside (answer_at ended count) content
-means_walk content image old new count how within loads from f =
+pub means_walk : (line : Line) (content : List ℕ) (image : loader.Image) (old new : World) (count : ℕ) (ended : Ended) → length content ≤ file_limit
+    → load_of line content ≡ Ok image → ((left : List ℕ) → run_from line.limit old left ≡ run_of_image line image left)
+    → Follows line.limit old new count ended → Means old.outside new.outside (answer_at ended count) line content
+means_walk line content image old new count how within loads from f =
     let r = rest_of new f.known in
     let left = f.act.taken ++ r.rest in
-    let run : run_of_image image left ≡ record { ended = how; count = count; act = f.act } = sym (from left) ∙ f.run r.rest r.may in
+    let run : run_of_image line image left ≡ record { ended = how; count = count; act = f.act } = sym (from left) ∙ f.run r.rest r.may in
     let gives : Gives old.outside new.outside (answer_at how count) (result_of_run (record { ended = how; count = count; act = f.act })) =
     record { answer = refl; acts = f.acts; steps = f.steps } in
-    let is : meaning content left ≡ result_of_run (run_of_image image left) = meaning-within content left within ∙ ap (λ i. result_of_load i left) loads in
+    let is : meaning line content left ≡ result_of_run (run_of_image line image left) = meaning-within line content left within ∙ ap (λ i. result_of_load line i left) loads in
     record {
       left = left;
       agrees = Agrees-before old.left new.left f.act.taken r.rest f.acts.taken r.agrees;
@@ -72,8 +72,8 @@ some_left (Some told) = (told, refl)
 some_left None = ([], tt)
 
 -- a file that is refused is not run, and nothing happens
-means_refusal : (content : List ℕ) (answered : Answer) (o : Outside) → ((left : List ℕ) → meaning content left ≡ refusal answered) → Means o o answered content
-means_refusal content answered o refused =
+means_refusal : (line : Line) (content : List ℕ) (answered : Answer) (o : Outside) → ((left : List ℕ) → meaning line content left ≡ refusal answered) → Means o o answered line content
+means_refusal line content answered o refused =
     let input = some_left o.left in
     record {
       left = input.0;
@@ -82,14 +82,14 @@ means_refusal content answered o refused =
     }
 
 -- a file that is no image
-pub means_image : (content : List ℕ) (fault : ElfFault) (o : Outside) → length content ≤ file_limit → loader.image_of content memory_size Two ≡ Err fault
-    → Means o o (answers.Image fault) content
-means_image content fault o within loads =
-    means_refusal content (answers.Image fault) o (λ left. meaning-within content left within ∙ ap (λ i. result_of_load i left) loads)
+pub means_image : (line : Line) (content : List ℕ) (fault : ElfFault) (o : Outside) → length content ≤ file_limit → load_of line content ≡ Err fault
+    → Means o o (answers.Image fault) line content
+means_image line content fault o within loads =
+    means_refusal line content (answers.Image fault) o (λ left. meaning-within line content left within ∙ ap (λ i. result_of_load line i left) loads)
 
 -- a file that is too long
-pub means_long : (o : Outside) (content : List ℕ) → file_limit < length content → Means o o answers.TooLong content
-means_long o content long = means_refusal content answers.TooLong o (λ left. meaning-long content left long)
+pub means_long : (line : Line) (o : Outside) (content : List ℕ) → file_limit < length content → Means o o answers.TooLong line content
+means_long line o content long = means_refusal line content answers.TooLong o (λ left. meaning-long line content left long)
 
 -- the device that a run's answer names
 pub device_of_answer-answer_at : (how : Ended) (count : ℕ) → device_of_answer (answer_at how count) ≡ device_of how
@@ -101,10 +101,10 @@ device_of_answer-answer_at ends.WriteFault count = refl
 device_of_answer-answer_at ends.ErrFault count = refl
 
 -- a walk from an image's start that a device's failure stopped
-pub stopped_walk : (content : List ℕ) (image : loader.Image) (limit : ℕ) (told : Option (List ℕ)) (out err : Given) (n : ℕ) (new : World) (count : ℕ) (device : Device) → length content ≤ file_limit
-    → loader.image_of content memory_size Two ≡ Ok image → StopsAt step_limit (world_of (new_walk image limit) told out err n) new count device
-    → IsStopped (outside told out err n) new.outside device content
-stopped_walk content image limit told out err n new count device within loads s =
+pub stopped_walk : (line : Line) (content : List ℕ) (image : loader.Image) (told : Option (List ℕ)) (out err : Given) (n : ℕ) (new : World) (count : ℕ) (device : Device) → length content ≤ file_limit
+    → load_of line content ≡ Ok image → StopsAt line.limit (world_of (new_walk image line.limit) told out err n) new count device
+    → IsStopped (outside told out err n) new.outside device line content
+stopped_walk line content image told out err n new count device within loads s =
     let r = rest_of new s.known in
     let agrees = Agrees-before told new.left (s.act.taken ++ s.done.taken) r.rest s.acts.taken r.agrees in
     record {

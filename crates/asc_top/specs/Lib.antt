@@ -1,3 +1,4 @@
-pub mod Line
-pub mod Answer
+pub use Rattle.asc_words.specs.Answer
+pub use Rattle.asc_words.specs.Line
+pub use Rattle.asc_words.specs.Report
 pub mod Program

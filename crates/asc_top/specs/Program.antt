@@ -1,33 +1,33 @@
 -- What a file means as a program, and what `top` does with it.
-use Rattle.std.specs.Prelude.{◌≡◌, ℕ, ◌+◌, ◌^◌, ◌<◌, ◌≤◌, List, length, Option, Some, None, Result, Ok, Err, nat_lt, if◌then◌else◌}
-use Rattle.asc_model.specs.declared.version.Version.TheVariants.{Two}
+use Rattle.std.specs.Prelude.{◌≡◌, ◌≢◌, ℕ, ◌+◌, ◌*◌, ◌<◌, ◌≤◌, List, length, Option, Some, None, Result, Ok, Err, nat_lt, if◌then◌else◌}
+use Rattle.asc_model.specs.declared.fault.Fault.{Fault}
 use Rattle.asc_shape.specs.Outside.{File, MayHold, content_of}
 use Rattle.asc_elf.specs.declared.fault.ElfFault.{ElfFault}
 use Rattle.asc_elf.specs.Image as loader
-use Rattle.asc_calls.specs.GuestCall.{Act, nothing, joint_act, IsBeginning, Device, Input, Out, Err}
-use Rattle.asc_calls.specs.World.{Outside, Acts, Agrees}
+use Rattle.asc_calls.specs.GuestCall.{Act, nothing, joint_act, IsBeginning, Device, Input, Out, Err as ErrorOut}
+use Rattle.asc_calls.specs.World.{Outside, Acts, Agrees, Blames}
 use Rattle.asc_run.specs.declared.walk.Ended.{Ended}
 use Rattle.asc_run.specs.declared.walk.Ended.TheVariants as ends
 use Rattle.asc_run.specs.Plain.{Run, exec, progress, first_position, StandsAtFailure}
-use Rattle.asc_top.specs.Line.{line_of}
-use Rattle.asc_top.specs.declared.answer.Answer.{Answer}
-use Rattle.asc_top.specs.declared.answer.Answer.TheVariants as answers
+use Rattle.asc_words.specs.Line as command
+use Rattle.asc_words.specs.Line.{Run as Line, line_of}
+pub use Rattle.asc_words.specs.declared.answer.Answer.{Answer}
+use Rattle.asc_words.specs.declared.answer.Answer.TheVariants as answers
+use Rattle.asc_words.specs.declared.answer.Bad.TheVariants.{Words}
+
+-- ---- what a file means
 
 -- a program's file has at most 64 MiB
 abbrev pub file_limit : ℕ
 file_limit = 67108864
 
--- its memory has 1024 KiB
-abbrev pub memory_size : ℕ
-memory_size = 1048576
+-- what a line loads a file as: for as much memory as it gives, in KiB, and its version of the machine
+abbrev pub load_of : Line → (content : List ℕ) → Result loader.Image ElfFault
+load_of line content = loader.image_of content (1024 * line.memory) line.version
 
--- it does at most 2 ^ 40 steps
-abbrev pub step_limit : ℕ
-step_limit = 2 ^ 40
-
--- the plain run of an image over an input
-abbrev pub run_of_image : loader.Image → List ℕ → Run
-run_of_image image left = exec step_limit image.low (loader.high_of image) image.start left
+-- the plain run of an image over an input, up to the line's limit
+abbrev pub run_of_image : Line → loader.Image → (left : List ℕ) → Run
+run_of_image line image left = exec line.limit image.low (loader.high_of image) image.start left
 
 -- the answer of a run that ended so after count steps
 abbrev pub answer_at : Ended → ℕ → Answer
@@ -52,16 +52,18 @@ abbrev pub result_of_run : Run → ProgramResult
 result_of_run run = record { answer = answer_at run.ended run.count; act = run.act; count = run.count }
 
 -- what a loaded file comes to over an input
-abbrev pub result_of_load : Result loader.Image ElfFault → List ℕ → ProgramResult
-result_of_load (Err fault) left = refusal (answers.Image fault)
-result_of_load (Ok image) left = result_of_run (run_of_image image left)
+abbrev pub result_of_load : Line → Result loader.Image ElfFault → (left : List ℕ) → ProgramResult
+result_of_load line (Err fault) left = refusal (answers.Image fault)
+result_of_load line (Ok image) left = result_of_run (run_of_image line image left)
 
--- What a file means as a program over an input: one that is too long and one that is no image are refused, and every
--- other is run plainly.
-unfoldable pub meaning : (content left : List ℕ) → ProgramResult
-meaning content left =
+-- What a file means as a program, for a line and over an input: one that is too long and one that is no image are
+-- refused, and every other is run plainly.
+unfoldable pub meaning : Line → (content left : List ℕ) → ProgramResult
+meaning line content left =
     if nat_lt file_limit (length content) then refusal answers.TooLong
-    else result_of_load (loader.image_of content memory_size Two) left
+    else result_of_load line (load_of line content) left
+
+-- ---- what a program did
 
 -- the answer is the result's, what was taken and put is the result's, and the counter rose by its count
 pub record Gives (old new : Outside) (answered : Answer) (result : ProgramResult) : Type 0 where
@@ -70,44 +72,50 @@ pub record Gives (old new : Outside) (answered : Answer) (result : ProgramResult
   pub steps : new.steps ≡ old.steps + result.count
 
 -- the store tells that it holds a file of that name with this content
-abbrev pub IsHeld : Option (List File) → List ℕ → List ℕ → Type 0
+abbrev pub IsHeld : Option (List File) → (name content : List ℕ) → Type 0
 IsHeld (Some files) name content = content_of files name ≡ Some content
 IsHeld None name content = ⊥
 
--- The store may hold a file with P under the name that the words ask for; where it tells its files, it does.
-pub record HasFile (words : List (List ℕ)) (files : Option (List File)) (P : List ℕ → Type 0) : Type 0 where
-  pub name : List ℕ
-  pub named : line_of words ≡ Some name
+-- The words ask for a run, and the store may hold a file of its image's name, such that P holds of the line and the
+-- file's content. Where the store tells its files, it does hold that file.
+pub record HasFile (words : List (List ℕ)) (files : Option (List File)) (P : Line → List ℕ → Type 0) : Type 0 where
+  pub line : Line
+  pub asked : line_of words ≡ Some (command.run line)
   pub content : List ℕ
-  pub held : MayHold files name content
-  pub holds : P content
+  pub held : MayHold files line.image content
+  pub holds : P line content
 
 -- over some input that agrees with what is told, the file means what was answered, taken, put and counted
-pub record Means (old new : Outside) (answered : Answer) (content : List ℕ) : Type 0 where
+pub record Means (old new : Outside) (answered : Answer) (line : Line) (content : List ℕ) : Type 0 where
   pub left : List ℕ
   pub agrees : Agrees old.left left
-  pub gives : Gives old new answered (meaning content left)
+  pub gives : Gives old new answered (meaning line content left)
 
 -- a file that is not too long is an image whose plain run, over some input that agrees with what is told, has P
-pub record Runs (told : Option (List ℕ)) (P : Run → Type 0) (content : List ℕ) : Type 0 where
+pub record Runs (told : Option (List ℕ)) (P : Run → Type 0) (line : Line) (content : List ℕ) : Type 0 where
   pub within : length content ≤ file_limit
   pub image : loader.Image
-  pub loads : loader.image_of content memory_size Two ≡ Ok image
+  pub loads : load_of line content ≡ Ok image
   pub left : List ℕ
   pub agrees : Agrees told left
-  pub holds : P (run_of_image image left)
+  pub holds : P (run_of_image line image left)
+
+-- a file that is not too long is no image, for this fault
+pub record IsNoImage (fault : ElfFault) (line : Line) (content : List ℕ) : Type 0 where
+  pub within : length content ≤ file_limit
+  pub loads : load_of line content ≡ Err fault
 
 -- A file that is not too long is an image, whose plain run over some input that agrees with what is told was stopped
 -- when a device failed: its steps so far took and put act, and what was done of the call at which it stood is done. The
 -- whole plain run begins with both.
-pub record IsStopped (old new : Outside) (device : Device) (content : List ℕ) : Type 0 where
+pub record IsStopped (old new : Outside) (device : Device) (line : Line) (content : List ℕ) : Type 0 where
   pub within : length content ≤ file_limit
   pub image : loader.Image
-  pub loads : loader.image_of content memory_size Two ≡ Ok image
+  pub loads : load_of line content ≡ Ok image
   pub left : List ℕ
   pub agrees : Agrees old.left left
   pub count : ℕ
-  pub below : count < step_limit
+  pub below : count < line.limit
   pub act : Act
   pub done : Act
   pub acts : Acts old new (joint_act act done)
@@ -115,14 +123,16 @@ pub record IsStopped (old new : Outside) (device : Device) (content : List ℕ) 
       ≡ record { ended = ends.Limit; count = count; act = act }
   pub call : StandsAtFailure image.low (loader.high_of image) device done
       (progress image.low (loader.high_of image) (first_position image.start image.low left) count)
-  pub begins : IsBeginning (joint_act act done) (run_of_image image left).act
+  pub begins : IsBeginning (joint_act act done) (run_of_image line image left).act
   pub steps : new.steps ≡ old.steps + count
+
+-- ---- kinds of answers
 
 -- the device that failed, where the answer says that one did
 abbrev pub device_of_answer : Answer → Option Device
 device_of_answer answers.ReadFault = Some Input
 device_of_answer answers.WriteFault = Some Out
-device_of_answer answers.ErrFault = Some Err
+device_of_answer answers.ErrFault = Some ErrorOut
 device_of_answer (answers.Exit code) = None
 device_of_answer (answers.Limit count) = None
 device_of_answer (answers.Fault fault count) = None
@@ -131,6 +141,7 @@ device_of_answer (answers.Image fault) = None
 device_of_answer answers.TooLong = None
 device_of_answer answers.StoreFault = None
 device_of_answer answers.Memory = None
+device_of_answer answers.ReportFault = None
 
 -- an answer for which the guest was not run
 abbrev pub IsRefusal : Answer → Type 0
@@ -145,6 +156,7 @@ IsRefusal (answers.Fault fault count) = ⊥
 IsRefusal answers.ReadFault = ⊥
 IsRefusal answers.WriteFault = ⊥
 IsRefusal answers.ErrFault = ⊥
+IsRefusal answers.ReportFault = ⊥
 
 -- an answer that a file's meaning gives
 abbrev pub ComesOfFile : Answer → Type 0
@@ -159,6 +171,7 @@ ComesOfFile answers.Memory = ⊥
 ComesOfFile answers.ReadFault = ⊥
 ComesOfFile answers.WriteFault = ⊥
 ComesOfFile answers.ErrFault = ⊥
+ComesOfFile answers.ReportFault = ⊥
 
 -- no device failed, and no memory was wanting
 abbrev pub Completes : Answer → Type 0
@@ -167,9 +180,67 @@ Completes answers.Memory = ⊥
 Completes answers.ReadFault = ⊥
 Completes answers.WriteFault = ⊥
 Completes answers.ErrFault = ⊥
+Completes answers.ReportFault = ⊥
 Completes (answers.Exit code) = Unit {0}
 Completes (answers.Limit count) = Unit {0}
 Completes (answers.Fault fault count) = Unit {0}
 Completes (answers.Usage bad) = Unit {0}
 Completes (answers.Image fault) = Unit {0}
 Completes answers.TooLong = Unit {0}
+
+-- ---- answers before the report
+
+-- What is told of all that the program meets but its report: the store's files, the guest's devices with the counter
+-- of steps, and how often each device has failed.
+pub record Devices : Type 0 where
+  pub files : Option (List File)
+  pub guest : Outside
+  pub store_faults : ℕ
+  pub input_faults : ℕ
+  pub out_faults : ℕ
+  pub err_faults : ℕ
+
+abbrev pub devices : Option (List File) → Outside → (store input out err : ℕ) → Devices
+devices files guest store input out err = record {
+  files = files;
+  guest = guest;
+  store_faults = store;
+  input_faults = input;
+  out_faults = out;
+  err_faults = err;
+}
+
+-- All that holds of an answer to these words by itself, whatever then becomes of the report: a field for each clause of
+-- `top` that does not speak of the report.
+pub record IsAnswerTo (words : List (List ℕ)) (old new : Devices) (answered : Answer) : Type 0 where
+  -- for a file and an input that are told, where no device failed, all is plain execution's
+  pub headline : (line : Line) (content left : List ℕ) → line_of words ≡ Some (command.run line)
+      → IsHeld old.files line.image content → old.guest.left ≡ Some left → Completes answered
+      → Gives old.guest new.guest answered (meaning line content left)
+  -- told or not, it is that of some file and some input
+  pub plain : ComesOfFile answered → HasFile words old.files (Means old.guest new.guest answered)
+  -- where a device failed under the guest, all is plain execution's up to the call in which that happened
+  pub stopped : (device : Device) → device_of_answer answered ≡ Some device
+      → HasFile words old.files (IsStopped old.guest new.guest device)
+  -- it has its cause
+  pub exit : (code : ℕ) → answered ≡ answers.Exit code
+      → HasFile words old.files (Runs old.guest.left (λ run. run.ended ≡ ends.Exit code))
+  pub limit : (count : ℕ) → answered ≡ answers.Limit count
+      → HasFile words old.files (Runs old.guest.left (λ run. (run.ended ≡ ends.Limit) × (run.count ≡ count)))
+  pub fault : (fault : Fault) (count : ℕ) → answered ≡ answers.Fault fault count → HasFile words old.files
+      (Runs old.guest.left (λ run. (run.ended ≡ ends.Fault fault) × (run.count ≡ count)))
+  pub usage : answered ≡ answers.Usage Words → line_of words ≡ None
+  pub no_command : line_of words ≡ None → answered ≢ answers.Memory → answered ≡ answers.Usage Words
+  pub image : (fault : ElfFault) → answered ≡ answers.Image fault → HasFile words old.files (IsNoImage fault)
+  pub too_long : answered ≡ answers.TooLong
+      → HasFile words old.files (λ line content. file_limit < length content)
+  -- where the guest was not run, nothing was taken, put or counted
+  pub refused : IsRefusal answered → new.guest ≡ old.guest
+  pub files : new.files ≡ old.files
+  -- a device's count of faults rose where the answer blames it, and else it stayed
+  pub store_fault : Blames (answered ≡ answers.StoreFault) old.store_faults new.store_faults
+  pub read_fault : Blames (answered ≡ answers.ReadFault) old.input_faults new.input_faults
+  pub write_fault : Blames (answered ≡ answers.WriteFault) old.out_faults new.out_faults
+  pub err_fault : Blames (answered ≡ answers.ErrFault) old.err_faults new.err_faults
+  -- it says nothing of the report
+  pub no_report_fault : answered ≢ answers.ReportFault

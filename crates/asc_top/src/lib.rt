@@ -1,9 +1,8 @@
 //! The program as one call: the words of a command line and the outside are handed in, and an answer is given.
 #![tactic(auto)]
 
-mod answer;
-mod line;
 mod program;
+mod run_line;
 
-pub use answer::{Answer, Bad};
-pub use program::top;
+pub use asc_words::{Answer, Bad};
+pub use program::{reported, top};

@@ -1,22 +1,26 @@
 -- What a file that is not too long was run as.
-use Rattle.std.proofs.Common.{◌≡◌, ℕ, Some, None, IsNone, refl, sym, ap, subst, ◌∙◌, arith}
+use Rattle.std.proofs.Common.{◌≡◌, ℕ, Some, None, IsNone, Ok, Err, refl, sym, ap, subst, ◌∙◌}
 use Rattle.asc_run.specs.declared.walk.Ended.{Ended}
 use Rattle.asc_run.specs.Plain.{exec, device_of}
 use Rattle.asc_run.specs.Walk.{Walk, new_walk, Follows, StopsAt, world_of}
-use Rattle.asc_top.specs.declared.answer.Answer.{Answer}
-use Rattle.asc_top.specs.Program.{Means, answer_at, step_limit, device_of_answer}
+use Rattle.asc_words.specs.declared.answer.Answer.{Answer}
+use Rattle.asc_words.specs.Line.{Run as Line}
+use Rattle.asc_top.specs.Program.{Means, answer_at, load_of, device_of_answer}
 use Rattle.asc_top.proofs.Outcomes.{means_walk, means_image, stopped_walk, device_of_answer-answer_at}
-use Rattle.asc_top.proofs.program.run.Goals as goal
+use Rattle.asc_top.proofs.program.run_file.Goals as goal
 
 -- the answer of a run with this count
 answered : (ended : Ended) (count counted : ℕ) (answer : Answer) → answer ≡ answer_at ended counted → counted ≡ count → answer_at ended count ≡ answer
 answered ended count counted answer is same = sym (is ∙ ap (λ (n : ℕ). answer_at ended n) same)
 
 pub returns-in-Err-clause-means : goal.returns-in-Err-clause-means
-returns-in-Err-clause-means g c = λ _ _. means_image _ c.in-Err.fault _ c.requires (sym c.read.ensures ∙ c.in-Err.is)
+returns-in-Err-clause-means g c = λ _ _.
+    let loads = subst (λ (l : Line). load_of l c.args.file.now ≡ Err c.in-Err.fault) c.line.view_is (sym c.read.ensures ∙ c.in-Err.is) in
+    means_image c.args.line.now _ c.in-Err.fault _ c.requires.file loads
 
 pub returns-clause-means : goal.returns-clause-means
 returns-clause-means g c = λ _ h.
+    let line = c.args.line.now in
     let walk = c.in-Ok-new.walk in
     let is = c.in-Ok-new.ensures in
     let old = world_of walk (g.I.Source.left c.args.input.now) (g.O.Sink.given c.args.out.now) (g.E.Sink.given c.args.err.now) c.args.steps.now in
@@ -24,18 +28,18 @@ returns-clause-means g c = λ _ h.
     let count = c.go-ended.new.self.count in
     let ended = c.go-ended.result in
     let fresh = subst (λ (w : Walk). IsNone w.ended) (sym is) refl in
-    let own : walk.limit ≡ c.default.result.limit = ap (λ (w : Walk). w.limit) is in
-    let limit : walk.limit ≡ step_limit = omega (arith, own, c.default.ensures) in
+    let loads = subst (λ (l : Line). load_of l c.args.file.now ≡ Ok c.in-Ok.image) c.line.view_is (sym c.read.ensures ∙ c.in-Ok.is) in
+    let limit : walk.limit ≡ line.limit = ap (λ (w : Walk). w.limit) is ∙ ap (λ (l : Line). l.limit) c.line.view_is in
     let going : device_of ended ≡ None = sym (device_of_answer-answer_at ended count) ∙ ap (λ (a : Answer). device_of_answer a) (answered ended count _ _ c.answer_at.ensures c.counts.ensures.count) ∙ h in
     let follows = subst (λ (n : ℕ). Follows n old new count ended) limit (c.go-ended.ensures.plain fresh going) in
-    let means = means_walk c.args.file.now c.in-Ok.image old new count ended c.requires (sym c.read.ensures ∙ c.in-Ok.is)
-    (λ left. ap (λ (w : Walk). exec step_limit w.kept.low w.kept.high w.state left) is) follows in
+    let means = means_walk line c.args.file.now c.in-Ok.image old new count ended c.requires.file loads
+    (λ left. ap (λ (w : Walk). exec line.limit w.kept.low w.kept.high w.state left) is) follows in
     let answer = answered ended count _ _ c.answer_at.ensures c.counts.ensures.count in
-    subst (λ (a : Answer). Means old.outside new.outside a c.args.file.now) answer means
+    subst (λ (a : Answer). Means old.outside new.outside a line c.args.file.now) answer means
 
 pub returns-clause-stopped : goal.returns-clause-stopped
 returns-clause-stopped g c = λ device h.
-    let walk = c.in-Ok-new.walk in
+    let line = c.args.line.now in
     let is = c.in-Ok-new.ensures in
     let left = g.I.Source.left c.args.input.now in
     let out = g.O.Sink.given c.args.out.now in
@@ -44,8 +48,8 @@ returns-clause-stopped g c = λ device h.
     let count = c.go-ended.new.self.count in
     let ended = c.go-ended.result in
     let fresh = subst (λ (w : Walk). IsNone w.ended) (sym is) refl in
-    let limit : c.default.result.limit ≡ step_limit = omega (arith, c.default.ensures) in
     let failed : device_of ended ≡ Some device = sym (device_of_answer-answer_at ended count) ∙ ap (λ (a : Answer). device_of_answer a) (answered ended count _ _ c.answer_at.ensures c.counts.ensures.count) ∙ h in
     let stops = subst (λ (w : Walk). StopsAt w.limit (world_of w left out err c.args.steps.now) new count device) is (c.go-ended.ensures.stops fresh device failed) in
-    stopped_walk c.args.file.now c.in-Ok.image c.default.result.limit left out err c.args.steps.now new count device c.requires (sym c.read.ensures ∙ c.in-Ok.is)
-    (subst (λ (n : ℕ). StopsAt n (world_of (new_walk c.in-Ok.image c.default.result.limit) left out err c.args.steps.now) new count device) limit stops)
+    let loads = subst (λ (l : Line). load_of l c.args.file.now ≡ Ok c.in-Ok.image) c.line.view_is (sym c.read.ensures ∙ c.in-Ok.is) in
+    let at_limit = subst (λ (l : Line). StopsAt l.limit (world_of (new_walk c.in-Ok.image l.limit) left out err c.args.steps.now) new count device) c.line.view_is stops in
+    stopped_walk line c.args.file.now c.in-Ok.image left out err c.args.steps.now new count device c.requires.file loads at_limit

@@ -1,0 +1,174 @@
+//! Images that are refused, and images that are loaded in another way than `FIRST`.
+ghost use Rattle.std.specs.Prelude.{◌≤◌};
+
+use crate::images::{CODE, FIRST, HEADER, Patch, patched, put_word};
+use crate::outside::{QUIET, SOUND, Want, check};
+use asc_elf::ElfFault;
+use asc_step::{Fault, FaultKind};
+use asc_top::Answer;
+use std::alloc::{AllocError, Global};
+use std::process::Abort;
+use std::test::Fail;
+
+/// Compares what `asc run image` answers and reports where the image is this file. Nothing is put to out or err.
+fn check_image<R: Abort>(
+    rt: &R,
+    alloc: Global,
+    file: Vec<u8>,
+    answer: Answer,
+    report: &'static str,
+) -> Result<(), AllocError> {
+    let want = Want {
+        answer,
+        report,
+        ..QUIET
+    };
+    check(rt, alloc, "asc run image", file, &SOUND, &want)
+}
+
+// Words over `FIRST`: e_phoff, e_phnum with e_phentsize, p_offset, p_offset without file bytes, p_vaddr and e_entry, the
+// second word of the code (ADDI x10,x0,9), and the flag TSO.
+static HOSTILE: [(&[Patch], Answer, &str); 7] = [
+    (
+        &[Patch {
+            at: 28,
+            word: 0xFFFF_FFFF,
+        }],
+        Answer::Image(ElfFault::Table),
+        "asc: image fault 10\n",
+    ),
+    (
+        &[Patch {
+            at: 44,
+            word: 0x0000_FFFF,
+        }],
+        Answer::Image(ElfFault::Table),
+        "asc: image fault 10\n",
+    ),
+    (
+        &[Patch {
+            at: 56,
+            word: 0xFFFF_FFFF,
+        }],
+        Answer::Image(ElfFault::Segment(0)),
+        "asc: image fault 12 header 0\n",
+    ),
+    (
+        &[
+            Patch {
+                at: 56,
+                word: 0xFFFF_FFFF,
+            },
+            Patch { at: 68, word: 0 },
+        ],
+        Answer::Fault(
+            Fault {
+                kind: FaultKind::Illegal,
+                pc: 0x10000,
+                value: 0,
+            },
+            0,
+        ),
+        "asc: fault 3 at 00010000 value 00000000 after 0\n",
+    ),
+    (
+        &[
+            Patch {
+                at: 60,
+                word: 0xFFFF_0000,
+            },
+            Patch {
+                at: 24,
+                word: 0xFFFF_0000,
+            },
+        ],
+        Answer::Image(ElfFault::TooLarge),
+        "asc: image fault 14\n",
+    ),
+    (
+        &[Patch {
+            at: 88,
+            word: 0x0090_0513,
+        }],
+        Answer::Exit(9),
+        "",
+    ),
+    (&[Patch { at: 36, word: 0x10 }], Answer::Exit(7), ""),
+];
+
+#[test]
+fn hostile_images(rt: HostRuntime) -> Result<(), Fail> {
+    let alloc = rt.alloc();
+    for (patches, answer, report) in &HOSTILE {
+        check_image(&rt, alloc, patched(alloc, patches)?, *answer, report)?;
+    }
+    Ok(())
+}
+
+/// `FIRST` cut to each shorter length.
+#[test]
+fn cut_images(rt: HostRuntime) -> Result<(), Fail> {
+    let alloc = rt.alloc();
+    for length in 0..FIRST.len() {
+        let (fault, report) = match length {
+            0..52 => (ElfFault::Short, "asc: image fault 1\n"),
+            52..84 => (ElfFault::Table, "asc: image fault 10\n"),
+            _ => (ElfFault::Segment(0), "asc: image fault 12 header 0\n"),
+        };
+        let file = FIRST[..length].to_vec(alloc)?;
+        check_image(&rt, alloc, file, Answer::Image(fault), report)?;
+    }
+    Ok(())
+}
+
+/// Two segments over one another: the later header wins.
+#[test]
+fn overlapping_segments(rt: HostRuntime) -> Result<(), Fail> {
+    let alloc = rt.alloc();
+    for (code_first, code) in [(true, 9), (false, 7)] {
+        let mut file = two_headers(alloc)?;
+        if code_first {
+            put_header(&mut file, HEADER, 116, 0x10000, 12);
+            put_header(&mut file, CODE, 128, 0x10004, 4);
+        } else {
+            put_header(&mut file, HEADER, 128, 0x10004, 4);
+            put_header(&mut file, CODE, 116, 0x10000, 12);
+        }
+        check_image(&rt, alloc, file, Answer::Exit(code), "")?;
+    }
+    Ok(())
+}
+
+/// A file with room for two headers, the code of `FIRST` at 116 and the word ADDI x10,x0,9 at 128.
+fn two_headers(alloc: Global) -> Result<Vec<u8>, AllocError> {
+    let mut file = vec![in alloc; 0; 132]?;
+    for (byte, first) in file.iter_mut().zip(&FIRST) {
+        *byte = *first;
+    }
+    put_word(&mut file, 44, 2);
+    put_word(&mut file, 116, 0x05D0_0893);
+    put_word(&mut file, 120, 0x0070_0513);
+    put_word(&mut file, 124, 0x0000_0073);
+    put_word(&mut file, 128, 0x0090_0513);
+    Ok(file)
+}
+
+/// Puts a header that loads `size` bytes from `offset` to an address.
+fn put_header(file: &mut Vec<u8>, at: usize, offset: u32, address: u32, size: u32)
+    requires { at ≤ 100 }
+{
+    put_word(file, at, 1);
+    put_word(file, at + 4, offset);
+    put_word(file, at + 8, address);
+    put_word(file, at + 16, size);
+    put_word(file, at + 20, size);
+}
+
+/// A file of one byte more than is read.
+#[test]
+fn too_long(rt: HostRuntime) -> Result<(), Fail> {
+    let alloc = rt.alloc();
+    let file = vec![in alloc; 0; 67_108_865]?;
+    check_image(&rt, alloc, file, Answer::TooLong, "asc: image too long\n")?;
+    Ok(())
+}

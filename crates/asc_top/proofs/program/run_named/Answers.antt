@@ -1,0 +1,37 @@
+-- What holds of the answers of a file that was read, and of one that is too long.
+use Rattle.std.proofs.Common.{◌≡◌, ℕ, List, Ok, ap, subst, sym, arith, ◌∙◌}
+use Rattle.asc_shape.specs.Outside.{MayHold, MayHoldLonger}
+use Rattle.asc_words.specs.Line.{Run as Line}
+use Rattle.asc_top.specs.Program.{file_limit}
+use Rattle.asc_top.proofs.Headline.{answer_of_run, answer_of_long}
+use Rattle.asc_top.proofs.program.run_named.Goals as goal
+
+pub returns-in-Ok-Longer : goal.returns-in-Ok-Longer
+returns-in-Ok-Longer g c = λ words asked.
+    let name : c.as_str.result.now ≡ c.args.line.now.image = c.as_str.ensures.value ∙ ap (λ (l : Line). l.image) c.line.view_is in
+    let longer = subst (λ (n : List ℕ). MayHoldLonger (g.F.Store.files c.args.store.now) n file_limit) name
+    (c.in-Ok-Longer.ensures.longer (ap (λ x. Ok x) c.in-Ok-Longer.field-0-is)) in
+    answer_of_long words _ _ _ c.args.line.now asked longer c.in-Ok-Longer.ensures.files c.in-Ok-Longer.ensures.cause.stays
+
+pub returns : goal.returns
+returns g c = λ words asked.
+    let name : c.as_str.result.now ≡ c.args.line.now.image = c.as_str.ensures.value ∙ ap (λ (l : Line). l.image) c.line.view_is in
+    let file : c.read.new.into.items ≡ c.deref.result.now = sym c.deref.ensures.value in
+    let held = subst (λ (n : List ℕ). MayHold (g.F.Store.files c.args.store.now) n c.read.new.into.items) name
+    (c.in-Ok-Whole.ensures.whole (ap (λ x. Ok x) c.in-Ok-Whole.field-0-is)) in
+    answer_of_run words _ _ c.run_file.result (record {
+      line = c.args.line.now;
+      asked = asked;
+      content = c.deref.result.now;
+      held = subst (λ (f : List ℕ). MayHold (g.F.Store.files c.args.store.now) c.args.line.now.image f) file held;
+      within = omega (arith, c.deref.ensures.len, c.in-Ok-Whole.ensures.within);
+      means = c.run_file.ensures.means;
+      stopped = c.run_file.ensures.stopped;
+      refused = c.run_file.ensures.refused;
+      files = c.in-Ok-Whole.ensures.files;
+      store_faults = c.in-Ok-Whole.ensures.cause.stays;
+      read_fault = c.run_file.ensures.read_fault;
+      write_fault = c.run_file.ensures.write_fault;
+      err_fault = c.run_file.ensures.err_fault;
+      no_report_fault = c.run_file.ensures.no_report_fault;
+    })
