@@ -105,6 +105,30 @@ fn hostile_images(rt: HostRuntime) -> Result<(), Fail> {
     Ok(())
 }
 
+/// `FIRST` at 0xFFFF0000, with memory that ends at the last address, and with memory that would pass it.
+#[test]
+fn last_addresses(rt: HostRuntime) -> Result<(), Fail> {
+    let alloc = rt.alloc();
+    let base = 0xFFFF_0000;
+    for (line, answer, report) in [
+        ("asc run image --memory 64", Answer::Exit(7), ""),
+        (
+            "asc run image --memory 128",
+            Answer::Image(ElfFault::TooLarge),
+            "asc: image fault 14\n",
+        ),
+    ] {
+        let moved = [Patch { at: 60, word: base }, Patch { at: 24, word: base }];
+        let want = Want {
+            answer,
+            report,
+            ..QUIET
+        };
+        check(&rt, alloc, line, patched(alloc, &moved)?, &SOUND, &want)?;
+    }
+    Ok(())
+}
+
 /// `FIRST` cut to each shorter length.
 #[test]
 fn cut_images(rt: HostRuntime) -> Result<(), Fail> {

@@ -105,7 +105,18 @@ const COMPLAINS: &[u32] = &[
     0x000A_6948,
 ];
 
-static ROWS: [Row; 31] = [
+/// It asks for its break to be at 0x20000, and ends with the number of the break's page: ADDI x17,x0,214; LUI x10,0x20;
+/// ECALL; SRLI x10,x10,12; ADDI x17,x0,93; ECALL.
+const BREAKS: &[u32] = &[
+    0x0D60_0893,
+    0x0002_0537,
+    0x0000_0073,
+    0x00C5_5513,
+    0x05D0_0893,
+    0x0000_0073,
+];
+
+static ROWS: [Row; 34] = [
     EXIT_SEVEN,
     // step_limits
     Row {
@@ -354,6 +365,7 @@ static ROWS: [Row; 31] = [
         ..EXIT_SEVEN
     },
     Row {
+        line: "asc run image --steps 9",
         program: COMPLAINS,
         devices: Devices {
             room: 3,
@@ -361,6 +373,35 @@ static ROWS: [Row; 31] = [
         },
         want: Want {
             err: "Hi\n",
+            ..QUIET
+        },
+    },
+    Row {
+        line: "asc run image --steps 8",
+        program: COMPLAINS,
+        want: Want {
+            answer: Answer::Limit(8),
+            err: "Hi\n",
+            report: "asc: limit after 8\n",
+            ..QUIET
+        },
+        ..EXIT_SEVEN
+    },
+    // The break may rise to 64 KiB below the end of memory, and stays where it is asked to pass that.
+    Row {
+        line: "asc run image --memory 128",
+        program: BREAKS,
+        want: Want {
+            answer: Answer::Exit(0x20),
+            ..QUIET
+        },
+        ..EXIT_SEVEN
+    },
+    Row {
+        line: "asc run image --memory 127",
+        program: BREAKS,
+        want: Want {
+            answer: Answer::Exit(0x10),
             ..QUIET
         },
         ..EXIT_SEVEN

@@ -1,0 +1,4 @@
+pub mod Tracer
+pub mod Inside
+pub mod Dependency
+pub mod Laws

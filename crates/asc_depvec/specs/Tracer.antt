@@ -1,0 +1,72 @@
+-- What a tracer is to contracts: a state that tells how each of its places was touched.
+use Rattle.std.specs.Prelude.{◌≡◌, ℕ, ◌-◌, ◌<◌, ◌≤◌, Bool, true, false, ◌==◌, ◌&&◌, List, [], ◌∷◌, length, take, drop, replicate, slice_set, if◌then◌else◌}
+use Rattle.asc_model.specs.declared.status.Status.{Status}
+use Rattle.asc_model.specs.declared.status.Status.TheVariants.{Untouched}
+use Rattle.asc_model.specs.declared.version.Version.{Version}
+use Rattle.asc_model.specs.declared.version.Version.TheVariants.{One, Two}
+use Rattle.asc_model.specs.Shape.{Shape, length_of}
+use Rattle.asc_model.specs.State.{State}
+use Rattle.asc_model.specs.Places.{bytes_after}
+use Rattle.asc_shape.specs.Face.{Face, Marks, Untold, Told}
+
+-- The shape that it was made with, at most how many places may be touched, the state, the status of each place of it,
+-- and each touched place with its byte before its first touch, in the order of those touches.
+pub record Tracing : Type 0 where
+  pub shape : Shape
+  pub cap : ℕ
+  pub state : State
+  pub statuses : List Status
+  pub touched : List (ℕ × ℕ)
+
+-- What holds of every tracer: no more is touched than may be, and where anything is touched, the state is of the
+-- tracer's shape.
+pub record IsTracing (t : Tracing) : Type 0 where
+  pub cap : t.cap ≤ 65536
+  pub room : length t.touched ≤ t.cap
+  pub own : 0 < length t.touched → t.state.shape ≡ t.shape
+
+-- what code sees of it through `Bytes`
+abbrev pub face_of : Tracing → Face
+face_of t = record { state = t.state; marks = Told t.statuses t.touched }
+
+-- a tracer of this state, nothing of it touched
+abbrev pub fresh : Shape → (cap : ℕ) → State → Tracing
+fresh shape cap state = record {
+  shape = shape;
+  cap = cap;
+  state = state;
+  statuses = replicate (length_of state.shape) Untouched;
+  touched = [];
+}
+
+abbrev pub is_same_version : Version → Version → Bool
+is_same_version One One = true
+is_same_version One Two = false
+is_same_version Two One = false
+is_same_version Two Two = true
+
+abbrev pub is_same_shape : Shape → Shape → Bool
+is_same_shape a b = (a.base == b.base) && (a.size == b.size) && is_same_version a.version b.version
+
+-- how many more places may be touched; none while the state has another shape than that which the tracer was made with
+abbrev pub room_of : Tracing → ℕ
+room_of t = if is_same_shape t.state.shape t.shape then t.cap - length t.touched else 0
+
+-- statuses with the places of a list untouched again
+abbrev pub untouch : List Status → List (ℕ × ℕ) → List Status
+untouch statuses [] = statuses
+untouch statuses (noted ∷ rest) = slice_set (untouch statuses rest) noted.0 Untouched
+
+-- The first touches since a mark taken back: the list is cut to its length at the mark, and each place cut off is
+-- Untouched again. No byte and no other status changes.
+abbrev pub undone : Tracing → (mark : ℕ) → Tracing
+undone t mark = record t { statuses = untouch t.statuses (drop mark t.touched); touched = take mark t.touched }
+
+-- the places that are told to be touched, each with its byte before its first touch
+abbrev pub touched_of : Marks → List (ℕ × ℕ)
+touched_of Untold = []
+touched_of (Told statuses touched) = touched
+
+-- where a tracer started: its state with the first byte of each touched place put back
+abbrev pub start_of_face : Face → State
+start_of_face f = record f.state { bytes = bytes_after f.state.bytes (touched_of f.marks) }

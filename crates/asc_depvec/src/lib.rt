@@ -1,0 +1,13 @@
+//! A state that tells how each of its places was touched, and what stood there before.
+#![tactic(auto)]
+
+mod laws;
+#[cfg(test)]
+mod tests;
+mod tracer;
+
+pub use asc_shape::Status;
+pub use laws::{
+    limits_stay, no_statuses, reads_are_undone, starts_are_told, starts_stay, statuses_follow,
+};
+pub use tracer::Tracer;
