@@ -10,13 +10,13 @@ use Rattle.asc_model.specs.State.{State}
 use Rattle.asc_model.specs.Step.{Next, At, Call, Bad, next}
 use Rattle.asc_model.specs.Plain.{plain}
 use Rattle.asc_model.specs.Places.{places_read, places_written, writes}
-use Rattle.asc_model.specs.Touched.{without, first_reads, written_in}
+use Rattle.asc_model.specs.Touched.{is_among, without, first_reads, written_in}
 use Rattle.asc_model.proofs.Numbers.{length-bytes_after}
 use Rattle.asc_model.proofs.PlainSteps.{plain-none, plain-first}
 use Rattle.asc_shape.specs.Face.{Face, Marks, Untold, Told, status_at, status_after_read, status_after_write, marks_after, face_after_read, face_after_put, face_after_reads, face_after_puts}
 use Rattle.asc_shape.proofs.Faces.{state-reads, state-puts}
 use Rattle.asc_depvec.specs.Tracer.{face_of}
-use Rattle.asc_depvec.specs.Dependency.{is_among, status_by}
+use Rattle.asc_depvec.specs.Dependency.{status_by}
 use Rattle.asc_depvec.specs.Laws.{StatusesFollow, NoStatuses}
 
 -- ---- a status after reads and then writes

@@ -192,26 +192,49 @@ room_touch true cap n m e = omega arith
 room_touch false cap n m e = omega arith
 
 -- one place that is touched for the first time, or none
-untouched_count-one : (statuses : List Status) (touched : List (ℕ × ℕ)) (place : ℕ) → untouched_count (Told statuses touched) (place ∷ []) ≡ (if is_untouched (status_at statuses place) then 1 else 0)
+pub untouched_count-one : (statuses : List Status) (touched : List (ℕ × ℕ)) (place : ℕ) → untouched_count (Told statuses touched) (place ∷ []) ≡ (if is_untouched (status_at statuses place) then 1 else 0)
 unfolding untouched_count
 untouched_count-one statuses touched place = grind arith
+
+-- the room of a tracer that has some, before a touch and behind it
+room_before : (t : Inside) (now : Tracing) → tracing_of t ≡ now → HasRoom t → room_of now ≡ t.cap - length t.touched.items
+room_before t now is has = ap room_of (sym is) ∙ ap (λ (b : Bool). if b then t.cap - length t.touched.items else 0) has.own
+
+room_behind : (t : Inside) (state : State) (place byte : ℕ) (status after : Status) (touched : Vec (ℕ × ℕ)) → HasRoom t → Touches t state place byte status after touched
+    → room_of (tracing_of (after_touch t state place after touched)) ≡ t.cap - length touched.items
+room_behind t state place byte status after touched has did =
+    ap (λ (b : Bool). if b then t.cap - length touched.items else 0) (ap (λ (s : Shape). is_same_shape s t.shape) did.same_shape ∙ has.own)
+
+-- how many places are touched behind it
+touched_behind : (t : Inside) (state : State) (place byte : ℕ) (status after : Status) (touched : Vec (ℕ × ℕ)) → Touches t state place byte status after touched
+    → length touched.items ≡ length t.touched.items + (if is_untouched (status_at t.statuses.items place) then 1 else 0)
+touched_behind t state place byte status after touched did =
+    ap (λ (list : List (ℕ × ℕ)). length list) did.listed ∙ length-noted (is_untouched status) t.touched.items (place, byte)
+    ∙ ap (λ (s : Status). length t.touched.items + (if is_untouched s then 1 else 0)) did.known
 
 pub room-touch : (t : Inside) (now : Tracing) (state : State) (place byte : ℕ) (status after : Status) (touched : Vec (ℕ × ℕ)) → tracing_of t ≡ now → HasRoom t
     → Touches t state place byte status after touched
     → room_of now ≤ room_of (tracing_of (after_touch t state place after touched)) + untouched_count (Told now.statuses now.touched) (place ∷ [])
 room-touch t now state place byte status after touched is has did =
-    let fresh : Bool = is_untouched (status_at t.statuses.items place) in
-    let before : room_of now ≡ t.cap - length t.touched.items =
-    ap room_of (sym is) ∙ ap (λ (b : Bool). if b then t.cap - length t.touched.items else 0) has.own in
-    let behind : room_of (tracing_of (after_touch t state place after touched)) ≡ t.cap - length touched.items =
-    ap (λ (b : Bool). if b then t.cap - length touched.items else 0) (ap (λ (s : Shape). is_same_shape s t.shape) did.same_shape ∙ has.own) in
-    let size : length touched.items ≡ length t.touched.items + (if fresh then 1 else 0) =
-    ap (λ (list : List (ℕ × ℕ)). length list) did.listed ∙ length-noted (is_untouched status) t.touched.items (place, byte)
-    ∙ ap (λ (s : Status). length t.touched.items + (if is_untouched s then 1 else 0)) did.known in
-    let counted : untouched_count (Told now.statuses now.touched) (place ∷ []) ≡ (if fresh then 1 else 0) =
+    let counted : untouched_count (Told now.statuses now.touched) (place ∷ []) ≡ (if is_untouched (status_at t.statuses.items place) then 1 else 0) =
     ap (λ (v : Tracing). untouched_count (Told v.statuses v.touched) (place ∷ [])) (sym is ∙ tracing_of-own t has.own)
     ∙ untouched_count-one t.statuses.items t.touched.items place in
-    rw (before, behind, counted) (room_touch fresh t.cap (length t.touched.items) (length touched.items) size)
+    rw (room_before t now is has, room_behind t state place byte status after touched has did, counted)
+    (room_touch (is_untouched (status_at t.statuses.items place)) t.cap (length t.touched.items) (length touched.items) (touched_behind t state place byte status after touched did))
+
+-- the room and the touched places together
+total_touch : (b : Bool) (cap n m : ℕ) → n < cap → m ≡ n + (if b then 1 else 0) → cap - n + n ≡ cap - m + m
+total_touch true cap n m h e = omega arith
+total_touch false cap n m h e = omega arith
+
+pub total-touch : (t : Inside) (now : Tracing) (state : State) (place byte : ℕ) (status after : Status) (touched : Vec (ℕ × ℕ)) → tracing_of t ≡ now → HasRoom t
+    → Touches t state place byte status after touched
+    → room_of now + length now.touched ≡ room_of (tracing_of (after_touch t state place after touched)) + length touched.items
+total-touch t now state place byte status after touched is has did =
+    let listed : length now.touched ≡ length t.touched.items = ap (λ (v : Tracing). length v.touched) (sym is) in
+    rw (room_before t now is has, room_behind t state place byte status after touched has did, listed)
+    (total_touch (is_untouched (status_at t.statuses.items place)) t.cap (length t.touched.items) (length touched.items) has.room
+    (touched_behind t state place byte status after touched did))
 
 -- a place of the state
 pub record IsPlace (t : Inside) (place : ℕ) : Type 0 where

@@ -6,3 +6,4 @@ pub mod UndoneReads
 pub mod Starts
 pub mod Dependencies
 pub mod Limits
+pub mod Words

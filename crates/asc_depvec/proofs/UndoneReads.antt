@@ -21,7 +21,7 @@ record IsReadFrom (state : State) (statuses : List Status) (touched : List (ℕ 
   pub back : untouch later fresh ≡ statuses
 
 -- a read of a place that is touched leaves its status
-after_read_touched : (status : Status) → is_untouched status ≡ false → status_after_read status ≡ status
+pub after_read_touched : (status : Status) → is_untouched status ≡ false → status_after_read status ≡ status
 after_read_touched Untouched e = absurd (cc)
 after_read_touched Read e = refl
 after_read_touched Written e = refl

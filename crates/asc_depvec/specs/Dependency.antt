@@ -1,15 +1,10 @@
 -- How steps touch places: the dependency vector, place by place (Waterland and others, "ASC: Automatically Scalable
 -- Computation", ASPLOS 2014, section 4.2).
-use Rattle.std.specs.Prelude.{ℕ, Bool, true, false, ◌==◌, List}
-use Rattle.std.specs.List.{list_any}
+use Rattle.std.specs.Prelude.{ℕ, Bool, true, false}
 use Rattle.asc_model.specs.declared.status.Status.{Status}
 use Rattle.asc_model.specs.declared.status.Status.TheVariants.{Untouched, Read, Written, ReadWritten}
 use Rattle.asc_model.specs.State.{State}
-use Rattle.asc_model.specs.Touched.{first_reads, written_in}
-
--- whether a place is in a list
-abbrev pub is_among : ℕ → List ℕ → Bool
-is_among place places = list_any (λ other. other == place) places
+use Rattle.asc_model.specs.Touched.{is_among, first_reads, written_in}
 
 -- the status of a place, by whether it was read before it was written, and whether it was written
 abbrev pub status_by : (read written : Bool) → Status

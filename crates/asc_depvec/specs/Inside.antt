@@ -1,8 +1,9 @@
--- How a tracer's fields stand for a tracer.
-use Rattle.std.specs.Prelude.{◌≡◌, ◌≤◌, false, [], length, replicate, vec_capacity, if◌then◌else◌}
+-- How a tracer's fields stand for a tracer, and a word of private contracts.
+use Rattle.std.specs.Prelude.{◌≡◌, ℕ, ◌≤◌, false, List, [], ◌∷◌, length, replicate, slice_set, vec_capacity, if◌then◌else◌}
+use Rattle.asc_model.specs.declared.status.Status.{Status}
 use Rattle.asc_model.specs.declared.status.Status.TheVariants.{Untouched}
 use Rattle.asc_model.specs.Shape.{length_of}
-use Rattle.asc_shape.specs.Face.{Told, FitPlaces}
+use Rattle.asc_shape.specs.Face.{Told, FitPlaces, status_at, status_after_write}
 use Rattle.asc_depvec.specs.declared.tracer.Tracer.TheInside.{Inside}
 use Rattle.asc_depvec.specs.Tracer.{Tracing, is_same_shape}
 
@@ -23,3 +24,9 @@ pub record IsTracer (t : Inside) : Type 0 where
   pub reserved : t.cap ≤ vec_capacity t.touched
   pub places : FitPlaces (length_of t.shape) (Told t.statuses.items t.touched.items)
   pub other : is_same_shape t.state.shape t.shape ≡ false → t.touched.items ≡ []
+
+-- statuses with the places of a list written, one after another
+abbrev pub written : List Status → List ℕ → List Status
+written statuses [] = statuses
+written statuses (place ∷ places) =
+    written (slice_set statuses place (status_after_write (status_at statuses place))) places

@@ -22,9 +22,9 @@ StartsStay = (t : Tracing) (places : List ℕ) (cells : List (ℕ × ℕ))
     → All (λ place. place < length t.state.bytes) (map (λ cell. cell.0) cells)
     → start_of_face (face_after_puts (face_after_reads (face_of t) places) cells) ≡ start_of_face (face_of t)
 
--- A tracer that has room, and another one with a state of the same shape, of which room and touched places together are
--- as many, were made with the same shape and have the same cap. So calls that tell only the face and that sum, as those
--- of `Bytes` may, keep both.
+-- Two tracers have the same shape and the same cap, where the first one has room, their states are of one shape, and
+-- room and touched places together are as many. So calls that tell only the face and that sum, as those of `Bytes` do,
+-- keep both.
 abbrev pub LimitsStay : Type 0
 LimitsStay = (before now : Tracing) → IsTracing before → IsTracing now → 1 ≤ room_of before
     → now.state.shape ≡ before.state.shape

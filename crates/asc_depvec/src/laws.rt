@@ -20,8 +20,8 @@ pub fn starts_are_told()
     ensures { StartsAreTold }
 {}
 
-/// Room and touched places together tell the cap: a tracer that has room, and what calls make of it that keep that sum
-/// and the shape of its state, have the same cap and are of the same shape.
+/// Room and touched places together tell the cap. So calls that keep their sum, and the shape of the state, keep the cap
+/// and the shape of a tracer that has room.
 pub fn limits_stay()
     ensures { LimitsStay }
 {}

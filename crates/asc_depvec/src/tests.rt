@@ -91,6 +91,46 @@ fn touches(rt: HostRuntime) {
     }
 }
 
+// What a call answers; then the statuses of places 8 to 11, of which a word has all, some or none touched; how
+// many places are touched, and the last of them, with its byte.
+#[test]
+fn words(rt: HostRuntime) {
+    let shape = Shape::new(0x10000, 65_536).expect(&rt, "a shape");
+    let mut tracer = Tracer::new(rt.alloc(), shape, 32).expect(&rt, "memory");
+    let put = (Untouched, Written, Untouched, Untouched);
+    let read = (Read, Written, Read, Read);
+    let both = (ReadWritten, Written, ReadWritten, ReadWritten);
+    let half = (ReadWritten, Written, Untouched, Untouched);
+    let again = (ReadWritten, Written, Written, Written);
+    for (call, answer, statuses, touched, last) in [
+        (Put(9, 7), 0, put, 1, Some((9, 0))),
+        (GetWord(8), 0x0700, read, 4, Some((11, 0))),
+        (GetWord(8), 0x0700, read, 4, Some((11, 0))),
+        (PutWord(8, 0x0403_0201), 0, both, 4, Some((11, 0))),
+        (GetWord(8), 0x0403_0201, both, 4, Some((11, 0))),
+        (Undo(2), 0, half, 2, Some((8, 0))),
+        (PutWord(8, 0x0807_0605), 0, again, 4, Some((11, 4))),
+        (GetWord(6), 0x0605_0000, again, 6, Some((7, 0))),
+        (PutWord(10, 0x0C0B_0A09), 0, again, 8, Some((13, 0))),
+        (GetWord(8), 0x0A09_0605, again, 8, Some((13, 0))),
+    ] {
+        assert_eq!(rt; make(&rt, &mut tracer, call), answer);
+        assert_eq!(rt;
+            (
+                tracer.status(8),
+                tracer.status(9),
+                tracer.status(10),
+                tracer.status(11)
+            ),
+            statuses
+        );
+        assert_eq!(rt;
+            (tracer.mark(), tracer.touched().last().copied()),
+            (touched, last)
+        );
+    }
+}
+
 #[test]
 fn room(rt: HostRuntime) {
     let one = Shape::new(0x10000, 65_536).expect(&rt, "version One");

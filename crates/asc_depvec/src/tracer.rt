@@ -1,10 +1,13 @@
-ghost use Rattle.std.specs.Prelude.{◌≡◌, ◌<◌, ◌≤◌, [], ◌∷◌, ◌++◌, IfOk, length, vec_len, vec_capacity, if◌then◌else◌};
+ghost use Rattle.std.specs.Prelude.{◌≡◌, ◌+◌, ◌<◌, ◌≤◌, ◌==◌, [], ◌∷◌, ◌++◌, IfOk, not, length, vec_len, vec_capacity, if◌then◌else◌};
 ghost use Rattle.std.specs.Borrow.{Lends, sem};
-ghost use Rattle.asc_shape.specs.Face.{status_at, is_untouched, status_after_read, status_after_write};
+ghost use Rattle.asc_model.specs.Number.{bytes_of, word_at};
+ghost use Rattle.asc_model.specs.Places.{cells, places_from};
+ghost use Rattle.asc_shape.specs.Face.{KeepsTotal, Told, status_at, is_untouched, status_after_read, status_after_write, face_after_reads, face_after_puts, untouched_count};
 ghost use Rattle.asc_shape.specs.State.{zero_state};
 ghost use Rattle.asc_shape.specs.contracts.state.State as state;
 ghost use Rattle.asc_depvec.specs.contracts.tracer.Tracer.{the_row};
 ghost use Rattle.asc_depvec.specs.Tracer.{IsTracing, face_of, fresh, room_of, undone};
+ghost use Rattle.asc_depvec.specs.Inside.{written};
 
 use asc_shape::{Bytes, Memory, Shape, State, Status};
 use std::alloc::Global;
@@ -146,6 +149,46 @@ impl Tracer {
             }
         }
     }
+
+    // The word in the four bytes from a place on, read one after another.
+    fn get_bytes(&mut self, place: u32) -> u32
+        requires place { place + 4 ≤ length self.old.state.bytes }
+        requires room { 4 ≤ room_of self.old }
+        ensures word { result ≡ word_at self.old.state.bytes place }
+        ensures face { face_of self.new ≡ face_after_reads (face_of self.old) (places_from place 4) }
+        ensures room { room_of self.old ≤ room_of self.new
+            + untouched_count (face_of self.old).marks (places_from place 4) }
+        ensures total { KeepsTotal (room_of self.old) (face_of self.old)
+            (room_of self.new) (face_of self.new) }
+    {
+        // Its shape bounds the places of a state, so that the sums below fit.
+        let _ = Bytes::shape(self);
+        u32::from_le_bytes([
+            self.get(place),
+            self.get(place + 1),
+            self.get(place + 2),
+            self.get(place + 3),
+        ])
+    }
+
+    // Puts a word in the four bytes from a place on, one after another.
+    fn put_bytes(&mut self, place: u32, word: u32)
+        requires place { place + 4 ≤ length self.old.state.bytes }
+        requires room { 4 ≤ room_of self.old }
+        ensures face { face_of self.new ≡ face_after_puts (face_of self.old) (cells place (bytes_of 4 word)) }
+        ensures room { room_of self.old ≤ room_of self.new
+            + untouched_count (face_of self.old).marks (places_from place 4) }
+        ensures total { KeepsTotal (room_of self.old) (face_of self.old)
+            (room_of self.new) (face_of self.new) }
+    {
+        // Its shape bounds the places of a state, so that the sums below fit.
+        let _ = Bytes::shape(self);
+        let [first, second, third, fourth] = word.to_le_bytes();
+        self.put(place, first);
+        self.put(place + 1, second);
+        self.put(place + 2, third);
+        self.put(place + 3, fourth);
+    }
 }
 
 /// It tells how its places were touched. Its room falls by one with each place that is touched for the first time.
@@ -185,6 +228,31 @@ impl Bytes for Tracer {
         self.statuses[place as usize] = after_write(status);
         self.state.set(place, byte);
     }
+
+    /// Where the four places are touched, a read changes nothing, and the state's own word is read.
+    #[inline]
+    fn get_word(&mut self, place: u32) -> u32 {
+        // That its state is one, and its marks fit it.
+        let _ = Bytes::shape(self);
+        if are_touched(&self.statuses, place) {
+            Bytes::get_word(&mut self.state, place)
+        } else {
+            self.get_bytes(place)
+        }
+    }
+
+    /// Where the four places are touched no place is listed, and the state's own word is put.
+    #[inline]
+    fn put_word(&mut self, place: u32, word: u32) {
+        // That its state is one, and its marks fit it.
+        let _ = Bytes::shape(self);
+        if are_touched(&self.statuses, place) {
+            mark_written(&mut self.statuses, place);
+            Bytes::put_word(&mut self.state, place, word);
+        } else {
+            self.put_bytes(place, word);
+        }
+    }
 }
 
 // Lists a place with its byte where its status says that it is not touched yet.
@@ -197,6 +265,42 @@ fn note(touched: &mut Vec<(u32, u8)>, status: Status, place: u32, byte: u8)
 {
     if let Status::Untouched = status {
         touched.push((place, byte)).unwrap();
+    }
+}
+
+// Whether none of the four places from a place on is untouched.
+#[inline]
+fn are_touched(statuses: &[Status], place: u32) -> bool
+    requires { place + 4 ≤ length statuses.now }
+    ensures { result ≡ (untouched_count (Told statuses.now []) (places_from place 4) == 0) }
+{
+    let at = place as usize;
+    is_touched(statuses[at])
+        & is_touched(statuses[at + 1])
+        & is_touched(statuses[at + 2])
+        & is_touched(statuses[at + 3])
+}
+
+// Marks the four places from a place on as written.
+#[inline]
+fn mark_written(statuses: &mut [Status], place: u32)
+    requires { place + 4 ≤ length statuses.old }
+    ensures { statuses.new ≡ written statuses.old (places_from place 4) }
+{
+    let at = place as usize;
+    statuses[at] = after_write(statuses[at]);
+    statuses[at + 1] = after_write(statuses[at + 1]);
+    statuses[at + 2] = after_write(statuses[at + 2]);
+    statuses[at + 3] = after_write(statuses[at + 3]);
+}
+
+#[inline]
+fn is_touched(status: Status) -> bool
+    ensures { result ≡ not (is_untouched status) }
+{
+    match status {
+        Status::Untouched => false,
+        Status::Read | Status::Written | Status::ReadWritten => true,
     }
 }
 

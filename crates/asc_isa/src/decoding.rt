@@ -12,7 +12,7 @@ use asc_model::{Instr, Op};
 /// manual 20191213, chapter 24).
 ///
 /// It is `None` where the word is none of these.
-#[inline]
+#[inline(always)]
 pub fn decode(word: u32, atomics: bool) -> Option<Instr>
     ensures instruction { result ≡ decode (version_of atomics) word }
     ensures registers { IfSome result HasRegisters }
@@ -21,7 +21,7 @@ pub fn decode(word: u32, atomics: bool) -> Option<Instr>
 }
 
 /// The instruction of a word, by its opcode. It is apart from `decode`, so that what is said of registers is shown once.
-#[inline]
+#[inline(always)]
 fn instruction(word: u32, atomics: bool) -> Option<Instr>
     ensures { result ≡ decode (version_of atomics) word }
 {

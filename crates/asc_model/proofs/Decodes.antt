@@ -1,12 +1,10 @@
 -- A word decodes to the instruction of the one row that is for it.
-use Rattle.std.proofs.Common.{◌≡◌, ℕ, suc, true, false, List, [], ◌∷◌, Option, Some, None, get_or, refl, sym, ◌∙◌, inl, inr, arith}
+use Rattle.std.proofs.Common.{◌≡◌, ℕ, suc, true, false, List, [], ◌∷◌, Some, None, refl, ◌∙◌, inl, inr, arith}
 use Rattle.std.specs.Prelude.{All, AllPairs}
 use Rattle.std.proofs.lemmas.Bool.{cases_Bool, cond-true, cond-false}
 use Rattle.std.proofs.lemmas.List.Elements.{All-nil, All-cons, All-head, All-tail}
-use Rattle.asc_model.specs.declared.version.Version.{Version}
-use Rattle.asc_model.specs.declared.instruction.Instr.{Instr}
 use Rattle.asc_model.specs.Instruction.{Row, fits, operands, find, table, decode}
-use Rattle.asc_model.specs.Laws.{ShareNoWord, DecodesByRows, DecodeIsTheTable}
+use Rattle.asc_model.specs.Laws.{ShareNoWord, DecodeIsTheTable}
 use Rattle.asc_model.proofs.Rows.{rows_differ}
 
 -- the instruction of a row, found for each word of that row

@@ -1,31 +1,29 @@
 -- Two states that agree on the places that steps read first take these steps alike.
-use Rattle.std.proofs.Common.{◌≡◌, ◌≢◌, ℕ, zero, suc, ◌+◌, ◌-◌, ◌*◌, ◌^◌, ◌<◌, ◌≤◌, Bool, true, false, not, ◌&&◌, ◌||◌, ◌==◌, cond, List, [], ◌∷◌, ◌++◌, map, length, get_or, take, drop, slice_index, slice_set, Option, Some, None, if◌then◌else◌, refl, sym, ap, subst, ◌∙◌, inl, inr, arith}
-use Rattle.std.specs.Prelude.{All, filter}
+use Rattle.std.proofs.Common.{◌≡◌, ◌≢◌, ℕ, zero, suc, ◌+◌, ◌*◌, ◌^◌, ◌<◌, ◌≤◌, Bool, true, false, not, ◌&&◌, ◌||◌, ◌==◌, List, [], ◌∷◌, ◌++◌, map, length, slice_index, slice_set, Option, Some, None, if◌then◌else◌, refl, sym, ap, subst, ◌∙◌, inl, inr, arith}
+use Rattle.std.specs.Prelude.{All}
 use Rattle.std.specs.List.{list_any}
 use Rattle.std.proofs.lemmas.Bool.{and_parts, cases_Bool, cases_eq, eqb-true, eq-eqb, false≢true, cond-true, cond-false}
-use Rattle.std.proofs.lemmas.List.{get_or-take, get_or-drop, get_or-set_same, get_or-set_other, get_or_append_left, get_or-append-add, length-append, length-set, take-take}
+use Rattle.std.proofs.lemmas.List.{get_or-set_same, get_or-set_other, get_or_append_left, get_or-append-add, length-append, length-set}
 use Rattle.std.proofs.lemmas.List.Elements.{All-nil, All-cons, All-head, All-tail, All-append, All-filter}
 use Rattle.asc_model.specs.declared.version.Version.{Version}
 use Rattle.asc_model.specs.declared.version.Version.TheVariants.{One, Two}
-use Rattle.asc_model.specs.declared.fault.Fault.{Fault}
 use Rattle.asc_model.specs.declared.fault.FaultKind.{FaultKind}
 use Rattle.asc_model.specs.declared.fault.FaultKind.TheVariants.{Misaligned, FetchOutside, Illegal, LoadOutside, StoreOutside, Break, AtomicMisaligned}
 use Rattle.asc_model.specs.declared.instruction.Instr.{Instr}
-use Rattle.asc_model.specs.Shape.{Shape, start_of, length_of, place_of, holds}
-use Rattle.asc_model.specs.Number.{number_of, number_at, bytes_of, word_at}
+use Rattle.asc_model.specs.Shape.{Shape, length_of, place_of, holds}
+use Rattle.asc_model.specs.Number.{number_at, bytes_of, word_at}
 use Rattle.asc_model.specs.State.{State, IsState}
 use Rattle.asc_model.specs.Machine.{Machine, register, load, is_reserved, Change, Pc, Register, Memory, reserve, release, view_of}
 use Rattle.asc_model.specs.Arithmetic.{◌+w◌, one_if}
 use Rattle.asc_model.specs.Instruction.{decode, op_of, rd_of, rs1_of, rs2_of, imm_of}
 use Rattle.asc_model.specs.Effect.{Effect, Set, Load, Store, Jump, LoadReserved, StoreConditional, Modify, GuestCall, Breakpoint, effect}
-use Rattle.asc_model.specs.Step.{Outcome, Goes, Calls, Fails, fault_outcome, is_aligned, atomic_outcome, loaded_word, effect_of, outcome_of, fetch, outcome_of_word, outcome, Next, At, Call, Bad, next}
-use Rattle.asc_model.specs.Places.{places_from, register_places, atomic_places, reservation_places, data_places, operand_places, places_read, cells_of_outcome, writes, places_written, bytes_after}
-use Rattle.asc_model.specs.Plain.{plain}
+use Rattle.asc_model.specs.Step.{Outcome, Goes, Calls, Fails, fault_outcome, is_aligned, loaded_word, effect_of, outcome_of, fetch, outcome_of_word, outcome, Next, At, Call, Bad, next}
+use Rattle.asc_model.specs.Places.{places_from, register_places, reservation_places, data_places, operand_places, places_read, cells_of_outcome, writes, places_written, bytes_after}
 use Rattle.asc_model.specs.Touched.{without, first_reads, written_in}
-use Rattle.asc_model.specs.Laws.{KeepsOthers, AgreeOn, GoesAlike, StepsAlike, OneStepFrame, PlainStepsAlike, ManyStepsFrame}
+use Rattle.asc_model.specs.Laws.{KeepsOthers, AgreeOn, GoesAlike, StepsAlike, OneStepFrame, ManyStepsFrame}
 use Rattle.asc_model.proofs.Numbers.{number_at-suc}
 use Rattle.asc_model.proofs.Views.{view_of-reserved_One, view_of-reserved_Two, view_of-pc, view_of-register_suc, view_of-load}
-use Rattle.asc_model.proofs.Steps.{IsInstruction, IfInstruction, decode-IsInstruction, next-goes, next-calls, next-fails}
+use Rattle.asc_model.proofs.Steps.{IfInstruction, decode-IsInstruction, next-goes, next-calls, next-fails}
 use Rattle.asc_model.proofs.Touches.{places_written-AllBelow}
 use Rattle.asc_model.proofs.LawsHold.{step_writes_bytes, steps_keep_states}
 use Rattle.asc_model.proofs.PlainSteps.{plain-zero, plain-none, plain-first, plain-suc_next}
@@ -48,7 +46,7 @@ or_neither true y h = absurd (cc)
 or_neither false y h = (refl, h)
 
 -- one of the list has what all of it have
-one_of_all : (P : ℕ → Type 0) (places : List ℕ) (place : ℕ) → list_any (λ other. other == place) places ≡ true → All P places → P place
+pub one_of_all : (P : ℕ → Type 0) (places : List ℕ) (place : ℕ) → list_any (λ other. other == place) places ≡ true → All P places → P place
 one_of_all P [] place e h = absurd (cc)
 one_of_all P (first ∷ places) place e h = elim (cases_Bool (first == place)) [
   | inl same ↦ subst P (eqb-true first place same) (All-head P first places h)
@@ -60,7 +58,7 @@ apart_by_test : (a b : ℕ) → (a == b) ≡ false → a ≢ b
 apart_by_test a b e same = false≢true (sym e ∙ eq-eqb a b same)
 
 -- none of the list is it
-none_of_all : (places : List ℕ) (place : ℕ) → list_any (λ other. other == place) places ≡ false → All (λ other. other ≢ place) places
+pub none_of_all : (places : List ℕ) (place : ℕ) → list_any (λ other. other == place) places ≡ false → All (λ other. other ≢ place) places
 none_of_all [] place e = All-nil (λ other. other ≢ place)
 none_of_all (first ∷ places) place e =
     let both = or_neither (first == place) (list_any (λ other. other == place) places) e in

@@ -8,3 +8,6 @@ pub mod LawsHold
 pub mod PlainSteps
 pub mod Decodes
 pub mod Frames
+pub mod Listings
+pub mod Entries
+pub mod Reaches

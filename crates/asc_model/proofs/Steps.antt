@@ -1,5 +1,5 @@
 -- What one step makes of a state, by the places that it writes.
-use Rattle.std.proofs.Common.{◌≡◌, ℕ, zero, suc, ◌+◌, ◌-◌, ◌*◌, ◌/◌, ◌%◌, ◌^◌, ◌<◌, ◌≤◌, ℤ, pos, negsuc, neg_ℤ, ◌*ℤ◌, Bool, true, false, nat_lt, not, ◌&&◌, ◌==◌, List, [], ◌∷◌, ◌++◌, length, Option, Some, None, if◌then◌else◌, take, drop, refl, sym, ap, ◌∙◌, subst, arith, pow_mono, pow_pos, le_of_lt}
+use Rattle.std.proofs.Common.{◌≡◌, ℕ, zero, suc, ◌+◌, ◌-◌, ◌*◌, ◌/◌, ◌%◌, ◌^◌, ◌<◌, ◌≤◌, ℤ, pos, negsuc, neg_ℤ, ◌*ℤ◌, Bool, true, false, nat_lt, not, ◌&&◌, ◌==◌, List, [], ◌∷◌, length, Option, Some, None, if◌then◌else◌, take, drop, refl, sym, ap, ◌∙◌, subst, arith, pow_mono, pow_pos, le_of_lt}
 use Rattle.std.specs.Prelude.{⊤, unsigned_abs, int_lt, int_div, int_rem}
 use Rattle.std.proofs.lemmas.List.{length-take}
 use Rattle.std.proofs.lemmas.Nat.{mod_below, pow-add, xor_lt, or_lt, and_le_l}
@@ -19,10 +19,10 @@ use Rattle.asc_model.specs.declared.instruction.Instr.{Instr}
 use Rattle.asc_model.specs.Shape.{Shape, holds}
 use Rattle.asc_model.specs.Number.{AreBytes, number_of, bytes_of, bits, sign_extend}
 use Rattle.asc_model.specs.State.{State, IsState}
-use Rattle.asc_model.specs.Machine.{Machine, IsMachine, register, load, is_reserved, Change, Pc, Register, Memory, Reservation, reserve, release, view_of}
-use Rattle.asc_model.specs.Instruction.{Format, U, J, I, Shift, S, B, R, Plain, Row, operands, base_table, fits, find, table, decode, rd_of, rs1_of, rs2_of, imm_of, op_of}
-use Rattle.asc_model.specs.Arithmetic.{signed, word_of, ◌+w◌, one_if, even_part, shift_left, shift_right, shift_right_signed, shift_amount, high_word, quotient, quotient_unsigned, remainder, remainder_unsigned, lesser, greater}
-use Rattle.asc_model.specs.Effect.{Effect, Set, Load, Store, Jump, LoadReserved, StoreConditional, Modify, GuestCall, Breakpoint, nothing, branch, effect}
+use Rattle.asc_model.specs.Machine.{Machine, IsMachine, register, load, is_reserved, Change, Pc, Register, Memory, reserve, release, view_of}
+use Rattle.asc_model.specs.Instruction.{Format, U, J, I, Shift, S, B, R, Plain, Row, operands, fits, find, table, decode, rd_of, rs1_of, rs2_of, imm_of, op_of}
+use Rattle.asc_model.specs.Arithmetic.{signed, word_of, ◌+w◌, one_if, even_part, shift_right_signed, shift_amount, high_word, quotient, quotient_unsigned, remainder, remainder_unsigned}
+use Rattle.asc_model.specs.Effect.{Effect, Set, Load, Store, Jump, LoadReserved, StoreConditional, Modify, GuestCall, Breakpoint, branch, effect}
 use Rattle.asc_model.specs.Step.{Outcome, Goes, Calls, Fails, fault_outcome, is_aligned, atomic_outcome, loaded_word, effect_of, outcome_of, fetch, outcome_of_word, outcome, At, Call, Bad, next_of, next}
 use Rattle.asc_model.specs.Places.{cells_of_outcome, writes, bytes_after}
 use Rattle.asc_model.proofs.Numbers.{number_of-below, length-bytes_of, AreBytes-bytes_of, AreBytes-append, AreBytes-take, AreBytes-drop}

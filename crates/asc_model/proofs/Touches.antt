@@ -7,7 +7,6 @@ use Rattle.std.proofs.lemmas.List.Elements.{All-nil, All-cons, All-append, All-m
 use Rattle.asc_model.specs.declared.instruction.Instr.{Instr}
 use Rattle.asc_model.specs.Shape.{Shape, IsShape, start_of, length_of, place_of, holds}
 use Rattle.asc_model.specs.declared.version.Version.{Version}
-use Rattle.asc_model.specs.declared.version.Version.TheVariants.{Two}
 use Rattle.asc_model.specs.Number.{bytes_of}
 use Rattle.asc_model.specs.State.{State, IsState}
 use Rattle.asc_model.specs.Machine.{Machine, Change, Pc, Register, Memory, Reservation, view_of}
@@ -36,7 +35,7 @@ if-AllBelow bound false x y p q = q
 -- ---- places read
 
 -- places in a row are below a bound that is past the last
-places_from-AllBelow : (bound place n : ℕ) → place + n ≤ bound → AllBelow bound (places_from place n)
+pub places_from-AllBelow : (bound place n : ℕ) → place + n ≤ bound → AllBelow bound (places_from place n)
 places_from-AllBelow bound place zero h = All-nil (λ p. p < bound)
 places_from-AllBelow bound place (suc n) h =
     All-cons (λ p. p < bound) place (places_from (place + 1) n) (omega arith) (places_from-AllBelow bound (place + 1) n (omega arith))

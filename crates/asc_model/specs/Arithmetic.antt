@@ -1,6 +1,6 @@
 -- Arithmetic on words, which are the numbers below 2 ^ 32 (RISC-V unprivileged manual 20191213, sections 2.4, 7.1 and
 -- 7.2). A word is read as unsigned, or as two's complement.
-use Rattle.std.specs.Prelude.{ℕ, ◌+◌, ◌-◌, ◌*◌, ◌/◌, ◌%◌, ◌^◌, ◌==◌, Bool, ℤ, pos, ◌*ℤ◌, int_lt, int_div, int_rem, if◌then◌else◌}
+use Rattle.std.specs.Prelude.{ℕ, ◌+◌, ◌-◌, ◌*◌, ◌/◌, ◌%◌, ◌^◌, ◌==◌, Bool, ℤ, int_lt, int_div, int_rem, if◌then◌else◌}
 use Rattle.std.specs.Int.{w32, cast_signed, cast_unsigned, int_shr}
 
 -- a word read as two's complement

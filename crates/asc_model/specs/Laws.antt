@@ -1,5 +1,5 @@
 -- The laws that tie states, their machines and their steps to one another.
-use Rattle.std.specs.Prelude.{◌≡◌, ℕ, ◌+◌, ◌<◌, true, false, Some, None, List, [], All, AllPairs, length, ◌≢◌, slice_index}
+use Rattle.std.specs.Prelude.{◌≡◌, ℕ, ◌+◌, ◌<◌, ◌≤◌, true, false, Some, None, List, [], All, AllPairs, length, ◌≢◌, slice_index}
 use Rattle.asc_model.specs.declared.version.Version.{Version}
 use Rattle.asc_model.specs.declared.fault.Fault.{Fault}
 use Rattle.asc_model.specs.Shape.{Shape}
@@ -10,6 +10,9 @@ use Rattle.asc_model.specs.Instruction.{Row, fits, operands, table, decode}
 use Rattle.asc_model.specs.Places.{places_read, places_written, writes, bytes_after}
 use Rattle.asc_model.specs.Plain.{plain}
 use Rattle.asc_model.specs.Touched.{first_reads, written_in}
+use Rattle.asc_model.specs.Entry.{Entry, IsTrueEntry, entry_of}
+use Rattle.asc_model.specs.declared.why.Why.{Why}
+use Rattle.asc_model.specs.Reach.{Bounds, IsReach}
 
 -- The machine of a state is one of its shape, and the state is the one of that shape and machine: they determine it.
 abbrev pub ViewsDetermineStates : Type 0
@@ -119,3 +122,14 @@ pub record PlainStepsAlike (n : ℕ) (s after t : State) : Type 0 where
 abbrev pub ManyStepsFrame : Type 0
 ManyStepsFrame = (n : ℕ) (s after t : State) → IsState s → IsState t → t.shape ≡ s.shape
     → plain n s ≡ At after → AgreeOn (first_reads n s) s t → PlainStepsAlike n s after t
+
+-- ---- entries and traces
+
+-- The entry of steps of a state, at least 1, holds everywhere and is its own.
+abbrev pub EntriesAreTrue : Type 0
+EntriesAreTrue = (n : ℕ) (s : State) (e : Entry) → IsState s → 1 ≤ n → entry_of n s ≡ Some e → IsTrueEntry e
+
+-- A trace ends in at most one way: after one number of steps, for one reason.
+abbrev pub ReachesAreOne : Type 0
+ReachesAreOne = (bounds : Bounds) (start : State) (m n : ℕ) (why other : Why)
+    → IsReach bounds start m why → IsReach bounds start n other → (m ≡ n) × (why ≡ other)

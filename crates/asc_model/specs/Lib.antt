@@ -9,4 +9,6 @@ pub mod Step
 pub mod Places
 pub mod Plain
 pub mod Touched
+pub mod Entry
+pub mod Reach
 pub mod Laws

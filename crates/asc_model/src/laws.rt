@@ -1,7 +1,7 @@
 //! The laws that tie states, their machines and their steps to one another. Each function stands for the law that it
 //! ensures, and does nothing.
 
-ghost use Rattle.asc_model.specs.Laws.{ViewsDetermineStates, StatesDetermineViews, StepWritesBytes, StepsKeepStates, StepsTouchPlaces, PlainStepsJoin, PlainStepsKeepStates, RowsDiffer, DecodeIsTheTable, OneStepFrame, ManyStepsFrame};
+ghost use Rattle.asc_model.specs.Laws.{ViewsDetermineStates, StatesDetermineViews, StepWritesBytes, StepsKeepStates, StepsTouchPlaces, PlainStepsJoin, PlainStepsKeepStates, RowsDiffer, DecodeIsTheTable, OneStepFrame, ManyStepsFrame, EntriesAreTrue, ReachesAreOne};
 
 /// A state is known from its shape and its machine, which is one of that shape: turned into its machine and back, it is
 /// the same state.
@@ -65,4 +65,16 @@ pub fn one_step_frame()
 /// state's.
 pub fn many_steps_frame()
     ensures { ManyStepsFrame }
+{}
+
+/// The entry of `n` steps of a state holds everywhere: from every state that has its read bytes, its steps go on and
+/// lead to that state with its written bytes put in. And it is its own: it is the entry of as many steps from the state
+/// that has its read bytes, and 0 at all other places.
+pub fn entries_are_true()
+    ensures { EntriesAreTrue }
+{}
+
+/// A trace of steps ends in at most one way: after one number of steps, for one reason.
+pub fn reaches_are_one()
+    ensures { ReachesAreOne }
 {}

@@ -1,8 +1,13 @@
 //! Tests that cross crates: whole runs, of `top` over an outside in memory and of `Walk` in either version, and single
 //! steps. Expected values are worked out by hand from the formats and the instruction set, or come from another
 //! implementation, and none from the program's own output.
+//!
+//! `embedding` is an example of how another crate uses those below.
 #![tactic(auto)]
 
+mod embedding;
+#[cfg(test)]
+mod embedding_tests;
 #[cfg(test)]
 mod images;
 #[cfg(test)]
@@ -15,3 +20,5 @@ mod programs;
 mod single_steps;
 #[cfg(test)]
 mod whole_runs;
+
+pub use embedding::{Counted, entry_from, jump, tells, walk};

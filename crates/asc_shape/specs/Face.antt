@@ -1,5 +1,5 @@
 -- What code sees of a state through `Bytes`: the state, and where that is told, how each place was touched.
-use Rattle.std.specs.Prelude.{◌≡◌, ℕ, List, [], ◌∷◌, ◌++◌, Bool, true, false, ◌==◌, length, slice_index, slice_index_or, slice_set, count_by, if◌then◌else◌}
+use Rattle.std.specs.Prelude.{◌≡◌, ℕ, ◌+◌, List, [], ◌∷◌, ◌++◌, Bool, true, false, ◌==◌, length, slice_index, slice_index_or, slice_set, count_by, if◌then◌else◌}
 use Rattle.asc_model.specs.declared.status.Status.{Status}
 use Rattle.asc_model.specs.declared.status.Status.TheVariants.{Untouched, Read, Written, ReadWritten}
 use Rattle.asc_model.specs.State.{State}
@@ -77,3 +77,12 @@ FitPlaces places Untold = Unit {0}
 FitPlaces places (Told statuses touched) = (length statuses ≡ places)
     × ((place : ℕ) → count_by (λ noted. noted.0 == place) touched
     ≡ (if is_untouched (status_at statuses place) then 0 else 1))
+
+-- how many places are told to be touched
+abbrev pub touched_count : Marks → ℕ
+touched_count Untold = 0
+touched_count (Told statuses touched) = length touched
+
+-- a room and the number of places told to be touched have the same sum before and after
+abbrev pub KeepsTotal : ℕ → Face → ℕ → Face → Type 0
+KeepsTotal room f room_after g = room + touched_count f.marks ≡ room_after + touched_count g.marks

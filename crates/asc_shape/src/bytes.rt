@@ -2,14 +2,15 @@ ghost use Rattle.std.specs.Prelude.{◌≡◌, ◌+◌, ◌<◌, ◌≤◌, ℕ,
 ghost use Rattle.asc_model.specs.Number.{bytes_of, word_at};
 ghost use Rattle.asc_model.specs.State.{IsState};
 ghost use Rattle.asc_model.specs.Places.{places_from, cells};
-ghost use Rattle.asc_shape.specs.Face.{Face, FitPlaces, face_after_read, face_after_put, face_after_reads, face_after_puts, untouched_count};
+ghost use Rattle.asc_shape.specs.Face.{Face, FitPlaces, KeepsTotal, face_after_read, face_after_put, face_after_reads, face_after_puts, untouched_count};
 
 use crate::Shape;
 
 /// A state that code reads and writes byte by byte.
 ///
 /// Its face is the state, and how each place was touched where the type tells that. A type may have room for a
-/// limited number of touched places; one whose room falls tells its marks.
+/// limited number of touched places. Room falls by one with each place that is touched for the first time, and by
+/// nothing else: room and touched places together stay the same. A type that doesn't tell its marks keeps its room.
 pub trait Bytes {
     /// The state, and how its places were touched.
     ghost face: { Self → Face };
@@ -33,14 +34,16 @@ pub trait Bytes {
         requires room { 1 ≤ room self.old }
         ensures byte { result ≡ slice_index (face self.old).state.bytes place }
         ensures face { face self.new ≡ face_after_read (face self.old) place }
-        ensures room { room self.old ≤ room self.new + untouched_count (face self.old).marks (place ∷ []) };
+        ensures room { room self.old ≤ room self.new + untouched_count (face self.old).marks (place ∷ []) }
+        ensures total { KeepsTotal (room self.old) (face self.old) (room self.new) (face self.new) };
 
     /// Puts a byte at a place.
     fn put(&mut self, place: u32, byte: u8)
         requires place { place < length (face self.old).state.bytes }
         requires room { 1 ≤ room self.old }
         ensures face { face self.new ≡ face_after_put (face self.old) place byte }
-        ensures room { room self.old ≤ room self.new + untouched_count (face self.old).marks (place ∷ []) };
+        ensures room { room self.old ≤ room self.new + untouched_count (face self.old).marks (place ∷ []) }
+        ensures total { KeepsTotal (room self.old) (face self.old) (room self.new) (face self.new) };
 
     /// The word in the four bytes from a place on, the lowest byte first.
     fn get_word(&mut self, place: u32) -> u32
@@ -49,6 +52,7 @@ pub trait Bytes {
         ensures word { result ≡ word_at (face self.old).state.bytes place }
         ensures face { face self.new ≡ face_after_reads (face self.old) (places_from place 4) }
         ensures room { room self.old ≤ room self.new + untouched_count (face self.old).marks (places_from place 4) }
+        ensures total { KeepsTotal (room self.old) (face self.old) (room self.new) (face self.new) }
     {
         // Its shape bounds the places of a state, so that the sums below fit.
         let _ = self.shape();
@@ -66,6 +70,7 @@ pub trait Bytes {
         requires room { 4 ≤ room self.old }
         ensures face { face self.new ≡ face_after_puts (face self.old) (cells place (bytes_of 4 word)) }
         ensures room { room self.old ≤ room self.new + untouched_count (face self.old).marks (places_from place 4) }
+        ensures total { KeepsTotal (room self.old) (face self.old) (room self.new) (face self.new) }
     {
         // Its shape bounds the places of a state, so that the sums below fit.
         let _ = self.shape();

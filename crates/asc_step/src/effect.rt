@@ -147,7 +147,7 @@ fn modify(amo: Amo, address: u32, value: u32) -> Effect
 }
 
 /// The effect of an operation on its operands.
-#[inline]
+#[inline(always)]
 pub(crate) fn effect_of(op: Op, operands: Operands) -> Effect
     ensures { model_effect result ≡ effect op operands.pc operands.a operands.b operands.immediate }
 {

@@ -5,6 +5,7 @@ ghost use Rattle.asc_model.specs.Instruction.{op_of, rd_of, rs1_of, rs2_of, imm_
 ghost use Rattle.asc_model.specs.Places.{operand_places};
 ghost use Rattle.asc_model.specs.Step.{effect_of, outcome_of_word};
 ghost use Rattle.asc_isa.specs.Decode.{HasRegisters};
+ghost use Rattle.asc_shape.specs.Face.{KeepsTotal};
 ghost use Rattle.asc_step.specs.Execute.{AtInstruction, IsOfVersion, answer_of, face_after_outcome};
 
 use crate::Stepped;
@@ -65,6 +66,7 @@ pub(crate) fn execute<B: Bytes>(bytes: &mut B, pc: u32, instruction: Instr) -> S
         (operand_places s.shape (view_of s) (Some instruction))
         (outcome_of_word s.shape (view_of s) (Some instruction)) }
     ensures room { B.room bytes.old ≤ B.room bytes.new + 22 }
+    ensures total { KeepsTotal (B.room bytes.old) (B.face bytes.old) (B.room bytes.new) (B.face bytes.new) }
 {
     let Parts {
         op,

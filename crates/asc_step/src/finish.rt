@@ -3,7 +3,7 @@ ghost use Rattle.std.specs.Prelude.{◌≡◌, ◌+◌, ◌<◌, ◌≤◌, ℕ,
 ghost use Rattle.asc_model.specs.Machine.{Pc, Register};
 ghost use Rattle.asc_model.specs.Arithmetic.{◌+w◌};
 ghost use Rattle.asc_model.specs.Places.{places_from};
-ghost use Rattle.asc_shape.specs.Face.{untouched_count};
+ghost use Rattle.asc_shape.specs.Face.{KeepsTotal, untouched_count};
 ghost use Rattle.asc_model.specs.Effect.{Set, Load, Store, Jump, LoadReserved, StoreConditional, Modify};
 ghost use Rattle.asc_model.specs.declared.version.Version.TheVariants.{Two};
 ghost use Rattle.asc_model.specs.declared.fault.FaultKind.TheVariants.{AtomicMisaligned};
@@ -28,6 +28,7 @@ pub(crate) fn finish<B: Bytes>(bytes: &mut B, pc: u32, rd: u8, effect: Effect) -
     requires room { 14 ≤ B.room bytes.old }
     ensures finish { Finishes (B.face bytes.old) (B.face bytes.new) rd (model_effect effect) result }
     ensures room { B.room bytes.old ≤ B.room bytes.new + 14 }
+    ensures total { KeepsTotal (B.room bytes.old) (B.face bytes.old) (B.room bytes.new) (B.face bytes.new) }
 {
     match effect {
         Effect::Set(value) => set(bytes, pc, rd, value),
@@ -65,6 +66,7 @@ fn go_on<B: Bytes>(bytes: &mut B, pc: u32, rd: u8, value: u32)
     requires room { 4 ≤ B.room bytes.old }
     ensures face { Puts (B.face bytes.old) (B.face bytes.new) (Pc (pc +w 4) ∷ Register rd value ∷ []) }
     ensures room { B.room bytes.old ≤ B.room bytes.new + 4 }
+    ensures total { KeepsTotal (B.room bytes.old) (B.face bytes.old) (B.room bytes.new) (B.face bytes.new) }
 {
     set_pc(bytes, pc.wrapping_add(4));
     set_register(bytes, rd, value);
@@ -77,6 +79,7 @@ fn set<B: Bytes>(bytes: &mut B, pc: u32, rd: u8, value: u32) -> Stepped
     requires room { 14 ≤ B.room bytes.old }
     ensures finish { Finishes (B.face bytes.old) (B.face bytes.new) rd (Set value) result }
     ensures room { B.room bytes.old ≤ B.room bytes.new + 14 }
+    ensures total { KeepsTotal (B.room bytes.old) (B.face bytes.old) (B.room bytes.new) (B.face bytes.new) }
 {
     go_on(bytes, pc, rd, value);
     Stepped::Went
@@ -90,6 +93,7 @@ fn load<B: Bytes>(bytes: &mut B, pc: u32, rd: u8, size: Size, signed: bool, addr
     ensures finish { Finishes (B.face bytes.old) (B.face bytes.new) rd
         (Load (bytes_in size) signed address) result }
     ensures room { B.room bytes.old ≤ B.room bytes.new + 14 }
+    ensures total { KeepsTotal (B.room bytes.old) (B.face bytes.old) (B.room bytes.new) (B.face bytes.new) }
 {
     let shape = bytes.shape();
     if !shape.holds(address, size.bytes()) {
@@ -107,6 +111,7 @@ fn store<B: Bytes>(bytes: &mut B, pc: u32, size: Size, address: u32, value: u32)
     ensures finish { (rd : ℕ) → Finishes (B.face bytes.old) (B.face bytes.new) rd
         (Store (bytes_in size) address value) result }
     ensures room { B.room bytes.old ≤ B.room bytes.new + 14 }
+    ensures total { KeepsTotal (B.room bytes.old) (B.face bytes.old) (B.room bytes.new) (B.face bytes.new) }
 {
     let shape = bytes.shape();
     if !shape.holds(address, size.bytes()) {
@@ -124,6 +129,7 @@ fn jump<B: Bytes>(bytes: &mut B, pc: u32, rd: u8, target: u32) -> Stepped
     requires room { 14 ≤ B.room bytes.old }
     ensures finish { Finishes (B.face bytes.old) (B.face bytes.new) rd (Jump target) result }
     ensures room { B.room bytes.old ≤ B.room bytes.new + 14 }
+    ensures total { KeepsTotal (B.room bytes.old) (B.face bytes.old) (B.room bytes.new) (B.face bytes.new) }
 {
     if !is_aligned(target) {
         return fault(FaultKind::Misaligned, pc, target);
@@ -148,6 +154,7 @@ fn load_reserved<B: Bytes>(bytes: &mut B, pc: u32, rd: u8, address: u32) -> Step
     requires room { 14 ≤ B.room bytes.old }
     ensures finish { Finishes (B.face bytes.old) (B.face bytes.new) rd (LoadReserved address) result }
     ensures room { B.room bytes.old ≤ B.room bytes.new + 14 }
+    ensures total { KeepsTotal (B.room bytes.old) (B.face bytes.old) (B.room bytes.new) (B.face bytes.new) }
 {
     let shape = bytes.shape();
     if let Some(kind) = atomic_fault(shape, address, FaultKind::LoadOutside) {
@@ -168,6 +175,7 @@ fn store_conditional<B: Bytes>(bytes: &mut B, pc: u32, rd: u8, address: u32, val
     ensures finish { Finishes (B.face bytes.old) (B.face bytes.new) rd
         (StoreConditional address value) result }
     ensures room { B.room bytes.old ≤ B.room bytes.new + 14 }
+    ensures total { KeepsTotal (B.room bytes.old) (B.face bytes.old) (B.room bytes.new) (B.face bytes.new) }
 {
     let shape = bytes.shape();
     if let Some(kind) = atomic_fault(shape, address, FaultKind::StoreOutside) {
@@ -190,6 +198,7 @@ fn modify<B: Bytes>(bytes: &mut B, pc: u32, rd: u8, amo: Amo, address: u32, valu
     ensures finish { Finishes (B.face bytes.old) (B.face bytes.new) rd
         (Modify address (λ old. changed amo old value)) result }
     ensures room { B.room bytes.old ≤ B.room bytes.new + 14 }
+    ensures total { KeepsTotal (B.room bytes.old) (B.face bytes.old) (B.room bytes.new) (B.face bytes.new) }
 {
     let shape = bytes.shape();
     if let Some(kind) = atomic_fault(shape, address, FaultKind::StoreOutside) {

@@ -4,7 +4,7 @@ ghost use Rattle.asc_model.specs.Number.{bytes_of, number_at, word_at};
 ghost use Rattle.asc_model.specs.State.{IsState};
 ghost use Rattle.asc_model.specs.Machine.{register, is_reserved, view_of, reserve, release, Pc, Register};
 ghost use Rattle.asc_model.specs.Places.{places_from, register_places, reservation_places, cells};
-ghost use Rattle.asc_shape.specs.Face.{face_after_reads, face_after_puts, untouched_count};
+ghost use Rattle.asc_shape.specs.Face.{KeepsTotal, face_after_reads, face_after_puts, untouched_count};
 ghost use Rattle.asc_model.specs.declared.version.Version.TheVariants.{Two};
 ghost use Rattle.asc_step.specs.Effect.{bytes_in};
 ghost use Rattle.asc_step.specs.Execute.{Puts};
@@ -27,6 +27,7 @@ pub(crate) fn read_word<B: Bytes>(bytes: &mut B, place: u32) -> u32
     ensures state { (B.face bytes.new).state ≡ (B.face bytes.old).state }
     ensures face { B.face bytes.new ≡ face_after_reads (B.face bytes.old) (places_from place 4) }
     ensures room { B.room bytes.old ≤ B.room bytes.new + 4 }
+    ensures total { KeepsTotal (B.room bytes.old) (B.face bytes.old) (B.room bytes.new) (B.face bytes.new) }
 {
     bytes.get_word(place)
 }
@@ -42,6 +43,7 @@ pub(crate) fn read_number<B: Bytes>(bytes: &mut B, place: u32, size: Size) -> u3
     ensures face { B.face bytes.new ≡ face_after_reads (B.face bytes.old)
         (places_from place (bytes_in size)) }
     ensures room { B.room bytes.old ≤ B.room bytes.new + 4 }
+    ensures total { KeepsTotal (B.room bytes.old) (B.face bytes.old) (B.room bytes.new) (B.face bytes.new) }
 {
     match size {
         Size::Byte => u32::from(bytes.get(place)),
@@ -60,6 +62,7 @@ fn read_half<B: Bytes>(bytes: &mut B, place: u32) -> u32
     ensures state { (B.face bytes.new).state ≡ (B.face bytes.old).state }
     ensures face { B.face bytes.new ≡ face_after_reads (B.face bytes.old) (places_from place 2) }
     ensures room { B.room bytes.old ≤ B.room bytes.new + 4 }
+    ensures total { KeepsTotal (B.room bytes.old) (B.face bytes.old) (B.room bytes.new) (B.face bytes.new) }
 {
     // Its shape bounds the places of a state, so that the sum below fits.
     let _ = bytes.shape();
@@ -74,6 +77,7 @@ pub(crate) fn put_number<B: Bytes>(bytes: &mut B, place: u32, size: Size, value:
     ensures face { B.face bytes.new ≡ face_after_puts (B.face bytes.old)
         (cells place (bytes_of (bytes_in size) value)) }
     ensures room { B.room bytes.old ≤ B.room bytes.new + 4 }
+    ensures total { KeepsTotal (B.room bytes.old) (B.face bytes.old) (B.room bytes.new) (B.face bytes.new) }
 {
     match size {
         Size::Byte => bytes.put(place, (value & 0xFF) as u8),
@@ -89,6 +93,7 @@ fn put_half<B: Bytes>(bytes: &mut B, place: u32, value: u32)
     requires room { 4 ≤ B.room bytes.old }
     ensures face { B.face bytes.new ≡ face_after_puts (B.face bytes.old) (cells place (bytes_of 2 value)) }
     ensures room { B.room bytes.old ≤ B.room bytes.new + 4 }
+    ensures total { KeepsTotal (B.room bytes.old) (B.face bytes.old) (B.room bytes.new) (B.face bytes.new) }
 {
     // Its shape bounds the places of a state, so that the sum below fits.
     let _ = bytes.shape();
@@ -108,6 +113,7 @@ pub(crate) fn register<B: Bytes>(bytes: &mut B, k: u8) -> u32
     ensures state { (B.face bytes.new).state ≡ (B.face bytes.old).state }
     ensures face { B.face bytes.new ≡ face_after_reads (B.face bytes.old) (register_places k) }
     ensures room { B.room bytes.old ≤ B.room bytes.new + 4 }
+    ensures total { KeepsTotal (B.room bytes.old) (B.face bytes.old) (B.room bytes.new) (B.face bytes.new) }
 {
     if k == 0 {
         0
@@ -124,6 +130,7 @@ pub(crate) fn set_pc<B: Bytes>(bytes: &mut B, value: u32)
     ensures face { Puts (B.face bytes.old) (B.face bytes.new) (Pc value ∷ []) }
     ensures room { B.room bytes.old
         ≤ B.room bytes.new + untouched_count (B.face bytes.old).marks (places_from 0 4) }
+    ensures total { KeepsTotal (B.room bytes.old) (B.face bytes.old) (B.room bytes.new) (B.face bytes.new) }
 {
     bytes.put_word(0, value);
 }
@@ -137,6 +144,7 @@ pub(crate) fn set_register<B: Bytes>(bytes: &mut B, k: u8, value: u32)
     requires room { 4 ≤ B.room bytes.old }
     ensures face { Puts (B.face bytes.old) (B.face bytes.new) (Register k value ∷ []) }
     ensures room { B.room bytes.old ≤ B.room bytes.new + 4 }
+    ensures total { KeepsTotal (B.room bytes.old) (B.face bytes.old) (B.room bytes.new) (B.face bytes.new) }
 {
     if k != 0 {
         bytes.put_word(4 * u32::from(k), value);
@@ -153,6 +161,7 @@ pub(crate) fn is_reserved<B: Bytes>(bytes: &mut B, address: u32) -> bool
     ensures state { (B.face bytes.new).state ≡ (B.face bytes.old).state }
     ensures face { B.face bytes.new ≡ face_after_reads (B.face bytes.old) reservation_places }
     ensures room { B.room bytes.old ≤ B.room bytes.new + 5 }
+    ensures total { KeepsTotal (B.room bytes.old) (B.face bytes.old) (B.room bytes.new) (B.face bytes.new) }
 {
     let reserved = read_word(bytes, RESERVED);
     let valid = bytes.get(VALID);
@@ -166,6 +175,7 @@ pub(crate) fn reserve<B: Bytes>(bytes: &mut B, address: u32)
     requires room { 5 ≤ B.room bytes.old }
     ensures face { Puts (B.face bytes.old) (B.face bytes.new) (reserve address ∷ []) }
     ensures room { B.room bytes.old ≤ B.room bytes.new + 5 }
+    ensures total { KeepsTotal (B.room bytes.old) (B.face bytes.old) (B.room bytes.new) (B.face bytes.new) }
 {
     bytes.put_word(RESERVED, address);
     bytes.put(VALID, 1);
@@ -178,6 +188,7 @@ pub(crate) fn release<B: Bytes>(bytes: &mut B)
     requires room { 1 ≤ B.room bytes.old }
     ensures face { Puts (B.face bytes.old) (B.face bytes.new) (release ∷ []) }
     ensures room { B.room bytes.old ≤ B.room bytes.new + 1 }
+    ensures total { KeepsTotal (B.room bytes.old) (B.face bytes.old) (B.room bytes.new) (B.face bytes.new) }
 {
     bytes.put(VALID, 0);
 }

@@ -2,6 +2,7 @@
 ghost use Rattle.std.specs.Prelude.{◌≡◌, ◌+◌, ◌≤◌};
 ghost use Rattle.asc_model.specs.Step.{next};
 ghost use Rattle.asc_isa.specs.Decode.{version_of};
+ghost use Rattle.asc_shape.specs.Face.{KeepsTotal};
 ghost use Rattle.asc_step.specs.Step.{stepped_of, state_after_step, face_after, counted_steps};
 
 use crate::execute::execute;
@@ -27,6 +28,7 @@ pub fn try_step<B: Bytes>(bytes: &mut B) -> Stepped
 
     // Room for at most 32 places is used.
     ensures room { B.room bytes.old ≤ B.room bytes.new + 32 }
+    ensures total { KeepsTotal (B.room bytes.old) (B.face bytes.old) (B.room bytes.new) (B.face bytes.new) }
 {
     let shape = bytes.shape();
     let pc = read_word(bytes, 0);
@@ -53,6 +55,7 @@ pub fn step<B: Bytes, L: Ledger>(bytes: &mut B, steps: &mut Steps<L>) -> Stepped
 
     // Room for at most 32 places is used.
     ensures room { B.room bytes.old ≤ B.room bytes.new + 32 }
+    ensures total { KeepsTotal (B.room bytes.old) (B.face bytes.old) (B.room bytes.new) (B.face bytes.new) }
     ensures counter { steps.new ≡ steps.old + counted_steps result }
 {
     let stepped = try_step(bytes);

@@ -9,7 +9,7 @@ pub returns-in-Some : goal.returns-in-Some
 returns-in-Some g c =
     let pc = c.read_word-pc.ensures in
     let h = step_unfetched _ _ _ _ _ _ c.shape-shape.ensures.state c.shape-shape.ensures.shape pc.value c.in-Some.ensures c.fault.ensures pc.face in
-    record { answer = h.answer; state = h.state; places = h.places; room = omega (arith, pc.room) }
+    record { answer = h.answer; state = h.state; places = h.places; room = omega (arith, pc.room); total = pc.total }
 
 pub execute-requires-clause-at : goal.execute-requires-clause-at
 execute-requires-clause-at g c =
@@ -29,7 +29,7 @@ returns-in-Some-decode g c =
     let known = fetched _ _ _ _ _ _ _ _ _ c.shape-shape.ensures.state c.shape-shape.ensures.shape pc.value pc.face
     c.in_default.ensures c.place_of.ensures word.value word.face (c.has_atomics.ensures ∙ c.version.ensures) c.in-Some-decode.ensures.instruction in
     let h = step_fetched _ _ _ _ _ _ known _ _ c.execute.ensures.answer c.execute.ensures.face in
-    record { answer = h.answer; state = h.state; places = h.places; room = omega (arith, pc.room, word.room, c.execute.ensures.room) }
+    record { answer = h.answer; state = h.state; places = h.places; room = omega (arith, pc.room, word.room, c.execute.ensures.room); total = pc.total ∙ word.total ∙ c.execute.ensures.total }
 
 pub returns-in-None : goal.returns-in-None
 returns-in-None g c =
@@ -38,4 +38,4 @@ returns-in-None g c =
     let known = fetched _ _ _ _ _ _ _ _ _ c.shape-shape.ensures.state c.shape-shape.ensures.shape pc.value pc.face
     c.in_default.ensures c.place_of.ensures word.value word.face (c.has_atomics.ensures ∙ c.version.ensures) c.in-None.ensures.instruction in
     let h = step_illegal _ _ _ _ _ known _ c.fault-in-None.ensures in
-    record { answer = h.answer; state = h.state; places = h.places; room = omega (arith, pc.room, word.room) }
+    record { answer = h.answer; state = h.state; places = h.places; room = omega (arith, pc.room, word.room); total = pc.total ∙ word.total }

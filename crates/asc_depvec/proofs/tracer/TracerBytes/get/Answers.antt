@@ -1,7 +1,7 @@
 use Rattle.std.proofs.Common.{refl, ap, ◌∙◌}
 use Rattle.asc_shape.specs.Face.{is_untouched}
 use Rattle.asc_depvec.proofs.Marking.{touched-after_read}
-use Rattle.asc_depvec.proofs.Insides.{HasRoom-from, Touches-from, IsPlace-from, IsTracer-after_touch, face-read, room-touch}
+use Rattle.asc_depvec.proofs.Insides.{HasRoom-from, Touches-from, IsPlace-from, IsTracer-after_touch, face-read, room-touch, total-touch}
 use Rattle.asc_depvec.proofs.tracer.TracerBytes.get.Goals as goal
 
 pub get-byte-requires : goal.get-byte-requires
@@ -42,3 +42,11 @@ returns-clause-room c =
     let did = Touches-from t _ t.state c.args.place c.get-byte.result c.index-status.result.now c.after_read.result c.note.new.touched c.self.view_is c.shape.ensures.state
     c.self.invariant has c.requires.place refl c.index-status.ensures (ap is_untouched c.after_read.ensures ∙ touched-after_read _) c.note.ensures.touched c.note.ensures.capacity in
     room-touch t _ t.state c.args.place _ _ c.after_read.result c.note.new.touched c.self.view_is has did
+
+pub returns-clause-total : goal.returns-clause-total
+returns-clause-total c =
+    let t = c.self.inside in
+    let has = HasRoom-from t _ c.self.view_is c.requires.room in
+    let did = Touches-from t _ t.state c.args.place c.get-byte.result c.index-status.result.now c.after_read.result c.note.new.touched c.self.view_is c.shape.ensures.state
+    c.self.invariant has c.requires.place refl c.index-status.ensures (ap is_untouched c.after_read.ensures ∙ touched-after_read _) c.note.ensures.touched c.note.ensures.capacity in
+    total-touch t _ t.state c.args.place _ _ c.after_read.result c.note.new.touched c.self.view_is has did

@@ -2,7 +2,7 @@ use Rattle.std.proofs.Common.{ap, ◌∙◌}
 use Rattle.asc_model.specs.State.{State}
 use Rattle.asc_shape.specs.Face.{is_untouched}
 use Rattle.asc_depvec.proofs.Marking.{touched-after_write}
-use Rattle.asc_depvec.proofs.Insides.{HasRoom-from, Touches-from, IsPlace-from, IsTracer-after_touch, face-put, room-touch}
+use Rattle.asc_depvec.proofs.Insides.{HasRoom-from, Touches-from, IsPlace-from, IsTracer-after_touch, face-put, room-touch, total-touch}
 use Rattle.asc_depvec.proofs.tracer.TracerBytes.put.Goals as goal
 
 pub get-before-requires : goal.get-before-requires
@@ -48,3 +48,11 @@ returns-clause-room c =
     let did = Touches-from t _ c.set.new.self c.args.place c.get-before.result c.index-status.result.now c.after_write.result c.note.new.touched c.self.view_is c.shape.ensures.state
     c.self.invariant has c.requires.place (ap (λ (s : State). s.shape) c.set.ensures) c.index-status.ensures (ap is_untouched c.after_write.ensures ∙ touched-after_write _) c.note.ensures.touched c.note.ensures.capacity in
     room-touch t _ c.set.new.self c.args.place _ _ c.after_write.result c.note.new.touched c.self.view_is has did
+
+pub returns-clause-total : goal.returns-clause-total
+returns-clause-total c =
+    let t = c.self.inside in
+    let has = HasRoom-from t _ c.self.view_is c.requires.room in
+    let did = Touches-from t _ c.set.new.self c.args.place c.get-before.result c.index-status.result.now c.after_write.result c.note.new.touched c.self.view_is c.shape.ensures.state
+    c.self.invariant has c.requires.place (ap (λ (s : State). s.shape) c.set.ensures) c.index-status.ensures (ap is_untouched c.after_write.ensures ∙ touched-after_write _) c.note.ensures.touched c.note.ensures.capacity in
+    total-touch t _ c.set.new.self c.args.place _ _ c.after_write.result c.note.new.touched c.self.view_is has did

@@ -1,0 +1,246 @@
+#!/usr/bin/env python3
+"""Times plain and traced steps, and what a tracer's calls cost, outside the gate.
+
+    python3 bench/tracing.py [STEPS] [--count]
+
+A program over `asc_traj` is added to a copy of the crates under it in a temporary folder, proved and built there with
+`rt run`, and run. STEPS is how many guest steps a run does, 10,000,000 where it is not given. The loops are those of
+`loops.py` and one that touches more:
+
+    ring    a store and a load of each word of 8192 bytes in turn, with an index that wraps
+
+For each loop it prints the processor's time, the least of five runs: for a step of a `State`, for a step of a trace of
+all steps, and for `start` of a tracer of a state of 1 MiB.
+
+With --count it prints the processor's instructions, as `valgrind --tool=callgrind` counts them and independent of load,
+and STEPS is 200,000 where it is not given: for a step of a `State`, and of a trace; and with traces of 1000 steps how
+many places they touch, and what they cost more a touched place for the first touch with `reset`, and for `Entry::of`.
+"""
+
+import os
+import resource
+import shutil
+import subprocess
+import sys
+import tempfile
+from pathlib import Path
+
+# What is imported leaves no compiled file beside it.
+sys.dont_write_bytecode = True
+
+from loops import ROOT, addi, counted, loops, lui, lw, op, sw
+
+# ---------------------------------------------------------------------------------------------------------------------
+# The program
+
+NEEDED = "asc_model asc_shape asc_depvec asc_isa asc_step asc_traj"
+
+LINE = "asc_tracing: asc_traj asc_depvec asc_step asc_shape\n"
+
+MAIN = """\
+//! Plain and traced steps of loops. It is timed from outside.
+#![tactic(auto)]
+
+ghost use Rattle.std.specs.Prelude.{{◌≤◌}};
+
+use asc_depvec::Tracer;
+use asc_shape::{{Shape, State}};
+use asc_step::{{Stepped, try_step}};
+use asc_traj::{{Entry, Never, Stop, trace}};
+use std::alloc::Global;
+use std::env;
+use std::process::ExitCode;
+
+/// The words of the loops, which are put to 0x10000.
+static LOOPS: [&[u32]; {count}] = [
+{words}];
+
+/// The four numbers of the command line: which loop, what is done, how many rounds of it, and how many steps a round.
+/// It prints how many places a round touched last.
+fn main(rt: HostRuntime) -> ExitCode {{
+    let Some(given) = numbers(&rt) else {{
+        return ExitCode::FAILURE;
+    }};
+    let Some(touched) = measured(rt.alloc(), given[0], given[1], given[2], given[3]) else {{
+        return ExitCode::FAILURE;
+    }};
+    match println!(rt; "{{touched}}") {{
+        Ok(()) => ExitCode::SUCCESS,
+        Err(_) => ExitCode::FAILURE,
+    }}
+}}
+
+fn numbers(rt: &HostRuntime) -> Option<[u64; 4]> {{
+    let mut found = [0; 4];
+    let mut words = env::args(rt).ok()?;
+    let _ = words.next();
+    for number in &mut found {{
+        *number = words.next()?.parse().ok()?;
+    }}
+    Some(found)
+}}
+
+/// How many places the last round touched, where all went as it should.
+fn measured(alloc: Global, which: u64, what: u64, rounds: u64, span: u64) -> Option<usize> {{
+    let mut state = looping(alloc, which)?;
+    if span == 0 || !walk(&mut state, 20) {{
+        return None;
+    }}
+    if what != 0 {{
+        traces(alloc, &state, what, rounds, span)
+    }} else if walk(&mut state, span) {{
+        Some(0)
+    }} else {{
+        None
+    }}
+}}
+
+fn looping(alloc: Global, which: u64) -> Option<State> {{
+    let mut state = State::new(alloc, Shape::two(0x10000, 0x10_0000).ok()?).ok()?;
+    let mut at: u32 = 0x10000;
+    for word in *LOOPS.get(usize::try_from(which).ok()?)? {{
+        if !state.holds(at, 4) {{
+            return None;
+        }}
+        state.write(at, &word.to_le_bytes());
+        at = at.wrapping_add(4);
+    }}
+    state.set_pc(0x10000);
+    Some(state)
+}}
+
+fn walk(state: &mut State, most: u64) -> bool {{
+    for _ in 0..most {{
+        if try_step(state) != Stepped::Went {{
+            return false;
+        }}
+    }}
+    true
+}}
+
+/// Rounds of a trace and what follows it: 1 `reset`, 2 `start`, 3 `Entry::of` and `reset`. No pc is odd.
+fn traces(alloc: Global, state: &State, what: u64, rounds: u64, span: u64) -> Option<usize>
+    requires {{ 1 ≤ span }}
+{{
+    let mut tracer = Tracer::new(alloc, state.shape(), 65_536).ok()?;
+    tracer.start(state);
+    let stop = Stop {{
+        pc: 1,
+        laps: 1,
+        span,
+    }};
+    let mut touched = 0;
+    for _ in 0..rounds {{
+        let steps = trace(&mut tracer, &stop, &mut Never).steps;
+        if steps != span || what == 3 && Entry::of(alloc, &tracer, steps).is_err() {{
+            return None;
+        }}
+        touched = tracer.mark();
+        if what == 2 {{
+            tracer.start(state);
+        }} else {{
+            tracer.reset();
+        }}
+    }}
+    Some(touched)
+}}
+"""
+
+INVARIANTS = """\
+-- Nothing is touched, and the tracer's state has the shape that it was made with.
+use Rattle.std.proofs.Common.{◌≡◌, []}
+use Rattle.asc_tracing.proofs.traces.Given as goal
+
+abbrev pub invariant-loop : goal.invariant-loop
+invariant-loop l = record {
+  touched : l.tracer.touched ≡ [];
+  own : l.tracer.state.shape ≡ l.tracer.shape;
+  same : l.tracer.shape ≡ l.fn.state.shape;
+}
+"""
+
+
+def program():
+    """The words of the four loops, and the text of the program with them."""
+    ring = [addi(10, 10, 4), op(0, 7, 10, 10, 9), op(0, 0, 7, 8, 10), sw(5, 7, 0), lw(6, 7, 0)]
+    named = loops(10 << 29)
+    named["ring"] = counted(1 << 30, [lui(8, 0x20), lui(9, 2), addi(9, 9, -4)], ring)
+    words = ""
+    for name, loop in named.items():
+        words += "    &[" + ", ".join(f"0x{word:08X}" for word in loop) + f"], // {name}\n"
+    return list(named), MAIN.format(count=len(named), words=words)
+
+def build(folder):
+    """Builds the program in a copy of the crates that it stands on, and answers its path and the loops' names."""
+    lines = (ROOT / "crates.txt").read_text().splitlines(True)
+    needed = [line for line in lines if line.split(":")[0] in NEEDED.split()]
+    Path(folder, "crates.txt").write_text("".join(needed) + LINE)
+    shutil.copy(ROOT / "HANDLES", folder)
+    for crate in NEEDED.split():
+        shutil.copytree(ROOT / "crates" / crate, Path(folder, "crates", crate))
+    crate = Path(folder, "crates", "asc_tracing")
+    names, text = program()
+    for path, content in [("src/main.rt", text), ("proofs/traces/Invariants.antt", INVARIANTS)]:
+        (crate / path).parent.mkdir(parents=True)
+        (crate / path).write_text(content)
+    command = ["rt", "run", "--", "0", "0", "1", "1"]
+    done = subprocess.run(command, cwd=crate, stdout=subprocess.PIPE, stderr=subprocess.STDOUT, text=True)
+    if done.returncode != 0:
+        sys.exit(done.stdout)
+    return crate / "out/asc_tracing", names
+
+# ---------------------------------------------------------------------------------------------------------------------
+# Measuring
+
+PLAIN, RESET, START, ENTRY = range(4)
+SPAN = 1000
+
+def seconds(command):
+    """The processor's seconds of a run, the least of five, and what it printed."""
+    least = None
+    for _ in range(5):
+        before = resource.getrusage(resource.RUSAGE_CHILDREN).ru_utime
+        done = subprocess.run(command, capture_output=True, text=True, check=True)
+        taken = resource.getrusage(resource.RUSAGE_CHILDREN).ru_utime - before
+        least = taken if least is None else min(least, taken)
+    return least, done.stdout
+
+def instructions(command):
+    """The processor's instructions of a run, and what it printed."""
+    tool = ["valgrind", "--tool=callgrind", f"--callgrind-out-file={os.devnull}"]
+    done = subprocess.run(tool + command, capture_output=True, text=True, check=True)
+    shown = next(line for line in done.stderr.splitlines() if "Collected" in line)
+    return int(shown.split(":")[1]), done.stdout
+
+def measure(path, names, cost, steps):
+    """For each loop what runs cost beyond their beginning, as a call of what, rounds and span."""
+    for loop, name in enumerate(names):
+        def taken(what, rounds, span):
+            words = lambda *numbers: [str(path), *map(str, numbers)]
+            all_of_it, shown = cost(words(loop, what, rounds, span))
+            return all_of_it - cost(words(loop, what, 1, 1))[0], int(shown)
+        yield name, taken(PLAIN, 1, steps)[0], taken(RESET, 1, steps)[0], taken
+
+def main():
+    given = [word for word in sys.argv[1:] if word != "--count"]
+    count = "--count" in sys.argv[1:]
+    steps = int(given[0]) if given else 200_000 if count else 10_000_000
+    rounds = steps // SPAN
+    with tempfile.TemporaryDirectory() as folder:
+        path, names = build(folder)
+        if count:
+            print("          plain  traced   ratio  places  first and reset  Entry::of")
+            for name, plain, traced, taken in measure(path, names, instructions, steps):
+                reset, places = taken(RESET, rounds, SPAN)
+                entry = taken(ENTRY, rounds, SPAN)[0]
+                print(f"{name:8}{plain / steps:7.1f}{traced / steps:8.1f}{traced / plain:8.2f}{places:8}"
+                      f"{(reset - traced) / rounds / places:17.1f}{(entry - reset) / rounds / places:11.1f}")
+        else:
+            print("        plain ns traced ns   ratio  start us")
+            for name, plain, traced, taken in measure(path, names, seconds, steps):
+                start = taken(START, 10_000, 10)[0]
+                print(f"{name:8}{plain / steps * 1e9:8.1f}{traced / steps * 1e9:10.1f}{traced / plain:8.2f}"
+                      f"{start / 10_000 * 1e6:10.1f}")
+
+if __name__ == "__main__":
+    main()

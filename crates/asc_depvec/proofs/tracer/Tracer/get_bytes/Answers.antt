@@ -1,0 +1,49 @@
+use Rattle.std.proofs.Common.{◌+◌, [], ◌∷◌, arith, ◌∙◌}
+use Rattle.asc_shape.proofs.Faces.{length-read, slice_index-read, word_at-reads, face_after_reads-span_4, room-span_4, untouched_count_after_read, untouched_count-le-length}
+use Rattle.asc_depvec.specs.Tracer.{face_of}
+use Rattle.asc_depvec.proofs.tracer.Tracer.get_bytes.Goals as goal
+
+pub get-requires-2-clause-place : goal.get-requires-2-clause-place
+get-requires-2-clause-place c = omega (arith, length-read _ _ _ c.get.ensures.face)
+
+pub get-requires-2-clause-room : goal.get-requires-2-clause-room
+get-requires-2-clause-room c = omega (arith, untouched_count-le-length (face_of c.args.self.now).marks (c.args.place ∷ []))
+
+pub get-requires-3-clause-place : goal.get-requires-3-clause-place
+get-requires-3-clause-place c = omega (arith, length-read _ _ _ c.get.ensures.face, length-read _ _ _ c.get-2.ensures.face)
+
+pub get-requires-3-clause-room : goal.get-requires-3-clause-room
+get-requires-3-clause-room c =
+    let one = untouched_count-le-length (face_of c.args.self.now).marks (c.args.place ∷ []) in
+    let two = untouched_count-le-length (face_of c.get.new.self).marks ((c.args.place + 1) ∷ []) in
+    omega arith
+
+pub get-requires-4-clause-place : goal.get-requires-4-clause-place
+get-requires-4-clause-place c =
+    omega (arith, length-read _ _ _ c.get.ensures.face, length-read _ _ _ c.get-2.ensures.face, length-read _ _ _ c.get-3.ensures.face)
+
+pub get-requires-4-clause-room : goal.get-requires-4-clause-room
+get-requires-4-clause-room c =
+    let one = untouched_count-le-length (face_of c.args.self.now).marks (c.args.place ∷ []) in
+    let two = untouched_count-le-length (face_of c.get.new.self).marks ((c.args.place + 1) ∷ []) in
+    let three = untouched_count-le-length (face_of c.get-2.new.self).marks ((c.args.place + 2) ∷ []) in
+    omega arith
+
+pub returns-clause-word : goal.returns-clause-word
+returns-clause-word c =
+    let k = c.args.place in
+    let second = slice_index-read _ _ _ (k + 1) c.get.ensures.face in
+    let third = slice_index-read _ _ _ (k + 2) c.get-2.ensures.face ∙ slice_index-read _ _ _ (k + 2) c.get.ensures.face in
+    let fourth = slice_index-read _ _ _ (k + 3) c.get-3.ensures.face ∙ slice_index-read _ _ _ (k + 3) c.get-2.ensures.face ∙ slice_index-read _ _ _ (k + 3) c.get.ensures.face in
+    c.from_le_bytes.ensures
+    ∙ word_at-reads _ k _ _ _ _ c.get.ensures.byte (c.get-2.ensures.byte ∙ second) (c.get-3.ensures.byte ∙ third) (c.get-4.ensures.byte ∙ fourth)
+
+pub returns-clause-face : goal.returns-clause-face
+returns-clause-face c =
+    face_after_reads-span_4 _ _ _ _ _ c.args.place c.get.ensures.face c.get-2.ensures.face c.get-3.ensures.face c.get-4.ensures.face
+
+pub returns-clause-room : goal.returns-clause-room
+returns-clause-room c =
+    room-span_4 _ _ _ _ c.args.place _ _ _ _ _
+    (untouched_count_after_read _ _ _ c.get.ensures.face) (untouched_count_after_read _ _ _ c.get-2.ensures.face) (untouched_count_after_read _ _ _ c.get-3.ensures.face)
+    c.get.ensures.room c.get-2.ensures.room c.get-3.ensures.room c.get-4.ensures.room

@@ -1,0 +1,84 @@
+-- One attempt at a step of a tracer.
+use Rattle.std.proofs.Common.{◌≡◌, ℕ, ◌≤◌, true, List, [], length, take, Option, Some, None, IsSome, refl, ap, ◌∙◌, arith}
+use Rattle.std.proofs.lemmas.List.{length-take}
+use Rattle.std.specs.Option.{is_some}
+use Rattle.asc_model.specs.declared.status.Status.{Status}
+use Rattle.asc_model.specs.declared.why.Why.{Why}
+use Rattle.asc_model.specs.State.{State, IsState}
+use Rattle.asc_model.specs.Step.{Next, At, Call, Bad, next}
+use Rattle.asc_model.specs.Places.{places_read, writes}
+use Rattle.asc_model.specs.Reach.{why_no_step}
+use Rattle.asc_model.proofs.LawsHold.{step_writes_bytes, steps_keep_states}
+use Rattle.asc_shape.specs.Face.{Face, Marks, Untold, Told, KeepsTotal, face_after_reads, face_after_puts}
+use Rattle.asc_step.specs.Step.{face_after, state_after_step, stepped_of}
+use Rattle.asc_depvec.specs.Tracer.{Tracing, IsTracing, face_of, room_of, undone, touched_of}
+use Rattle.asc_depvec.proofs.Limits.{limits_stay}
+use Rattle.asc_depvec.proofs.UndoneReads.{reads_are_undone}
+use Rattle.asc_traj.specs.Inside.{why_of}
+
+abbrev statuses_of : Marks → List Status
+statuses_of Untold = []
+statuses_of (Told statuses touched) = statuses
+
+-- a tracer is known from its shape, its cap and its face
+pub same_tracing : (a b : Tracing) → a.shape ≡ b.shape → a.cap ≡ b.cap → face_of a ≡ face_of b → a ≡ b
+same_tracing a b shape cap face =
+    let statuses : a.statuses ≡ b.statuses = ap (λ (f : Face). statuses_of f.marks) face in
+    let touched : a.touched ≡ b.touched = ap (λ (f : Face). touched_of f.marks) face in
+    ap (λ x. record a { shape = x }) shape
+    ∙ ap (λ x. record a { shape = b.shape; cap = x }) cap
+    ∙ ap (λ (f : Face). record a { shape = b.shape; cap = b.cap; state = f.state }) face
+    ∙ ap (λ x. record a { shape = b.shape; cap = b.cap; state = b.state; statuses = x }) statuses
+    ∙ ap (λ x. record b { touched = x }) touched
+
+-- a step leaves a state of the same shape
+pub shape-step : (s : State) → IsState s → (state_after_step (next s) s).shape ≡ s.shape
+shape-step s good = by_next (next s) refl
+  where
+    by_next : (n : Next) → next s ≡ n → (state_after_step n s).shape ≡ s.shape
+    by_next (At after) e = (steps_keep_states s after good e).1
+    by_next Call e = refl
+    by_next (Bad fault) e = refl
+
+-- an attempt keeps shape and cap
+pub limits-step : (t later : Tracing) → IsState t.state → IsTracing t → IsTracing later → 32 ≤ room_of t → later.state ≡ state_after_step (next t.state) t.state
+    → KeepsTotal (room_of t) (face_of t) (room_of later) (face_of later) → (later.shape ≡ t.shape) × (later.cap ≡ t.cap)
+limits-step t later good is_t is_later room state total =
+    limits_stay t later is_t is_later (omega (arith, room)) (ap (λ (s : State). s.shape) state ∙ shape-step t.state good) total
+
+no_puts : (f : Face) (cells : List (ℕ × ℕ)) → cells ≡ [] → face_after_puts f cells ≡ f
+unfolding face_after_puts
+no_puts f cells e = ap (face_after_puts f) e
+
+-- an attempt that ends writes nothing
+no_writes : (s : State) → IsState s → IsSome (why_no_step (next s)) → writes s ≡ []
+no_writes s good ends = by_next (next s) refl ends
+  where
+    by_next : (n : Next) → next s ≡ n → IsSome (why_no_step n) → writes s ≡ []
+    by_next (At after) e ends = absurd (cc)
+    by_next Call e ends = (step_writes_bytes s good).calls e
+    by_next (Bad fault) e ends = (step_writes_bytes s good).fails fault e
+
+-- and its reads are taken back
+pub back-face : (t later : Tracing) → IsState t.state → IsSome (why_no_step (next t.state)) → face_of later ≡ face_after (face_of t)
+    → face_of (undone later (length t.touched)) ≡ face_of t
+back-face t later good ends face =
+    reads_are_undone t later (places_read t.state) (face ∙ no_puts (face_after_reads (face_of t) (places_read t.state)) (writes t.state) (no_writes t.state good ends))
+
+-- no fewer places are touched after it
+pub back-mark : (t later : Tracing) → IsState t.state → IsSome (why_no_step (next t.state)) → face_of later ≡ face_after (face_of t) → length t.touched ≤ length later.touched
+back-mark t later good ends face =
+    let back : take (length t.touched) later.touched ≡ t.touched = ap (λ (f : Face). touched_of f.marks) (back-face t later good ends face) in
+    let size : length (take (length t.touched) later.touched) ≡ length t.touched = ap (λ (list : List (ℕ × ℕ)). length list) back in
+    omega (arith, size, length-take (length t.touched) later.touched)
+
+-- what an answer says of the next step
+pub why_of-stepped : (n : Next) → why_of (stepped_of n) ≡ why_no_step n
+why_of-stepped (At after) = refl
+why_of-stepped Call = refl
+why_of-stepped (Bad fault) = refl
+
+-- what is told to be there is there
+pub some_by : (a b : Option Why) → a ≡ b → is_some a ≡ true → IsSome b
+some_by a None e h = absurd (cc)
+some_by a (Some why) e h = refl

@@ -1,0 +1,267 @@
+-- A trace on its way, turn by turn.
+use Rattle.std.proofs.Common.{◌≡◌, ℕ, zero, suc, ◌+◌, ◌-◌, ◌≤◌, Bool, true, false, ◌==◌, cond, List, [], length, nat_lt, Option, Some, None, if◌then◌else◌, refl, sym, ap, subst, ◌∙◌, inl, inr, arith, add-zero}
+use Rattle.std.specs.Prelude.{count_by}
+use Rattle.std.specs.List.{range_with_len}
+use Rattle.std.specs.Option.{option_or}
+use Rattle.std.proofs.lemmas.Bool.{cases_lt, ltb-true, lt-ltb, cases_Bool, eq-eqb, ne_eqb, false≢true}
+use Rattle.std.proofs.lemmas.List.Sums.{sum_by-cons}
+use Rattle.asc_model.specs.declared.why.Why.{Why}
+use Rattle.asc_model.specs.declared.why.Why.TheVariants as whys
+use Rattle.asc_model.specs.Shape.{length_of}
+use Rattle.asc_model.specs.State.{State, IsState}
+use Rattle.asc_model.specs.Machine.{view_of}
+use Rattle.asc_model.specs.Step.{Next, At, Call, Bad, next}
+use Rattle.asc_model.specs.Places.{places_read, writes, bytes_after}
+use Rattle.asc_model.specs.Plain.{plain}
+use Rattle.asc_model.specs.Reach.{Bounds, leads_to, laps_in, touched_in, bound_met, why_no_step, why_after, GoesOn, IsReach}
+use Rattle.asc_model.proofs.LawsHold.{step_writes_bytes}
+use Rattle.asc_model.proofs.PlainSteps.{plain-zero, plain_steps_join, plain_steps_keep_states, plain-suc_next}
+use Rattle.asc_model.proofs.Touches.{state-TouchesPlaces}
+use Rattle.asc_shape.specs.Face.{Face, Told, FitPlaces, status_at, is_untouched, face_after_reads}
+use Rattle.asc_shape.proofs.Faces.{state-reads, state-puts}
+use Rattle.asc_step.specs.Step.{face_after}
+use Rattle.asc_depvec.specs.Tracer.{Tracing, IsTracing, face_of, room_of, is_same_shape, start_of_face}
+use Rattle.asc_depvec.specs.Laws.{HasStatusesOf}
+use Rattle.asc_depvec.proofs.Dependencies.{no_statuses, statuses_follow}
+use Rattle.asc_depvec.proofs.Insides.{is_same_shape-same}
+use Rattle.asc_depvec.proofs.Marking.{untouched_is}
+use Rattle.asc_depvec.proofs.Starts.{starts_stay}
+use Rattle.asc_traj.specs.Trace.{LosesPatience, StandsFor, MayStop, origin_of}
+use Rattle.asc_traj.proofs.Places.{length-touched}
+
+-- After n steps of a start, of which so many were laps, a tracer is on its way: it stands where they lead, with their
+-- statuses, and nothing ended the trace before.
+pub record IsOnWay (bounds : Bounds) (start : State) (n laps : ℕ) (t : Tracing) : Type 0 where
+  pub good : IsState start
+  pub began : origin_of t ≡ start
+  pub goes : plain n start ≡ At t.state
+  pub statuses : HasStatusesOf n start t
+  pub own : t.shape ≡ start.shape
+  pub cap : t.cap ≡ bounds.cap
+  pub counted : laps ≡ laps_in bounds.pc n start
+  pub least : GoesOn bounds start n
+  pub most : laps ≤ n
+  pub span : n ≤ bounds.span
+
+-- a tracer of which nothing is touched has done no step
+pub begins : (bounds : Bounds) (t : Tracing) → t.touched ≡ [] → t.state.shape ≡ t.shape → t.cap ≡ bounds.cap → IsState t.state
+    → FitPlaces (length t.state.bytes) (Told t.statuses t.touched) → IsOnWay bounds t.state 0 0 t
+begins bounds t none own same_cap good fits =
+    let start : origin_of t ≡ t.state = ap (λ (list : List (ℕ × ℕ)). record t.state { bytes = bytes_after t.state.bytes list }) none in
+    record {
+      good = good;
+      began = start;
+      goes = plain-zero t.state;
+      statuses = λ place within.
+          let unlisted : count_by (λ noted. noted.0 == place) t.touched ≡ 0 = ap (count_by (λ (noted : ℕ × ℕ). noted.0 == place)) none in
+          untouched_is (status_at t.statuses place) (untouched_by (is_untouched (status_at t.statuses place)) (sym unlisted ∙ fits.1 place))
+          ∙ sym (no_statuses t.state place);
+      own = sym own;
+      cap = same_cap;
+      counted = refl;
+      least = λ k now lt. absurd (omega arith);
+      most = omega arith;
+      span = omega arith;
+    }
+  where
+    untouched_by : (b : Bool) → ◌≡◌ {A = ℕ} 0 (if b then 0 else 1) → b ≡ true
+    untouched_by true e = refl
+    untouched_by false e = absurd (cc)
+
+-- the state of a tracer on its way has the shape and the number of bytes of its start
+pub shape-on_way : (bounds : Bounds) (start : State) (n laps : ℕ) (t : Tracing) → IsOnWay bounds start n laps t → t.state.shape ≡ start.shape
+shape-on_way bounds start n laps t on = (plain_steps_keep_states n start t.state on.good on.goes).1
+
+-- ---- the bounds
+
+room_left : (cap n : ℕ) → n ≤ cap → nat_lt (cap - n) 32 ≡ nat_lt cap (n + 32)
+room_left cap n h = elim (cases_lt cap (n + 32)) [
+  | inl few ↦ lt-ltb (cap - n) 32 (omega arith) ∙ sym (lt-ltb cap (n + 32) few)
+  | inr many ↦ not_lt (cap - n) 32 (omega arith) ∙ sym (not_lt cap (n + 32) many)
+]
+  where
+    not_lt : (a b : ℕ) → b ≤ a → nat_lt a b ≡ false
+    not_lt a b le = elim (cases_Bool (nat_lt a b)) [
+      | inl e ↦ let lt = ltb-true a b e in absurd (omega arith)
+      | inr e ↦ e
+    ]
+
+-- what is left of a tracer's places is what its steps leave
+pub few_left : (bounds : Bounds) (start : State) (n laps : ℕ) (t : Tracing) → IsOnWay bounds start n laps t → IsTracing t
+    → FitPlaces (length t.state.bytes) (Told t.statuses t.touched) → nat_lt (room_of t) 32 ≡ nat_lt bounds.cap (touched_in n start + 32)
+few_left bounds start n laps t on is fits =
+    let kept = plain_steps_keep_states n start t.state on.good on.goes in
+    let size : length start.bytes ≡ length t.state.bytes = on.good.length ∙ ap length_of (sym kept.1) ∙ sym kept.0.length in
+    let same : is_same_shape t.state.shape t.shape ≡ true = is_same_shape-same t.state.shape t.shape (kept.1 ∙ sym on.own) in
+    let left : room_of t ≡ bounds.cap - length t.touched = ap (λ (b : Bool). if b then t.cap - length t.touched else 0) same ∙ ap (λ c. c - length t.touched) on.cap in
+    ap (λ r. nat_lt r 32) left
+    ∙ room_left bounds.cap (length t.touched) (subst (λ c. length t.touched ≤ c) on.cap is.room)
+    ∙ ap (λ m. nat_lt bounds.cap (m + 32)) (length-touched n start t fits on.statuses size)
+
+-- the test of bounds, by numbers of a tracer
+abbrev pub met : Bounds → (n laps : ℕ) → Tracing → Option Why
+met bounds n laps t = if laps == bounds.laps then Some whys.Lap
+    else (if n == bounds.span then Some whys.Span
+    else (if nat_lt (room_of t) 32 then Some whys.Room else None))
+
+pub met-bound : (bounds : Bounds) (start : State) (n laps : ℕ) (t : Tracing) → IsOnWay bounds start n laps t → IsTracing t
+    → FitPlaces (length t.state.bytes) (Told t.statuses t.touched) → met bounds n laps t ≡ bound_met bounds n start
+met-bound bounds start n laps t on is fits =
+    ap (λ l. if l == bounds.laps then Some whys.Lap else (if n == bounds.span then Some whys.Span else (if nat_lt (room_of t) 32 then Some whys.Room else None))) on.counted
+    ∙ ap (λ (b : Bool). if laps_in bounds.pc n start == bounds.laps then Some whys.Lap else (if n == bounds.span then Some whys.Span else (if b then Some whys.Room else None)))
+    (few_left bounds start n laps t on is fits)
+
+-- ---- ends
+
+-- a tracer on its way stands for its steps
+pub stands : (bounds : Bounds) (start : State) (n laps : ℕ) (t : Tracing) → IsOnWay bounds start n laps t
+    → FitPlaces (length t.state.bytes) (Told t.statuses t.touched) → StandsFor n t
+stands bounds start n laps t on fits = record {
+  goes = ap (plain n) on.began ∙ on.goes;
+  statuses = subst (λ s. HasStatusesOf n s t) (sym on.began) on.statuses;
+  touched = fits;
+}
+
+-- it ends where a bound is met
+pub ends-bound : (bounds : Bounds) (start : State) (n laps : ℕ) (t : Tracing) (why : Why) → IsOnWay bounds start n laps t → bound_met bounds n start ≡ Some why → IsReach bounds start n why
+ends-bound bounds start n laps t why on e = record {
+  now = t.state;
+  goes = on.goes;
+  ends = ap (λ o. option_or o (why_no_step (next t.state))) e;
+  least = on.least;
+}
+
+-- and where there is no next step
+pub ends-step : (bounds : Bounds) (start : State) (n laps : ℕ) (t : Tracing) (why : Why) → IsOnWay bounds start n laps t → bound_met bounds n start ≡ None
+    → why_no_step (next t.state) ≡ Some why → IsReach bounds start n why
+ends-step bounds start n laps t why on e ends = record {
+  now = t.state;
+  goes = on.goes;
+  ends = ap (λ o. option_or o (why_no_step (next t.state))) e ∙ ends;
+  least = on.least;
+}
+
+pub ends-stopped : (bounds : Bounds) (start : State) (n laps : ℕ) (t : Tracing) → IsOnWay bounds start n laps t → bound_met bounds n start ≡ None → MayStop bounds start n
+ends-stopped bounds start n laps t on e = record { least = on.least; unmet = e }
+
+-- ---- one step more
+
+-- where no bound is met the span isn't
+unspanned : (a b c : Bool) → (if a then Some whys.Lap else (if b then Some whys.Span else (if c then Some whys.Room else None))) ≡ None → b ≡ false
+unspanned true b c e = absurd (cc)
+unspanned false true c e = absurd (cc)
+unspanned false false c e = refl
+
+span-more : (n span : ℕ) → n ≤ span → (n == span) ≡ false → suc n ≤ span
+span-more n span h e = elim (cases_lt n span) [
+  | inl lt ↦ omega arith
+  | inr ge ↦ let same : n ≡ span = omega arith in absurd (false≢true (sym e ∙ eq-eqb n span same))
+]
+
+-- laps by the last of some steps
+count-last : (p : ℕ → Bool) (a n : ℕ) → count_by p (range_with_len a (suc n)) ≡ count_by p (range_with_len a n) + cond (p (a + n)) 1 0
+count-last p a zero =
+    let one = sum_by-cons (λ k. cond (p k) 1 0) a [] in
+    let at : cond {A = ℕ} (p (a + 0)) 1 0 ≡ cond (p a) 1 0 = ap (λ k. cond {A = ℕ} (p k) 1 0) (add-zero a) in
+    omega (arith, one, at)
+count-last p a (suc n) =
+    let first = sum_by-cons (λ k. cond (p k) 1 0) a (range_with_len (a + 1) (suc n)) in
+    let rest = count-last p (a + 1) n in
+    let front = sum_by-cons (λ k. cond (p k) 1 0) a (range_with_len (a + 1) n) in
+    let at : p (a + 1 + n) ≡ p (a + suc n) = ap p (omega arith) in
+    let last = ap (λ (b : Bool). cond {A = ℕ} b 1 0) at in
+    omega (arith, first, rest, front, last)
+
+pub laps-last : (pc n : ℕ) (start after : State) → plain (suc n) start ≡ At after → laps_in pc (suc n) start ≡ laps_in pc n start + cond ((view_of after).pc == pc) 1 0
+laps-last pc n start after e =
+    count-last (λ k. leads_to pc (plain k start)) 1 n
+    ∙ ap (λ k. laps_in pc n start + cond (leads_to pc (plain k start)) 1 0) (omega arith)
+    ∙ ap (λ x. laps_in pc n start + cond (leads_to pc x) 1 0) e
+
+-- a step that leads to the pc is one lap more, and one that leads elsewhere is none
+pub lap-yes : (a b laps : ℕ) → a ≡ b → laps + 1 ≡ laps + cond (a == b) 1 0
+lap-yes a b laps e = ap (λ x. laps + cond x 1 0) (sym (eq-eqb a b e))
+
+pub lap-no : (a b laps : ℕ) → (a ≡ b → ⊥) → laps ≡ laps + cond (a == b) 1 0
+lap-no a b laps e = sym (add-zero laps) ∙ ap (λ x. laps + cond x 1 0) (sym (ne_eqb a b e))
+
+-- where a step is not ended it leads to a state
+goes_by : (x : Next) → why_no_step x ≡ None → (after : State) × (x ≡ At after)
+goes_by (At after) e = (after, refl)
+goes_by Call e = absurd (cc)
+goes_by (Bad fault) e = absurd (cc)
+
+-- the state of a face after a step
+state-after : (f : Face) (after : State) → IsState f.state → next f.state ≡ At after → (face_after f).state ≡ after
+state-after f after good e =
+    state-puts (face_after_reads f (places_read f.state)) (writes f.state)
+    ∙ ap (λ (s : State). record s { bytes = bytes_after s.bytes (writes f.state) }) (state-reads f (places_read f.state))
+    ∙ sym ((step_writes_bytes f.state good).goes after e)
+
+-- nothing ended the trace before one step more
+least-more : (bounds : Bounds) (start : State) (n : ℕ) (t : State) → plain n start ≡ At t → GoesOn bounds start n → bound_met bounds n start ≡ None → why_no_step (next t) ≡ None → GoesOn bounds start (suc n)
+least-more bounds start n t goes least bound step k now lt at = elim (cases_lt k n) [
+  | inl before ↦ least k now before at
+  | inr past ↦
+      let same : k ≡ n = omega arith in
+      let here : At now ≡ At t = sym at ∙ ap (λ j. plain j start) same ∙ goes in
+      let state : now ≡ t = cc in
+      ap (λ j. why_after bounds j start now) same ∙ ap (λ s. why_after bounds n start s) state
+      ∙ ap (λ o. option_or o (why_no_step (next t))) bound ∙ step
+]
+
+-- the next turn: a step was taken, and it was a lap or not
+pub goes_on : (bounds : Bounds) (start : State) (n laps : ℕ) (t later : Tracing) → IsOnWay bounds start n laps t
+    → IsState t.state → FitPlaces (length t.state.bytes) (Told t.statuses t.touched)
+    → bound_met bounds n start ≡ None → why_no_step (next t.state) ≡ None
+    → face_of later ≡ face_after (face_of t) → later.shape ≡ t.shape → later.cap ≡ t.cap
+    → (more : ℕ) → more ≡ laps + cond ((view_of later.state).pc == bounds.pc) 1 0 → IsOnWay bounds start (n + 1) more later
+goes_on bounds start n laps t later on good fits bound step face shape same_cap more is =
+    let one_more : suc n ≡ n + 1 = omega arith in
+    let went = goes_by (next t.state) step in
+    let after = went.0 in
+    let places = state-TouchesPlaces t.state good in
+    let at : later.state ≡ after = ap (λ (f : Face). f.state) face ∙ state-after (face_of t) after good went.1 in
+    let goes : plain (suc n) start ≡ At later.state =
+    ap (λ k. plain k start) one_more ∙ plain_steps_join n 1 start t.state on.goes ∙ plain-suc_next 0 t.state (At after) went.1 ∙ plain-zero after ∙ ap At (sym at) in
+    let lap = ap (λ l. l + cond ((view_of later.state).pc == bounds.pc) 1 0) on.counted in
+    let bound_lap = cond_most ((view_of later.state).pc == bounds.pc) in
+    subst (λ k. IsOnWay bounds start k more later) one_more (record {
+      good = on.good;
+      began = ap start_of_face face ∙ starts_stay t (places_read t.state) (writes t.state) fits places.read places.written ∙ on.began;
+      goes = goes;
+      statuses = statuses_follow n start after t later on.goes went.1 fits on.statuses face;
+      own = shape ∙ on.own;
+      cap = same_cap ∙ on.cap;
+      counted = is ∙ lap ∙ sym (laps-last bounds.pc n start later.state goes);
+      least = least-more bounds start n t.state on.goes on.least bound step;
+      most = omega (arith, is, bound_lap, on.most);
+      span = span-more n bounds.span on.span (unspanned (laps_in bounds.pc n start == bounds.laps) (n == bounds.span) _ bound);
+    })
+  where
+    cond_most : (b : Bool) → cond b 1 0 ≤ 1
+    cond_most true = omega arith
+    cond_most false = omega arith
+
+-- ---- patience
+
+-- of n answers that may be no, so many were, and the others are left
+pub record HasLeft (patience : Option ℕ) (steps n : ℕ) : Type 0 where
+  pub left : ℕ
+  pub told : patience ≡ Some left
+  pub sum : steps + left ≡ n
+
+pub left-first : (patience : Option ℕ) (n : ℕ) → patience ≡ Some n → HasLeft patience 0 n
+left-first patience n e = record { left = n; told = e; sum = omega arith }
+
+-- after a no there is one fewer
+pub left-next : (before now : Option ℕ) (steps n : ℕ) → HasLeft before steps n → LosesPatience before now false → HasLeft now (steps + 1) n
+left-next None now steps n has loses = let none = has.told in absurd (cc)
+left-next (Some zero) now steps n has loses = absurd (false≢true loses)
+left-next (Some (suc m)) now steps n has loses =
+    let same : suc m ≡ has.left = let some = has.told in cc in
+    record { left = m; told = loses refl; sum = omega (arith, same, has.sum) }
+
+-- no more steps are taken
+pub left-most : (patience : Option ℕ) (steps n : ℕ) → HasLeft patience steps n → steps ≤ n
+left-most patience steps n has = omega (arith, has.sum)

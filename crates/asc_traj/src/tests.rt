@@ -1,0 +1,429 @@
+ghost use Rattle.std.specs.Prelude.{◌≡◌};
+ghost use Rattle.asc_traj.specs.Trace.{StandsFor};
+
+use crate::{Entry, Halt, Never, Stop, Traced, Why, trace};
+use asc_depvec::Tracer;
+use asc_shape::{Shape, State, Status};
+use asc_step::{Fault, FaultKind, Stepped, try_step};
+use std::alloc::Global;
+use std::process::Abort;
+use std::sync::Arc;
+
+/// Bytes from a place on.
+type Run = (u32, &'static [u8]);
+
+/// It says no so often, and then yes.
+#[derive(Drop)]
+struct Patient {
+    noes: u64,
+    stops: u64,
+}
+
+impl Halt for Patient {
+    ghost use Rattle.std.specs.Prelude.{Some};
+
+    ghost count = { λ halt. halt.stops };
+
+    ghost patience = { λ halt. Some halt.noes };
+
+    fn asked(&mut self) -> bool {
+        if self.noes == 0 {
+            self.stops = self.stops.saturating_add(1);
+            true
+        } else {
+            self.noes -= 1;
+            false
+        }
+    }
+}
+
+/// 65,536 bytes of memory at 0x10000, in version One.
+fn shape_one<R: Abort>(rt: &R) -> Shape {
+    Shape::new(0x10000, 65_536).expect(rt, "version One")
+}
+
+/// The same in version Two.
+fn shape_two<R: Abort>(rt: &R) -> Shape {
+    Shape::two(0x10000, 65_536).expect(rt, "version Two")
+}
+
+/// A state with these words from 0x10000 on, and its pc there.
+fn state_of<R: Abort>(rt: &R, alloc: Global, shape: Shape, words: &[u32]) -> State {
+    let mut state = State::new(alloc, shape).expect(rt, "memory");
+    state.set_pc(0x10000);
+    let mut at = 0x10000;
+    for word in words {
+        assert!(rt; state.holds(at, 4));
+        state.write(at, &word.to_le_bytes());
+        at = at.wrapping_add(4);
+    }
+    state
+}
+
+/// A loop from 0x10008 on that counts x5 up to x6, two steps a lap; behind it an exit, whose guest call is at 0x10018.
+fn counting<R: Abort>(rt: &R, alloc: Global, pc: u32, x6: u32) -> State {
+    let words = [
+        0x0000_0293,
+        0x0040_0313,
+        0x0012_8293,
+        0xFE62_9EE3,
+        0x05D0_0893,
+        0x0000_0513,
+        0x0000_0073,
+    ];
+    let mut state = state_of(rt, alloc, shape_one(rt), &words);
+    state.set_pc(pc);
+    state.set_reg(6, x6);
+    state
+}
+
+/// A program whose store at 0x1000C replaces the word behind it.
+fn changing<R: Abort>(rt: &R, alloc: Global) -> State {
+    let words = [
+        0x0000_0297,
+        0x0090_0337,
+        0x5133_0313,
+        0x0062_A823,
+        0x0010_0513,
+        0x05D0_0893,
+        0x0000_0073,
+    ];
+    state_of(rt, alloc, shape_one(rt), &words)
+}
+
+/// Takes so many steps of a state.
+fn take<R: Abort>(rt: &R, state: &mut State, steps: u64) {
+    for _ in 0..steps {
+        assert_eq!(rt; try_step(state), Stepped::Went);
+    }
+}
+
+/// The end of a trace after so many steps.
+fn end(steps: u64, why: Why) -> Traced {
+    Traced { steps, why }
+}
+
+/// Where a trace is to end: after so many laps at 0x10008, or so many steps.
+fn stop_at(laps: u64, span: u64) -> Stop {
+    Stop {
+        pc: 0x10008,
+        laps,
+        span,
+    }
+}
+
+/// How the trace of a state ends where so many places may be touched, and its tracer.
+fn traced<H: Halt, R: Abort>(
+    rt: &R,
+    alloc: Global,
+    from: &State,
+    cap: usize,
+    stop: Stop,
+    halt: &mut H,
+) -> (Traced, Tracer)
+    ensures { StandsFor result.0.steps result.1 }
+{
+    assert!(rt; (32..=65_536).contains(&cap) && stop.laps >= 1 && stop.span >= 1);
+    let mut tracer = Tracer::new(alloc, from.shape(), cap).expect(rt, "memory");
+    tracer.start(from);
+    let traced = trace(&mut tracer, &stop, halt);
+    (traced, tracer)
+}
+
+/// The entry of a state's trace, which ends as said.
+fn entry_of<R: Abort>(
+    rt: &R,
+    alloc: Global,
+    from: &State,
+    stop: Stop,
+    ended: Traced,
+) -> Arc<Entry> {
+    let (traced, tracer) = traced(rt, alloc, from, 96, stop, &mut Never);
+    assert_eq!(rt; traced, ended);
+    assert!(rt; traced.steps >= 1);
+    Entry::of(alloc, &tracer, traced.steps).expect(rt, "memory")
+}
+
+/// The places and bytes of these runs.
+fn cells<R: Abort>(rt: &R, alloc: Global, runs: &[Run]) -> Vec<(u32, u8)> {
+    let mut cells = Vec::new(alloc);
+    for (first, bytes) in runs {
+        for (place, byte) in (*first..).zip(*bytes) {
+            cells.push((place, *byte)).expect(rt, "memory");
+        }
+    }
+    cells
+}
+
+/// Compares all that an entry has.
+fn look<R: Abort>(rt: &R, alloc: Global, entry: &Entry, reads: &[Run], writes: &[Run], steps: u64) {
+    assert_eq!(rt; entry.reads(), cells(rt, alloc, reads).as_slice());
+    assert_eq!(rt; entry.writes(), cells(rt, alloc, writes).as_slice());
+    assert_eq!(rt; entry.steps(), steps);
+}
+
+/// The entry matches a state, and put into it makes what as many plain steps make of it, every byte.
+fn put_is_steps<R: Abort>(rt: &R, alloc: Global, entry: &Entry, from: &State) {
+    assert!(rt; entry.matches(from) && entry.shape() == from.shape());
+    let mut put = State::new(alloc, from.shape()).expect(rt, "memory");
+    put.copy_from(from);
+    entry.put(&mut put);
+    let mut stepped = State::new(alloc, from.shape()).expect(rt, "memory");
+    stepped.copy_from(from);
+    take(rt, &mut stepped, entry.steps());
+    for place in 0..from.shape().start() + from.shape().size() {
+        assert!(rt; (place as usize) < put.len() && (place as usize) < stepped.len());
+        assert_eq!(rt; put.get(place), stepped.get(place), "at {place}");
+    }
+}
+
+/// Steps from 0x10000 on, with x10 and x5 before them: what their entry reads and writes.
+struct Case {
+    words: &'static [u32],
+    x10: u32,
+    x5: u32,
+    reads: &'static [Run],
+    writes: &'static [Run],
+}
+
+const CASES: [Case; 4] = [
+    // ADDI x10, x10, 1
+    Case {
+        words: &[0x0015_0513],
+        x10: 0xFFFF_FFFF,
+        x5: 0,
+        reads: &[
+            (0, &[0, 0, 1, 0]),
+            (40, &[255, 255, 255, 255]),
+            (128, &[0x13, 5, 0x15, 0]),
+        ],
+        writes: &[(0, &[4, 0, 1, 0]), (40, &[0, 0, 0, 0])],
+    },
+    // ADDI x0, x0, 5
+    Case {
+        words: &[0x0050_0013],
+        x10: 0,
+        x5: 0,
+        reads: &[(0, &[0, 0, 1, 0]), (128, &[0x13, 0, 0x50, 0])],
+        writes: &[(0, &[4, 0, 1, 0])],
+    },
+    // SW x5, 0(x10); LW x6, 0(x10)
+    Case {
+        words: &[0x0055_2023, 0x0005_2303],
+        x10: 0x10100,
+        x5: 0x1122_3344,
+        reads: &[
+            (0, &[0, 0, 1, 0]),
+            (20, &[0x44, 0x33, 0x22, 0x11]),
+            (40, &[0, 1, 1, 0]),
+            (128, &[0x23, 0x20, 0x55, 0, 3, 0x23, 5, 0]),
+        ],
+        writes: &[
+            (0, &[8, 0, 1, 0]),
+            (24, &[0x44, 0x33, 0x22, 0x11]),
+            (384, &[0x44, 0x33, 0x22, 0x11]),
+        ],
+    },
+    // LW x6, 0(x10); SW x5, 0(x10)
+    Case {
+        words: &[0x0005_2303, 0x0055_2023],
+        x10: 0x10100,
+        x5: 0x1122_3344,
+        reads: &[
+            (0, &[0, 0, 1, 0]),
+            (20, &[0x44, 0x33, 0x22, 0x11]),
+            (40, &[0, 1, 1, 0]),
+            (128, &[3, 0x23, 5, 0, 0x23, 0x20, 0x55, 0]),
+            (384, &[0xAA, 0xBB, 0xCC, 0xDD]),
+        ],
+        writes: &[
+            (0, &[8, 0, 1, 0]),
+            (24, &[0xAA, 0xBB, 0xCC, 0xDD]),
+            (384, &[0x44, 0x33, 0x22, 0x11]),
+        ],
+    },
+];
+
+#[test]
+fn entries(rt: HostRuntime) {
+    let alloc = rt.alloc();
+    for case in &CASES {
+        let mut state = state_of(&rt, alloc, shape_one(&rt), case.words);
+        state.set_reg(10, case.x10);
+        state.set_reg(5, case.x5);
+        assert!(rt; state.holds(0x10100, 4));
+        state.write(0x10100, &[0xAA, 0xBB, 0xCC, 0xDD]);
+        let steps = case.words.len() as u64;
+        assert!(rt; steps >= 1);
+        let entry = entry_of(&rt, alloc, &state, stop_at(9, steps), end(steps, Why::Span));
+        look(&rt, alloc, &entry, case.reads, case.writes, steps);
+        state.set_reg(9, 3);
+        put_is_steps(&rt, alloc, &entry, &state);
+    }
+}
+
+#[test]
+fn statuses(rt: HostRuntime) {
+    let alloc = rt.alloc();
+    let mut state = state_of(&rt, alloc, shape_one(&rt), &[0x0015_0513]);
+    state.set_reg(10, 0xFFFF_FFFF);
+    // After a step fewer than 32 further places may be touched.
+    let (ended, tracer) = traced(&rt, alloc, &state, 32, stop_at(9, 5), &mut Never);
+    assert_eq!(rt; ended, end(1, Why::Room));
+    for (first, status) in [
+        (0, Status::ReadWritten),
+        (40, Status::ReadWritten),
+        (44, Status::Untouched),
+        (128, Status::Read),
+    ] {
+        for place in first..first + 4 {
+            assert_eq!(rt; tracer.status(place), status, "at {place}");
+        }
+    }
+    assert_eq!(rt; tracer.touched().len(), 12);
+}
+
+/// SC.W x6, x7, (x10), which succeeds.
+#[test]
+fn conditional_store(rt: HostRuntime) {
+    let alloc = rt.alloc();
+    let mut state = state_of(&rt, alloc, shape_two(&rt), &[0x1875_232F]);
+    state.set_reg(10, 0x11000);
+    for (place, byte) in (128..133).zip([0, 0x10, 1, 0, 1]) {
+        assert!(rt; (place as usize) < state.len());
+        state.set(place, byte);
+    }
+    let (ended, tracer) = traced(&rt, alloc, &state, 64, stop_at(9, 1), &mut Never);
+    assert_eq!(rt; (ended, tracer.touched().len()), (end(1, Why::Span), 29));
+    let entry = entry_of(&rt, alloc, &state, stop_at(9, 1), end(1, Why::Span));
+    let reads: [Run; 5] = [
+        (0, &[0, 0, 1, 0]),
+        (28, &[0, 0, 0, 0]),
+        (40, &[0, 0x10, 1, 0]),
+        (128, &[0, 0x10, 1, 0, 1]),
+        (136, &[0x2F, 0x23, 0x75, 0x18]),
+    ];
+    let writes: [Run; 4] = [
+        (0, &[4, 0, 1, 0]),
+        (24, &[0, 0, 0, 0]),
+        (132, &[0]),
+        (4232, &[0, 0, 0, 0]),
+    ];
+    look(&rt, alloc, &entry, &reads, &writes, 1);
+    put_is_steps(&rt, alloc, &entry, &state);
+}
+
+#[test]
+fn other_version(rt: HostRuntime) {
+    let alloc = rt.alloc();
+    let word = [0x0050_0013];
+    let state = state_of(&rt, alloc, shape_one(&rt), &word);
+    let entry = entry_of(&rt, alloc, &state, stop_at(9, 1), end(1, Why::Span));
+    let mut other = state_of(&rt, alloc, shape_two(&rt), &word);
+    for (place, byte) in (128..132).zip([0x13, 0, 0x50, 0]) {
+        assert!(rt; (place as usize) < other.len());
+        other.set(place, byte);
+    }
+    assert!(rt; entry.matches(&state) && !entry.matches(&other));
+}
+
+#[test]
+fn nothing_touched(rt: HostRuntime) {
+    let alloc = rt.alloc();
+    // LUI x10, 0x20; LW x6, -3(x10)
+    let mut loads = state_of(&rt, alloc, shape_one(&rt), &[0x0002_0537, 0xFFD5_2303]);
+    take(&rt, &mut loads, 1);
+    let mut full = state_of(&rt, alloc, shape_one(&rt), &[]);
+    for place in 0..65_664 {
+        assert!(rt; (place as usize) < full.len());
+        full.set(place, 255);
+    }
+    let outside = Fault {
+        kind: FaultKind::LoadOutside,
+        pc: 0x10004,
+        value: 0x1FFFD,
+    };
+    let misaligned = Fault {
+        kind: FaultKind::Misaligned,
+        pc: 0xFFFF_FFFF,
+        value: 0xFFFF_FFFF,
+    };
+    let calls = counting(&rt, alloc, 0x10018, 0);
+    for (state, why) in [
+        (&loads, Why::Fault(outside)),
+        (&full, Why::Fault(misaligned)),
+        (&calls, Why::Call),
+    ] {
+        let (ended, tracer) = traced(&rt, alloc, state, 64, stop_at(9, 9), &mut Never);
+        assert_eq!(rt; ended, end(0, why));
+        assert!(rt; tracer.touched().is_empty());
+        for place in 0..65_664 {
+            assert!(rt; tracer.status(place) == Status::Untouched, "at {place}");
+        }
+    }
+}
+
+#[test]
+fn changed_code(rt: HostRuntime) {
+    let alloc = rt.alloc();
+    let mut jumped = changing(&rt, alloc);
+    jumped.set_pc(0x10010);
+    let entry = entry_of(&rt, alloc, &jumped, stop_at(9, 1), end(1, Why::Span));
+    let reads: [Run; 2] = [(0, &[16, 0, 1, 0]), (144, &[0x13, 5, 0x10, 0])];
+    let writes: [Run; 2] = [(0, &[20, 0, 1, 0]), (40, &[1, 0, 0, 0])];
+    look(&rt, alloc, &entry, &reads, &writes, 1);
+    let mut state = changing(&rt, alloc);
+    take(&rt, &mut state, 3);
+    let changes = entry_of(&rt, alloc, &state, stop_at(9, 2), end(2, Why::Span));
+    let reads: [Run; 4] = [
+        (0, &[12, 0, 1, 0]),
+        (20, &[0, 0, 1, 0]),
+        (24, &[0x13, 5, 0x90, 0]),
+        (140, &[0x23, 0xA8, 0x62, 0]),
+    ];
+    let writes: [Run; 3] = [
+        (0, &[20, 0, 1, 0]),
+        (40, &[9, 0, 0, 0]),
+        (144, &[0x13, 5, 0x90, 0]),
+    ];
+    look(&rt, alloc, &changes, &reads, &writes, 2);
+    take(&rt, &mut state, 1);
+    assert_eq!(rt; state.pc(), 0x10010);
+    assert!(rt; entry.matches(&jumped) && !entry.matches(&state));
+}
+
+#[test]
+fn laps(rt: HostRuntime) {
+    let alloc = rt.alloc();
+    let mut list: Vec<Arc<Entry>> = Vec::new(alloc);
+    for (pc, x6, laps, ended) in [
+        (0x10008, 4, 1, end(2, Why::Lap)),
+        (0x10008, 4, 2, end(4, Why::Lap)),
+        (0x10010, 4, 9, end(2, Why::Call)),
+        (0x10008, 2, 9, end(6, Why::Call)),
+    ] {
+        let mut state = counting(&rt, alloc, pc, x6);
+        let entry = entry_of(&rt, alloc, &state, stop_at(laps, 100), ended);
+        state.set_reg(7, 9);
+        put_is_steps(&rt, alloc, &entry, &state);
+        list.push(entry).expect(&rt, "memory");
+    }
+    // An entry that is shared in a list: the last one leads to the guest call, and matches there no more.
+    let mut state = counting(&rt, alloc, 0x10008, 2);
+    if let Some(entry) = list.last()
+        && entry.matches(&state)
+    {
+        entry.put(&mut state);
+    }
+    assert_eq!(rt; (state.pc(), state.reg(5), state.reg(17)), (0x10018, 2, 93));
+    assert!(rt; list.iter().all(|entry| !entry.matches(&state)));
+}
+
+#[test]
+fn stopped(rt: HostRuntime) {
+    let alloc = rt.alloc();
+    let state = counting(&rt, alloc, 0x10008, 4);
+    let mut halt = Patient { noes: 2, stops: 0 };
+    let (ended, _) = traced(&rt, alloc, &state, 96, stop_at(9, 9), &mut halt);
+    assert_eq!(rt; (ended, halt.stops), (end(2, Why::Stopped), 1));
+}

@@ -1,0 +1,154 @@
+ghost use Rattle.std.specs.Prelude.{◌≡◌, ℕ, ◌≤◌, ◌-◌, ◌<◌, true, false, [], length, Some, None, IsSome, IsNone, nat_lt, ◌==◌, if◌then◌else◌};
+ghost use Rattle.asc_model.specs.declared.why.Why.TheVariants as whys;
+ghost use Rattle.asc_model.specs.Step.{next};
+ghost use Rattle.asc_model.specs.Reach.{IsReach, why_no_step};
+ghost use Rattle.asc_step.specs.Step.{face_after};
+ghost use Rattle.asc_depvec.specs.Tracer.{IsTracing, face_of, room_of};
+ghost use Rattle.asc_model.specs.State.{IsState};
+ghost use Rattle.asc_shape.specs.Face.{Told, FitPlaces};
+ghost use Rattle.asc_traj.specs.Trace.{CountsAnswer, MayStop, StandsFor, bounds_of, is_stopped, origin_of};
+ghost use Rattle.asc_traj.specs.Inside.{why_of};
+
+use crate::{Halt, Why};
+use asc_depvec::Tracer;
+use asc_shape::Bytes;
+use asc_step::{Stepped, try_step};
+
+/// Where a trace is to end.
+#[derive(Clone, Copy, Debug, PartialEq, Eq)]
+pub struct Stop {
+    /// A lap is a step that leads to this pc.
+    pub pc: u32,
+    /// After how many laps it ends, at least 1.
+    pub laps: u64,
+    /// After how many steps it ends at the latest, at least 1.
+    pub span: u64,
+}
+
+/// How a trace ended.
+#[derive(Clone, Copy, Debug, PartialEq, Eq)]
+pub struct Traced {
+    /// The steps taken.
+    pub steps: u64,
+    /// Why no more were taken.
+    pub why: Why,
+}
+
+/// Takes steps of a tracer's state until one of these ends it: it made as many laps as `stop` says, or as many steps;
+/// fewer than 32 further places may be touched; `halt` says so; or the next step would be a guest call or a fault.
+///
+/// They are tested in this order, before each step. An attempt that ends in a call or a fault leaves no trace. It takes
+/// no memory.
+pub fn trace<H: Halt>(tracer: &mut Tracer, stop: &Stop, halt: &mut H) -> Traced
+    requires untouched { tracer.old.touched ≡ [] }
+    requires own_shape { tracer.old.state.shape ≡ tracer.old.shape }
+    requires laps { 1 ≤ stop.now.laps }
+    requires span { 1 ≤ stop.now.span }
+
+    // The tracer stands for the steps taken, from the state that it had.
+    ensures stands { StandsFor result.steps tracer.new }
+    ensures start { origin_of tracer.new ≡ tracer.old.state }
+
+    // They are as many as a trace of that state takes, and it ends for the reason for which that trace ends, unless it
+    // was stopped.
+    ensures reach { is_stopped result.why ≡ false
+        → IsReach (bounds_of stop.now tracer.old.cap) tracer.old.state result.steps result.why }
+    ensures stopped { is_stopped result.why ≡ true
+        → MayStop (bounds_of stop.now tracer.old.cap) tracer.old.state result.steps }
+
+    // It is stopped only where the halt said so, and then the halt's count rose.
+    ensures halt { CountsAnswer (H.count halt.old) (H.count halt.new) (is_stopped result.why) }
+
+    // Where the halt says no at most so often, no more steps are taken.
+    ensures patience { (n : ℕ) → H.patience halt.old ≡ Some n → result.steps ≤ n }
+
+    // It takes no more steps, and touches no more places, than it may.
+    ensures most_steps { result.steps ≤ stop.now.span }
+    ensures most_places { length tracer.new.touched ≤ tracer.old.cap }
+    ensures shape { tracer.new.shape ≡ tracer.old.shape }
+    ensures cap { tracer.new.cap ≡ tracer.old.cap }
+{
+    known(tracer);
+    let mut steps = 0;
+    let mut laps = 0;
+    loop {
+        known(tracer);
+        if let Some(why) = bound_met(tracer, stop, steps, laps) {
+            return Traced { steps, why };
+        }
+        if halt.asked() {
+            return Traced {
+                steps,
+                why: Why::Stopped,
+            };
+        }
+        if let Some(why) = attempt(tracer) {
+            return Traced { steps, why };
+        }
+        steps += 1;
+        if tracer.state().pc() == stop.pc {
+            laps += 1;
+        }
+    }
+}
+
+/// The first bound that is met after so many steps and laps.
+#[inline]
+fn bound_met(tracer: &Tracer, stop: &Stop, steps: u64, laps: u64) -> Option<Why>
+    ensures { result ≡ (if laps == stop.now.laps then Some whys.Lap
+        else (if steps == stop.now.span then Some whys.Span
+        else (if nat_lt (room_of tracer.now) 32 then Some whys.Room else None))) }
+{
+    if laps == stop.laps {
+        Some(Why::Lap)
+    } else if steps == stop.span {
+        Some(Why::Span)
+    } else if tracer.room() < 32 {
+        Some(Why::Room)
+    } else {
+        None
+    }
+}
+
+/// Tries one step. Where it calls or faults it answers that, and the reads of the attempt are taken back.
+#[inline]
+fn attempt(tracer: &mut Tracer) -> Option<Why>
+    requires room { 32 ≤ room_of tracer.old }
+    ensures ends { result ≡ why_no_step (next tracer.old.state) }
+    ensures goes { IsNone result → face_of tracer.new ≡ face_after (face_of tracer.old) }
+    ensures back { IsSome result → tracer.new ≡ tracer.old }
+    ensures shape { tracer.new.shape ≡ tracer.old.shape }
+    ensures cap { tracer.new.cap ≡ tracer.old.cap }
+{
+    known(tracer);
+    let mark = tracer.mark();
+    let ended = why_of(try_step(tracer));
+    known(tracer);
+    if ended.is_some() {
+        tracer.undo(mark);
+    }
+    ended
+}
+
+/// Why a step was not taken.
+#[inline]
+fn why_of(stepped: Stepped) -> Option<Why>
+    ensures { result ≡ why_of stepped }
+{
+    match stepped {
+        Stepped::Went => None,
+        Stepped::Call => Some(Why::Call),
+        Stepped::Fault(fault) => Some(Why::Fault(fault)),
+    }
+}
+
+/// It does nothing. A caller's proof learns from it what holds of every tracer.
+#[inline]
+pub(crate) fn known(tracer: &Tracer)
+    ensures tracer { IsTracing tracer.now }
+    ensures state { IsState tracer.now.state }
+    ensures marks { FitPlaces (length tracer.now.state.bytes) (Told tracer.now.statuses tracer.now.touched) }
+{
+    let _ = tracer.mark();
+    let _ = Bytes::shape(tracer);
+}
