@@ -1,0 +1,107 @@
+#!/usr/bin/env python3
+"""Runs the commands of documents as they are written, and compares what they print with what stands there.
+
+    python3 docs/commands.py [--program PROGRAM] DOCUMENT..
+
+PROGRAM is the built asc, crates/asc_cli/out/asc_cli where it is not given. Of a document are read:
+
+    ```sh          commands. They run in a copy of the repository's examples, benches, documents and built
+                   program, at its top; all of a document in one shell, with no input and an empty home folder
+    ```text        behind commands: just what they print, to standard output and standard error. Commands with
+                   no such block print nothing
+    ```c NAME      what the file NAME holds, at the top of that copy
+
+and this line, which is not shown:
+
+    <!-- wants TOOL WORDS: TEXT -->    where the tool is missing, or does not print this text for these words,
+                                       the document is left out, and a line says so
+
+The status is 0 where nothing differs, and else 1.
+"""
+
+import difflib
+import os
+import re
+import shutil
+import subprocess
+import sys
+import tempfile
+from pathlib import Path
+
+ROOT = Path(__file__).resolve().parent.parent
+BUILT = "crates/asc_cli/out/asc_cli"
+COPIED = ["README.md", "docs", "examples", "bench", "crates/asc_cli/data"]
+WANTS = re.compile(r"^<!-- wants (.*?): (.*) -->$", re.MULTILINE)
+BLOCK = re.compile(r"^```(\w+)(?: (\S+))?\n(.*?)^```$", re.MULTILINE | re.DOTALL)
+
+
+def copy_to(room, program):
+    for name in COPIED:
+        (shutil.copytree if (ROOT / name).is_dir() else shutil.copy)(ROOT / name, Path(room, name))
+    Path(room, BUILT).parent.mkdir(parents=True, exist_ok=True)
+    shutil.copy(program, Path(room, BUILT))
+
+
+def read(text, room):
+    """Commands, each with what they are to print; the files of the document are written."""
+    found = []
+    for kind, name, body in BLOCK.findall(text):
+        if kind == "sh":
+            found.append([body, ""])
+        elif kind == "text" and found and not found[-1][1]:
+            found[-1][1] = body
+        elif name:
+            Path(room, name).write_text(body)
+    return found
+
+
+def printed(found, room):
+    """What each block of commands prints."""
+    outputs = os.path.join(room, "outputs")
+    os.mkdir(outputs)
+    script = "".join(f"{{\n{body}}} >{outputs}/{k} 2>&1\n" for k, (body, _) in enumerate(found))
+    home = os.path.join(room, "home")
+    os.mkdir(home)
+    subprocess.run(["sh", "-c", script], cwd=os.path.join(room, "top"), stdin=subprocess.DEVNULL,
+                   env={**os.environ, "HOME": home})
+    files = [Path(outputs, str(k)) for k in range(len(found))]
+    return [file.read_text(errors="replace") if file.exists() else "not run\n" for file in files]
+
+
+def run(document, program):
+    """How many blocks of commands of a document print something else."""
+    text = Path(document).read_text()
+    for words, wanted in WANTS.findall(text):
+        tool = words.split()
+        has = shutil.which(tool[0]) and subprocess.run(tool, capture_output=True, text=True)
+        if not has or wanted not in has.stdout:
+            print(f"docs/commands.py: no {tool[0]} {wanted}: {document} is left out")
+            return 0
+    with tempfile.TemporaryDirectory() as room:
+        top = os.path.join(room, "top")
+        os.mkdir(top)
+        copy_to(top, program)
+        found = read(text, top)
+        differing = 0
+        for (body, wanted), made in zip(found, printed(found, room)):
+            if made != wanted:
+                differing += 1
+                print(f"docs/commands.py: {document}: these commands print something else:\n{body}", end="")
+                both = wanted.splitlines(True), made.splitlines(True)
+                print("".join(difflib.unified_diff(*both, "written", "printed")))
+        print(f"docs/commands.py: {document}: {len(found)} blocks of commands run, {differing} differ")
+        return differing
+
+
+def main():
+    words = sys.argv[1:]
+    program = ROOT / BUILT
+    if words[:1] == ["--program"]:
+        program, words = words[1], words[2:]
+    if not Path(program).exists():
+        sys.exit(f"docs/commands.py: no program {program}; rt run in crates/asc_cli builds it")
+    sys.exit(1 if sum(run(document, program) for document in words) else 0)
+
+
+if __name__ == "__main__":
+    main()

@@ -1,0 +1,99 @@
+#!/usr/bin/env python3
+"""What each example is to write, found without it: with Python's own library, or worked out anew.
+
+    python3 examples/expected.py            writes each examples/NAME/expected from examples/NAME/input
+    python3 examples/expected.py --check    says whether these files are what this script would write
+    python3 examples/expected.py NAME       prints what NAME is to write for standard input
+"""
+
+import hashlib
+import sys
+from pathlib import Path
+
+HERE = Path(__file__).resolve().parent
+MASK = 0xFFFFFFFF
+
+
+def hello(_):
+    return b"Hello, world\n"
+
+
+def echo(data):
+    return data
+
+
+def word_count(data):
+    return b"%d %d %d\n" % (data.count(b"\n"), len(data.split()), len(data))
+
+
+def quicksort(data):
+    return b"".join(b"%d\n" % number for number in sorted(map(int, data.split())))
+
+
+def sha256(data):
+    return hashlib.sha256(data).hexdigest().encode() + b"\n"
+
+
+def matrix(data):
+    """The trace and the sum of a product, without the product: each is a sum over the inner index."""
+    side = int(data)
+    first = [[i + 2 * k + 1 for k in range(side)] for i in range(side)]
+    second = [[3 * i - k + 5 for k in range(side)] for i in range(side)]
+    columns = [sum(row[j] for row in first) for j in range(side)]
+    trace = sum(first[i][j] * second[j][i] for i in range(side) for j in range(side))
+    whole = sum(columns[j] * sum(second[j]) for j in range(side))
+    return b"trace %d sum %d\n" % (trace & MASK, whole & MASK)
+
+
+def collatz(data):
+    """Steps are kept, so that a sequence is followed only to the first smaller number."""
+    limit = int(data)
+    steps = [0] * (limit + 1)
+    for start in range(2, limit + 1):
+        number, count = start, 0
+        while number >= start:
+            number, count = (3 * number + 1 if number % 2 else number // 2), count + 1
+        steps[start] = count + steps[number]
+    longest = max(steps)
+    return b"all up to %d come to 1; from %d it takes the most steps, %d\n" % (
+        limit, max(1, steps.index(longest)), longest)
+
+
+def ising(data):
+    """A lattice's energy is twice the pairs of unlike neighbours, less all pairs."""
+    count, side, seed = map(int, data.split())
+    state, found = seed & MASK, []
+    for _ in range(count):
+        up = []
+        for _ in range(side * side):
+            state = (1664525 * state + 1013904223) & MASK
+            up.append(state >= 1 << 31)
+        cells = [(row, column) for row in range(side) for column in range(side)]
+        unlike = sum(
+            up[row * side + column] != up[beside % side + side * (below % side)]
+            for row, column in cells for below, beside in ((row, column + 1), (row + 1, column))
+        )
+        found.append(2 * unlike - 2 * side * side)
+    return b"least energy %d at lattice %d\n" % (min(found), found.index(min(found)))
+
+
+PROGRAMS = {function.__name__: function
+            for function in (hello, echo, word_count, quicksort, sha256, matrix, collatz, ising)}
+
+
+def main():
+    if len(sys.argv) > 1 and sys.argv[1] != "--check":
+        sys.stdout.buffer.write(PROGRAMS[sys.argv[1]](sys.stdin.buffer.read()))
+        return
+    for name, function in PROGRAMS.items():
+        given, kept = HERE / name / "input", HERE / name / "expected"
+        made = function(given.read_bytes() if given.exists() else b"")
+        if sys.argv[1:]:
+            if not kept.exists() or kept.read_bytes() != made:
+                sys.exit(f"{kept} is not what this script writes")
+        else:
+            kept.write_bytes(made)
+
+
+if __name__ == "__main__":
+    main()
