@@ -1,5 +1,5 @@
 #!/usr/bin/env python3
-"""Writes crates/asc_rows/src/single_steps.rt: single steps, with what QEMU makes of each.
+"""Writes crates/asc_tests/src/single_steps.rt: single steps, with what QEMU makes of each.
 
     python3 bench/single_steps.py            writes the file, and prints how many cases each instruction has
     python3 bench/single_steps.py --check    says whether the file is what this script would write
@@ -36,7 +36,7 @@ import tempfile
 from pathlib import Path
 
 ROOT = Path(__file__).resolve().parent.parent
-TARGET = ROOT / "crates/asc_rows/src/single_steps.rt"
+TARGET = ROOT / "crates/asc_tests/src/single_steps.rt"
 
 BASE, SIZE = 0x10000, 0x10000
 DATA = 0x10100

@@ -7,13 +7,14 @@ A program over `asc_traj` is added to a copy of the crates under it in a tempora
 `rt run`, and run. STEPS is how many guest steps a run does, 10,000,000 where it is not given. The loops are those of
 `loops.py` and one that touches more:
 
-    ring    a store and a load of each word of 8192 bytes in turn, with an index that wraps
+    ring     a store and a load of each word of 8192 bytes in turn, with an index that wraps
+    scatter  a store and a load of words all over 8192 bytes
 
-For each loop it prints the processor's time, the least of five runs: for a step of a `State`, for a step of a trace of
-all steps, and for `start` of a tracer of a state of 1 MiB.
+For each loop it prints the processor's time, the least of five runs: for a step of a `State` by `step`, for a step of a
+trace of all steps, and for `start` of a tracer of a state of 1 MiB.
 
 With --count it prints the processor's instructions, as `valgrind --tool=callgrind` counts them and independent of load,
-and STEPS is 200,000 where it is not given: for a step of a `State`, and of a trace; and with traces of 1000 steps how
+and STEPS is 200,000 where it is not given: for a step of a `State` by `step`, and of a trace; and with traces of 1000 steps how
 many places they touch, and what they cost more a touched place for the first touch with `reset`, and for `Entry::of`.
 """
 
@@ -41,15 +42,17 @@ MAIN = """\
 //! Plain and traced steps of loops. It is timed from outside.
 #![tactic(auto)]
 
-ghost use Rattle.std.specs.Prelude.{{◌≤◌}};
+ghost use Rattle.std.specs.Prelude.{{◌≡◌, ◌<◌, ◌≤◌}};
 
 use asc_depvec::Tracer;
-use asc_shape::{{Shape, State}};
-use asc_step::{{Stepped, try_step}};
+use asc_shape::{{Shape, State, Steps}};
+use asc_step::{{Stepped, step}};
 use asc_traj::{{Entry, Never, Stop, trace}};
 use std::alloc::Global;
 use std::env;
+use std::marker::Brand;
 use std::process::ExitCode;
+use std::sync::ledger::{{Blank, Ledger}};
 
 /// The words of the loops, which are put to 0x10000.
 static LOOPS: [&[u32]; {count}] = [
@@ -110,8 +113,17 @@ fn looping(alloc: Global, which: u64) -> Option<State> {{
 }}
 
 fn walk(state: &mut State, most: u64) -> bool {{
+    walk_counted::<Brand>(state, most, Blank::new(1))
+}}
+
+fn walk_counted<L: Ledger>(state: &mut State, most: u64, blank: Blank) -> bool
+    requires name {{ blank.name ≡ L.name }}
+    requires parts {{ blank.parts ≡ L.parts }}
+    requires some {{ 0 < L.parts }}
+{{
+    let mut steps = Steps::<L>::new(blank);
     for _ in 0..most {{
-        if try_step(state) != Stepped::Went {{
+        if step(state, &mut steps) != Stepped::Went {{
             return false;
         }}
     }}
@@ -160,11 +172,26 @@ invariant-loop l = record {
 """
 
 
+GHOSTS = """\
+-- The ledger is the one that is opened here.
+use Rattle.asc_tracing.proofs.walk.Given as goal
+
+abbrev pub ghosts-walk_counted : goal.ghosts-walk_counted
+ghosts-walk_counted a = record { name = a.blank.name; parts = a.blank.parts }
+"""
+
+
 def program():
-    """The words of the four loops, and the text of the program with them."""
+    """The words of the five loops, and the text of the program with them."""
     ring = [addi(10, 10, 4), op(0, 7, 10, 10, 9), op(0, 0, 7, 8, 10), sw(5, 7, 0), lw(6, 7, 0)]
     named = loops(10 << 29)
-    named["ring"] = counted(1 << 30, [lui(8, 0x20), lui(9, 2), addi(9, 9, -4)], ring)
+    scatter = [
+        op(0, 0, 7, 10, 10), op(0, 0, 7, 7, 7), op(0, 0, 10, 10, 7), addi(10, 10, 4), op(0, 7, 10, 10, 9),
+        op(0, 0, 7, 8, 10), sw(5, 7, 0), lw(6, 7, 0),
+    ]
+    before = [lui(8, 0x20), lui(9, 2), addi(9, 9, -4)]
+    named["ring"] = counted(1 << 30, before, ring)
+    named["scatter"] = counted(1 << 30, before, scatter)
     words = ""
     for name, loop in named.items():
         words += "    &[" + ", ".join(f"0x{word:08X}" for word in loop) + f"], // {name}\n"
@@ -180,7 +207,8 @@ def build(folder):
         shutil.copytree(ROOT / "crates" / crate, Path(folder, "crates", crate))
     crate = Path(folder, "crates", "asc_tracing")
     names, text = program()
-    for path, content in [("src/main.rt", text), ("proofs/traces/Invariants.antt", INVARIANTS)]:
+    proofs = [("proofs/traces/Invariants.antt", INVARIANTS), ("proofs/walk/Invariants.antt", GHOSTS)]
+    for path, content in [("src/main.rt", text), *proofs]:
         (crate / path).parent.mkdir(parents=True)
         (crate / path).write_text(content)
     command = ["rt", "run", "--", "0", "0", "1", "1"]

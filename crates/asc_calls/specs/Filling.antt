@@ -1,28 +1,30 @@
 -- What taking bytes into a buffer does, and putting the bytes of a piece.
-use Rattle.std.specs.Prelude.{◌≡◌, ℕ, ◌<◌, ◌≤◌, IsTrue, false, List, [], length, take, drop, Option}
+use Rattle.std.specs.Prelude.{◌≡◌, ℕ, ◌<◌, ◌≤◌, IsTrue, false, List, [], length, take, Option}
+use Rattle.asc_model.specs.Number.{AreBytes}
 use Rattle.asc_model.specs.State.{State}
 use Rattle.asc_model.specs.Machine.{Memory}
 use Rattle.asc_shape.specs.State.{state_after}
 use Rattle.asc_shape.specs.Outside.{Takes, IsAtEnd, Given, given_after}
 use Rattle.asc_calls.specs.World.{CallState}
 
--- from before to after so many bytes were taken to the front of a buffer, which stayed as it was behind them
-pub record Fills (before after : Option (List ℕ)) (old new : List ℕ) (count : ℕ) : Type 0 where
-  pub takes : Takes before after (take count new)
-  pub within : count ≤ length old
-  pub behind : drop count new ≡ drop count old
-
--- a source that failed gave fewer bytes than a buffer holds
-pub record FillsPart (before after : Option (List ℕ)) (old new : List ℕ) : Type 0 where
-  pub count : ℕ
-  pub fills : Fills before after old new count
-  pub fewer : count < length old
-
 -- from one state to another these bytes were taken into memory, where a buffer of n bytes begins
 pub record TakesInto (before after : Option (List ℕ)) (old new : State) (buffer n : ℕ) (taken : List ℕ) : Type 0 where
   pub takes : Takes before after taken
+  pub bytes : AreBytes taken
   pub state : new ≡ state_after old (Memory buffer taken)
   pub within : length taken ≤ n
+
+-- so many bytes were taken into a buffer
+pub record Fills (before after : Option (List ℕ)) (old new : State) (buffer n count : ℕ) : Type 0 where
+  pub taken : List ℕ
+  pub into : TakesInto before after old new buffer n taken
+  pub count_is : length taken ≡ count
+
+-- a source that failed gave fewer bytes than a buffer holds
+pub record FillsPart (before after : Option (List ℕ)) (old new : State) (buffer n : ℕ) : Type 0 where
+  pub taken : List ℕ
+  pub into : TakesInto before after old new buffer n taken
+  pub fewer : length taken < n
 
 -- a read that came to its end took so many bytes
 pub record Reads (before after : Option (List ℕ)) (old new : State) (buffer n : ℕ) (was now : CallState) (count : ℕ)
@@ -34,7 +36,7 @@ pub record Reads (before after : Option (List ℕ)) (old new : State) (buffer n 
   pub all : now.ended ≡ false → count ≡ n
   pub known : (IsTrue was.ended → IsAtEnd before) → IsTrue now.ended → IsAtEnd after
   pub ended : IsTrue was.ended → IsTrue now.ended × (taken ≡ [])
-  pub kept : now ≡ record was { ended = now.ended }
+  pub calls : now ≡ record was { ended = now.ended }
 
 -- a read whose source failed took fewer bytes
 pub record ReadsPart (before after : Option (List ℕ)) (old new : State) (buffer n : ℕ) (was now : CallState)
@@ -43,7 +45,7 @@ pub record ReadsPart (before after : Option (List ℕ)) (old new : State) (buffe
   pub into : TakesInto before after old new buffer n taken
   pub fewer : length taken < n
   pub going : was.ended ≡ false
-  pub kept : now ≡ was
+  pub calls : now ≡ was
 
 -- a sink that failed was given the first bytes of a piece, and not all
 pub record PutsPart (before after : Given) (piece : List ℕ) : Type 0 where

@@ -7,13 +7,13 @@ use Rattle.asc_model.specs.Machine.{Machine, register, Pc, Register, Memory, vie
 use Rattle.asc_model.specs.Arithmetic.{◌+w◌}
 use Rattle.asc_shape.specs.State.{state_after, state_after_all, memory_at}
 
--- what was taken from the input, and put to out and to err
-pub record Act : Type 0 where
+-- the input and output of a call, or of several: what was taken from the input, and put to out and to err
+pub record Io : Type 0 where
   pub taken : List ℕ
   pub out : List ℕ
   pub err : List ℕ
 
-abbrev pub nothing : Act
+abbrev pub nothing : Io
 nothing = record { taken = []; out = []; err = [] }
 
 -- the devices that calls ask
@@ -22,28 +22,28 @@ pub data Device : Type 0 where
   Out : Device
   Err : Device
 
--- these bytes are taken from a device or put to it, and nothing else is done
-abbrev pub act_of : Device → List ℕ → Act
-act_of Input bytes = record { taken = bytes; out = []; err = [] }
-act_of Out bytes = record { taken = []; out = bytes; err = [] }
-act_of Err bytes = record { taken = []; out = []; err = bytes }
+-- these bytes are taken from a device or put to it, and nothing else is taken or put
+abbrev pub io_of : Device → List ℕ → Io
+io_of Input bytes = record { taken = bytes; out = []; err = [] }
+io_of Out bytes = record { taken = []; out = bytes; err = [] }
+io_of Err bytes = record { taken = []; out = []; err = bytes }
 
--- one act after another
-abbrev pub joint_act : Act → Act → Act
-joint_act first second = record {
+-- the io of calls, and then of more calls
+abbrev pub then_io : Io → Io → Io
+then_io first second = record {
   taken = first.taken ++ second.taken;
   out = first.out ++ second.out;
   err = first.err ++ second.err;
 }
 
--- what an act begins with
-pub record IsBeginning (first whole : Act) : Type 0 where
-  pub rest : Act
-  pub whole_is : whole ≡ joint_act first rest
+-- what is done first of all that is done
+pub record IsBeginning (first whole : Io) : Type 0 where
+  pub rest : Io
+  pub whole_is : whole ≡ then_io first rest
 
 -- what a call comes to: the program goes on with a state and a break, or it ends
 pub data CallResult : Type 0 where
-  Went : (after : State) (brk : ℕ) (act : Act) → CallResult
+  Went : (after : State) (brk : ℕ) (io : Io) → CallResult
   Exit : (code : ℕ) → CallResult
 
 -- what a program asks for
@@ -109,12 +109,12 @@ answered_early_or s brk None result = result
 -- the bytes taken are in memory, from the buffer on, and their number is the answer
 abbrev pub result_of_read : State → (brk buffer : ℕ) → (taken : List ℕ) → CallResult
 result_of_read s brk buffer taken =
-    Went (state_after_answer (state_after s (Memory buffer taken)) (length taken)) brk (act_of Input taken)
+    Went (state_after_answer (state_after s (Memory buffer taken)) (length taken)) brk (io_of Input taken)
 
 -- all n bytes are put to out for file 1 and to err for file 2, and n is the answer
 abbrev pub result_of_write : State → (brk file buffer n : ℕ) → CallResult
 result_of_write s brk file buffer n =
-    Went (state_after_answer s n) brk (act_of (if file == 1 then Out else Err) (memory_at s buffer n))
+    Went (state_after_answer s n) brk (io_of (if file == 1 then Out else Err) (memory_at s buffer n))
 
 -- the break that stands after it was asked to be at an address: it moves where that is within its bounds
 abbrev pub break_after : (low high brk address : ℕ) → ℕ

@@ -1,8 +1,8 @@
 -- All that a run changes: the state, what the calls keep, the devices, and the count of steps.
 use Rattle.std.specs.Prelude.{◌≡◌, ℕ, Bool, IsTrue, MatchBool, List, [], Option, Some, None}
 use Rattle.asc_model.specs.State.{State}
-use Rattle.asc_shape.specs.Outside.{Rose, Takes, IsAtEnd, Given, given_after}
-use Rattle.asc_calls.specs.GuestCall.{Act}
+use Rattle.asc_shape.specs.Outside.{one_more, Takes, IsAtEnd, Given, given_after}
+use Rattle.asc_calls.specs.GuestCall.{Io}
 
 -- What the calls of one run keep: the bounds of the program's break, the break, and whether the end of the input was
 -- found.
@@ -25,26 +25,26 @@ outside left out err steps = record { left = left; out = out; err = err; steps =
 
 pub record World : Type 0 where
   pub state : State
-  pub kept : CallState
+  pub calls : CallState
   pub outside : Outside
   pub open outside use *
 
 abbrev pub world : State → CallState → Option (List ℕ) → Given → Given → ℕ → World
-world state kept left out err steps = record {
+world state calls left out err steps = record {
   state = state;
-  kept = kept;
+  calls = calls;
   outside = record { left = left; out = out; err = err; steps = steps };
 }
 
--- the devices took and were given just this
-pub record Acts (old new : Outside) (act : Act) : Type 0 where
-  pub taken : Takes old.left new.left act.taken
-  pub out : new.out ≡ given_after old.out act.out
-  pub err : new.err ≡ given_after old.err act.err
+-- from old to new just this was taken from the input, and put to out and to err
+pub record DoesIo (old new : Outside) (io : Io) : Type 0 where
+  pub taken : Takes old.left new.left io.taken
+  pub out : new.out ≡ given_after old.out io.out
+  pub err : new.err ≡ given_after old.err io.err
 
--- a count of faults rose where its device is blamed, and else it stays
+-- a count of faults rises by one where its device is blamed, and else it stays
 pub record Blames (blamed : Type 0) (before now : ℕ) : Type 0 where
-  pub rose : blamed → Rose before now
+  pub rose : blamed → now ≡ one_more before
   pub stays : ¬ blamed → now ≡ before
 
 -- an input that agrees with what is told
@@ -54,8 +54,8 @@ Agrees None left = Unit {0}
 
 -- the input that calls may still meet: none once its end was found, else one that agrees with what is told
 abbrev pub MayCome : World → List ℕ → Type 0
-MayCome w rest = MatchBool w.kept.ended (rest ≡ []) (Agrees w.left rest)
+MayCome w rest = MatchBool w.calls.ended (rest ≡ []) (Agrees w.left rest)
 
 -- where the end of the input was found, no byte is left
 abbrev pub KnowsEnd : World → Type 0
-KnowsEnd w = IsTrue w.kept.ended → IsAtEnd w.left
+KnowsEnd w = IsTrue w.calls.ended → IsAtEnd w.left

@@ -59,7 +59,7 @@ impl Calls {
         }
     }
 
-    /// Serves the call that a state stands at. It takes no memory.
+    /// Serves the call that a state stands at. No allocator is handed in.
     ///
     /// Served are read (63) of file 0, write (64) to files 1 and 2, exit (93), exit_group (94) and brk (214). Every
     /// other number answers -38 (ENOSYS). Read and write answer -9 (EBADF) for another file and -14 (EFAULT) for a
@@ -83,7 +83,7 @@ impl Calls {
         // Once the end of the input was found, the source is not asked.
         ensures unasked { IsTrue self.old.ended → input.new ≡ input.old }
 
-        // A device's count of faults rises where the answer blames it, and else it stays.
+        // A device's count of faults rises by one where the answer blames it, and else it stays.
         ensures input_faults { Blames (result ≡ Served.ReadFault) (I.faults input.old) (I.faults input.new) }
         ensures out_faults { Blames (result ≡ Served.WriteFault) (O.faults out.old) (O.faults out.new) }
         ensures err_faults { Blames (result ≡ Served.ErrFault) (E.faults err.old) (E.faults err.new) }
@@ -152,7 +152,7 @@ impl Calls {
         if self.ended {
             return Ok(0);
         }
-        let count = fill(input, state.mem_mut(buffer, n))? as u32;
+        let count = fill(input, state, buffer, n)?;
         self.ended = count < n;
         Ok(count)
     }
@@ -177,9 +177,9 @@ fn write<O: Sink, E: Sink, L: Ledger>(
     steps: &mut Steps<L>,
 ) -> Served
     requires { register (view_of state.old) 17 ≡ 64 }
-    ensures served { (kept : CallState) (left : Option (List ℕ)) → Serves
-        (world state.old kept left (O.given out.old) (E.given err.old) steps.old)
-        (world state.new kept left (O.given out.new) (E.given err.new) steps.new)
+    ensures served { (calls : CallState) (left : Option (List ℕ)) → Serves
+        (world state.old calls left (O.given out.old) (E.given err.old) steps.old)
+        (world state.new calls left (O.given out.new) (E.given err.new) steps.new)
         result }
     ensures out_faults { Blames (result ≡ Served.WriteFault) (O.faults out.old) (O.faults out.new) }
     ensures err_faults { Blames (result ≡ Served.ErrFault) (E.faults err.old) (E.faults err.new) }

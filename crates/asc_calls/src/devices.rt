@@ -1,25 +1,33 @@
 //! What calls do with a device: a source may give fewer bytes than are asked for, and a sink may take fewer than it is
 //! offered.
 
-ghost use Rattle.std.specs.Prelude.{◌≡◌, ◌<◌, IfOk, OnOk, OnErr, length};
-ghost use Rattle.asc_model.specs.Number.{AreBytes};
+ghost use Rattle.std.specs.Prelude.{◌≡◌, ◌<◌, IsTrue, IfOk, OnOk, OnErr, length};
+ghost use Rattle.asc_model.specs.Shape.{holds};
 ghost use Rattle.asc_shape.specs.Outside.{HasCause, IsAtEnd, given_after};
 ghost use Rattle.asc_calls.specs.Filling.{Fills, FillsPart, PutsPart};
 
-use asc_shape::{Failed, Sink, Source};
+use asc_shape::{Failed, Sink, Source, State};
 
-/// Takes bytes to the front of a buffer until it is full, or the end of the input is found, and tells how many.
-pub(crate) fn fill<I: Source>(input: &mut I, buffer: &mut [u8]) -> Result<usize, Failed>
+/// Takes bytes of a source into memory, where a buffer of n bytes begins, until it is full, or the end of the input is
+/// found, and tells how many. Where n is 0 the source is not asked.
+pub(crate) fn fill<I: Source>(
+    input: &mut I,
+    state: &mut State,
+    buffer: u32,
+    n: u32,
+) -> Result<u32, Failed>
+    requires { IsTrue (holds state.old.shape buffer n) }
     ensures fills { IfOk result
-        (λ count. Fills (I.left input.old) (I.left input.new) buffer.old buffer.new count) }
-    ensures end { IfOk result (λ count. count < length buffer.old → IsAtEnd (I.left input.new)) }
-    ensures part { OnErr result (FillsPart (I.left input.old) (I.left input.new) buffer.old buffer.new) }
+        (λ count. Fills (I.left input.old) (I.left input.new) state.old state.new buffer n count) }
+    ensures end { IfOk result (λ count. count < n → IsAtEnd (I.left input.new)) }
+    ensures part { OnErr result (FillsPart (I.left input.old) (I.left input.new) state.old state.new buffer n) }
     ensures cause { HasCause (I.faults input.old) (I.faults input.new) result }
-    ensures bytes { AreBytes buffer.new }
 {
+    // The shape tells that this is a state, so that its memory holds the buffer.
+    let _ = state.shape();
     let mut filled = 0;
-    while filled < buffer.len() {
-        let count = input.take(&mut buffer[filled..])?;
+    while filled < n {
+        let count = take_once(input, state, buffer + filled, n - filled)?;
         if count == 0 {
             break;
         }
@@ -28,10 +36,30 @@ pub(crate) fn fill<I: Source>(input: &mut I, buffer: &mut [u8]) -> Result<usize,
     Ok(filled)
 }
 
+/// Asks a source once for bytes, at most n, takes them into memory from an address on, and tells how many.
+///
+/// Where the source fails, nothing is taken, and the state stays.
+fn take_once<I: Source>(input: &mut I, state: &mut State, at: u32, n: u32) -> Result<u32, Failed>
+    requires within { IsTrue (holds state.old.shape at n) }
+    requires some { 0 < n }
+    ensures fills { IfOk result
+        (λ count. Fills (I.left input.old) (I.left input.new) state.old state.new at n count) }
+    ensures end { result ≡ Ok 0 → IsAtEnd (I.left input.new) }
+    ensures nothing { OnErr result (I.left input.new ≡ I.left input.old) }
+    ensures stays { OnErr result (state.new ≡ state.old) }
+    ensures cause { HasCause (I.faults input.old) (I.faults input.new) result }
+{
+    // The shape tells that this is a state, before the call and after it.
+    let _ = state.shape();
+    let count = state.take_in(at, n, input)? as u32;
+    let _ = state.shape();
+    Ok(count)
+}
+
 /// Puts all bytes of a piece to a sink, which may take fewer than it is offered, and is then asked again for the rest.
 ///
-/// Where the sink fails, it was given the first bytes of the piece, and not all. Where the piece is empty the sink isn't
-/// asked.
+/// Where the sink fails, it was given the first bytes of the piece, and not all. Where the piece is empty the sink is
+/// not asked.
 pub fn put_all<S: Sink>(sink: &mut S, piece: &[u8]) -> Result<(), Failed>
     ensures all { OnOk result (S.given sink.new ≡ given_after (S.given sink.old) piece.now) }
     ensures part { OnErr result (PutsPart (S.given sink.old) (S.given sink.new) piece.now) }

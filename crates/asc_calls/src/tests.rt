@@ -180,11 +180,12 @@ fn read_call(rt: HostRuntime) {
     }
 }
 
-/// Reads four bytes, and gives the answer, the pc and x10, and the buffer.
-fn read_four<L: Ledger, R: Abort>(
+/// Reads n bytes, and gives the answer, the pc and x10, and the buffer.
+fn read_one<L: Ledger, R: Abort>(
     rt: &R,
     alloc: Global,
     blank: Blank,
+    n: u32,
     mut input: ListSource,
 ) -> (Served, (u32, u32), [u8; 4])
     requires name { blank.name ≡ L.name }
@@ -194,8 +195,27 @@ fn read_four<L: Ledger, R: Abort>(
     let mut guest = Guest::<L>::new(rt, alloc, blank, 65_536, 0x10000, [0xEE; 4]);
     let mut out = CountSink::new();
     let mut err = CountSink::new();
-    let served = guest.ask([READ, 0, BUFFER, 4], &mut input, &mut out, &mut err);
+    let served = guest.ask([READ, 0, BUFFER, n], &mut input, &mut out, &mut err);
     (served, guest.stands(), guest.buffer(rt))
+}
+
+#[test]
+fn asks_the_source(rt: HostRuntime) {
+    // How many bytes a call gives, the call that fails, and how many bytes are read. Then the answer, the pc and x10, and
+    // the buffer.
+    for (most, fails, n, answer, after, buffer) in [
+        // Where no byte is wanted the source is not asked.
+        (1, 1, 0, Served::Went, (0x10004, 0), [0xEE; 4]),
+        // A source that gives one byte a call is asked once for each, and not again.
+        (1, 5, 4, Served::Went, (0x10004, 4), *b"abcd"),
+        (8, 2, 4, Served::Went, (0x10004, 4), *b"abcd"),
+        (2, 1, 4, Served::ReadFault, (0x10000, 0), [0xEE; 4]),
+        (2, 2, 4, Served::ReadFault, (0x10000, 0), *b"ab\xEE\xEE"),
+    ] {
+        let input = source(&rt, rt.alloc(), b"abcdef", most, fails);
+        let got = read_one::<Brand, _>(&rt, rt.alloc(), Blank::new(1), n, input);
+        assert_eq!(rt; got, (answer, after, buffer), "{n} bytes, {most} a call");
+    }
 }
 
 /// Writes `Hi` and a line end to a file, and gives the answer, and the pc and x10.
@@ -218,16 +238,8 @@ fn says_hi<L: Ledger, R: Abort>(
 }
 
 #[test]
-fn failing_devices(rt: HostRuntime) {
+fn asks_the_sinks(rt: HostRuntime) {
     let alloc = rt.alloc();
-    // The call of the source that fails, and then the buffer.
-    for (fails, buffer) in [(1, [0xEE; 4]), (2, [b'a', b'b', 0xEE, 0xEE])] {
-        let input = source(&rt, alloc, b"abcd", 2, fails);
-        let (served, stands, got) = read_four::<Brand, _>(&rt, alloc, Blank::new(1), input);
-        assert_eq!(rt; served, Served::ReadFault);
-        assert_eq!(rt; stands, (0x10000, 0));
-        assert_eq!(rt; got, buffer);
-    }
     // The file, the room, the call that fails, and then the answer, the pc and x10, out and err.
     let cases: [(u32, usize, u64, Served, (u32, u32), &[u8], &[u8]); 7] = [
         (1, 3, 0, Served::Went, (0x10004, 3), b"Hi\n", b""),

@@ -1,37 +1,35 @@
 //! The program: the words of its command line are run over the files and the standard streams of the system.
 #![tactic(auto)]
 
-ghost use Rattle.std.specs.Prelude.{◌≡◌, ◌≢◌, ◌⊎◌, ◌<◌, map, None, IfErr};
+ghost use Rattle.std.specs.Prelude.{◌≡◌, ◌≢◌, ◌⊎◌, ◌<◌, map, IfErr};
 ghost use Rattle.std.specs.Process.{exit_status};
 ghost use Rattle.std.specs.String.{string_bytes};
-ghost use Rattle.asc_top.specs.Program.{Answer};
+ghost use Rattle.asc_calls.specs.World.{outside};
+ghost use Rattle.asc_top.specs.Program.{Answer, devices};
 ghost use Rattle.asc_top.specs.Answer.{code_of};
-ghost use Rattle.asc_top.specs.Line.{line_of};
+ghost use Rattle.asc_cli.specs.Status.{IsReported, IsStatus, IsStatusOver};
 
-mod sink;
-mod source;
-mod store;
-#[cfg(test)]
-mod tests;
-
-use asc_shape::{Open, Steps};
+use asc_shape::{Gate, Open, Sink, Source, Steps, Store};
+use asc_streams::{FileStore, StreamSink, StreamSource};
 use asc_top::{Answer, Bad, reported, top};
-use sink::StreamSink;
-use source::StreamSource;
+use std::alloc::Global;
 use std::env;
 use std::io::ErrorKind;
 use std::marker::Brand;
 use std::process::ExitCode;
 use std::sync::ledger::{Blank, Ledger};
-use store::FileStore;
 
 fn main(rt: HostRuntime) -> ExitCode {
-    match words(&rt) {
-        Ok(words) => run::<Brand>(&rt, &words, Blank::new(1)),
-        Err(refusal) => {
-            let mut report = StreamSink::new(rt.stderr());
-            ExitCode::from(reported(refusal, &mut report).code())
-        }
+    program(&rt)
+}
+
+/// Runs the command line over the system, and gives the exit status.
+fn program(rt: &HostRuntime) -> ExitCode
+    ensures { (answer : Answer) × (exit_status result ≡ code_of answer) }
+{
+    match words(rt) {
+        Ok(words) => run::<Brand>(rt, &words, Blank::new(1)),
+        Err(refusal) => refuse(refusal, &mut StreamSink::new(rt.stderr())),
     }
 }
 
@@ -46,32 +44,55 @@ fn words(rt: &HostRuntime) -> Result<Vec<String>, Answer>
     }
 }
 
+/// Reports an answer to words that were not read, and gives the exit status.
+fn refuse<R: Sink>(refusal: Answer, report: &mut R) -> ExitCode
+    requires { refusal ≢ Answer.ReportFault }
+    ensures { IsReported (record { given = R.given report.old; faults = R.faults report.old })
+        (record { given = R.given report.new; faults = R.faults report.new }) refusal (exit_status result) }
+{
+    ExitCode::from(reported(refusal, report).code())
+}
+
 /// Runs the words over the system, and gives the exit status. The ledger is the one that counts the guest's steps.
 fn run<L: Ledger>(rt: &HostRuntime, words: &[String], blank: Blank) -> ExitCode
     requires name { blank.name ≡ L.name }
     requires parts { blank.parts ≡ L.parts }
     requires some { 0 < L.parts }
-    // The status is the code of an answer, which is that for wrong words where they are wrong.
-    ensures { (answer : Answer) × (exit_status result ≡ code_of answer)
-        × (line_of (map string_bytes words.now) ≡ None → answer ≢ Answer.Memory → answer ≢ Answer.ReportFault
-        → answer ≡ Answer.Usage Bad.Words) }
+    ensures { IsStatusOver (map string_bytes words.now) (exit_status result) }
 {
-    let mut store = FileStore::new(rt);
-    let mut input = StreamSource::new(rt.stdin());
-    let mut out = StreamSink::new(rt.stdout());
-    let mut err = StreamSink::new(rt.stderr());
-    let mut report = StreamSink::new(rt.stderr());
-    let mut steps = Steps::<L>::new(blank);
-    let answer = top(
+    status(
         rt.alloc(),
         words,
-        &mut store,
-        &mut input,
-        &mut out,
-        &mut err,
-        &mut report,
+        &mut FileStore::new(rt),
+        &mut StreamSource::new(rt.stdin()),
+        &mut StreamSink::new(rt.stdout()),
+        &mut StreamSink::new(rt.stderr()),
+        &mut StreamSink::new(rt.stderr()),
         &Open,
-        &mut steps,
-    );
-    ExitCode::from(answer.code())
+        &mut Steps::<L>::new(blank),
+    )
+}
+
+/// Runs the words over an outside that is handed in, and gives the exit status.
+fn status<F: Store, I: Source, O: Sink, E: Sink, R: Sink, G: Gate, L: Ledger>(
+    alloc: Global,
+    words: &[String],
+    store: &mut F,
+    input: &mut I,
+    out: &mut O,
+    err: &mut E,
+    report: &mut R,
+    gate: &G,
+    steps: &mut Steps<L>,
+) -> ExitCode
+    // All that holds of the program's answer holds of the one whose code is the status.
+    ensures { IsStatus (map string_bytes words.now)
+        (devices (F.files store.old) (F.asked store.old) (outside (I.left input.old) (O.given out.old) (E.given err.old) steps.old)
+        (F.faults store.old) (I.faults input.old) (O.faults out.old) (E.faults err.old))
+        (devices (F.files store.new) (F.asked store.new) (outside (I.left input.new) (O.given out.new) (E.given err.new) steps.new)
+        (F.faults store.new) (I.faults input.new) (O.faults out.new) (E.faults err.new))
+        (record { given = R.given report.old; faults = R.faults report.old })
+        (record { given = R.given report.new; faults = R.faults report.new }) (exit_status result) }
+{
+    ExitCode::from(top(alloc, words, store, input, out, err, report, gate, steps).code())
 }

@@ -10,7 +10,7 @@ use Rattle.asc_model.specs.State.{State}
 use Rattle.asc_model.specs.Step.{Next, At, Call, Bad, next}
 use Rattle.asc_model.specs.Plain.{plain}
 use Rattle.asc_model.specs.Places.{places_read, places_written, writes}
-use Rattle.asc_model.specs.Touched.{is_among, without, first_reads, written_in}
+use Rattle.asc_model.specs.DependencyVector.{is_among, without, first_reads, written_in}
 use Rattle.asc_model.proofs.Numbers.{length-bytes_after}
 use Rattle.asc_model.proofs.PlainSteps.{plain-none, plain-first}
 use Rattle.asc_shape.specs.Face.{Face, Marks, Untold, Told, status_at, status_after_read, status_after_write, marks_after, face_after_read, face_after_put, face_after_reads, face_after_puts}
@@ -180,17 +180,17 @@ no_statuses start place = status_by-after _ _ ∙ after_steps-none start place U
 
 abbrev statuses_of : Marks → List Status
 statuses_of Untold = []
-statuses_of (Told statuses touched) = statuses
+statuses_of (Told cap statuses touched) = statuses
 
 length-marked : (change : Status → Status) (marks : Marks) (place byte : ℕ) → length (statuses_of (marks_after change marks place byte)) ≡ length (statuses_of marks)
 length-marked change Untold place byte = refl
-length-marked change (Told statuses touched) place byte = length-set statuses place (change (status_at statuses place))
+length-marked change (Told cap statuses touched) place byte = length-set statuses place (change (status_at statuses place))
 
 -- the status of a place after a touch of the same or another one
 marked : (change : Status → Status) (marks : Marks) (place byte k : ℕ) → k < length (statuses_of marks)
     → status_at (statuses_of (marks_after change marks place byte)) k ≡ (if place == k then change (status_at (statuses_of marks) k) else status_at (statuses_of marks) k)
 marked change Untold place byte k within = absurd (omega arith)
-marked change (Told statuses touched) place byte k within =
+marked change (Told cap statuses touched) place byte k within =
     let changed : Status = change (status_at statuses place) in
     let either : Bool → Status = λ b. if b then change (status_at statuses k) else status_at statuses k in
     elim (cases_eq k place) [

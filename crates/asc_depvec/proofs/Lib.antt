@@ -7,3 +7,4 @@ pub mod Starts
 pub mod Dependencies
 pub mod Limits
 pub mod Words
+pub mod NewWords

@@ -8,6 +8,10 @@ use Rattle.asc_model.specs.declared.status.Status.{Status}
 use Rattle.asc_model.specs.declared.status.Status.TheVariants.{Untouched, Read, Written, ReadWritten}
 use Rattle.asc_shape.specs.Face.{Told, FitPlaces, status_at, is_untouched, status_after_read, status_after_write}
 
+-- that marks fit their places, which their cap has no part in
+abbrev pub Fits : ℕ → List Status → List (ℕ × ℕ) → Type 0
+Fits n statuses touched = FitPlaces n (Told 0 statuses touched)
+
 -- how often a place is listed
 abbrev pub times : ℕ → List (ℕ × ℕ) → ℕ
 times place touched = count_by (λ noted. noted.0 == place) touched
@@ -62,8 +66,8 @@ times-touched_other touched place byte k false other = refl
 
 -- marks that fit their places do so after a touch of a place
 pub FitPlaces-touch : (n : ℕ) (statuses : List Status) (touched : List (ℕ × ℕ)) (place byte : ℕ) (after : Status) → place < n → is_untouched after ≡ false
-    → FitPlaces n (Told statuses touched)
-    → FitPlaces n (Told (slice_set statuses place after) (if is_untouched (status_at statuses place) then touched ++ (place, byte) ∷ [] else touched))
+    → Fits n statuses touched
+    → Fits n (slice_set statuses place after) (if is_untouched (status_at statuses place) then touched ++ (place, byte) ∷ [] else touched)
 FitPlaces-touch n statuses touched place byte after within touches fits =
     let before = is_untouched (status_at statuses place) in
     let here : place < length statuses = omega (arith, fits.0) in (
@@ -78,7 +82,7 @@ FitPlaces-touch n statuses touched place byte after within touches fits =
     )
 
 -- a place that is listed is one of the places
-pub listed_within : (n : ℕ) (statuses : List Status) (touched : List (ℕ × ℕ)) (place : ℕ) → FitPlaces n (Told statuses touched) → 1 ≤ times place touched → place < n
+pub listed_within : (n : ℕ) (statuses : List Status) (touched : List (ℕ × ℕ)) (place : ℕ) → Fits n statuses touched → 1 ≤ times place touched → place < n
 listed_within n statuses touched place fits listed = elim (cases_lt place n) [
   | inl within ↦ within
   | inr past ↦
@@ -87,7 +91,7 @@ listed_within n statuses touched place fits listed = elim (cases_lt place n) [
 ]
 
 -- the place that is listed last is one of the places
-pub last_within : (n : ℕ) (statuses : List Status) (touched : List (ℕ × ℕ)) (noted : ℕ × ℕ) → FitPlaces n (Told statuses (touched ++ noted ∷ [])) → noted.0 < n
+pub last_within : (n : ℕ) (statuses : List Status) (touched : List (ℕ × ℕ)) (noted : ℕ × ℕ) → Fits n statuses (touched ++ noted ∷ []) → noted.0 < n
 last_within n statuses touched noted fits =
     listed_within n statuses (touched ++ noted ∷ []) noted.0 fits (omega (arith, times-last_same noted.0 noted.1 touched))
 
@@ -104,8 +108,8 @@ times-once true count e = omega arith
 times-once false count e = omega arith
 
 -- marks that fit their places do so once the last touch is taken back
-pub FitPlaces-cut : (n : ℕ) (statuses : List Status) (touched : List (ℕ × ℕ)) (noted : ℕ × ℕ) → FitPlaces n (Told statuses (touched ++ noted ∷ []))
-    → FitPlaces n (Told (slice_set statuses noted.0 Untouched) touched)
+pub FitPlaces-cut : (n : ℕ) (statuses : List Status) (touched : List (ℕ × ℕ)) (noted : ℕ × ℕ) → Fits n statuses (touched ++ noted ∷ [])
+    → Fits n (slice_set statuses noted.0 Untouched) touched
 FitPlaces-cut n statuses touched noted fits = (
   length-set statuses noted.0 Untouched ∙ fits.0,
   λ k. elim (cases_eq k noted.0) [

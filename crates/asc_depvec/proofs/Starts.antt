@@ -8,10 +8,10 @@ use Rattle.asc_model.specs.declared.status.Status.{Status}
 use Rattle.asc_model.specs.State.{State}
 use Rattle.asc_model.specs.Places.{bytes_after}
 use Rattle.asc_model.proofs.Numbers.{bytes_after-append}
-use Rattle.asc_shape.specs.Face.{Face, Marks, Told, FitPlaces, status_at, is_untouched, status_after_read, status_after_write, marks_after, face_after_read, face_after_put, face_after_reads, face_after_puts}
-use Rattle.asc_depvec.specs.Tracer.{face_of, start_of_face}
+use Rattle.asc_shape.specs.Face.{Face, Marks, Told, status_at, is_untouched, status_after_read, status_after_write, marks_after, face_after_read, face_after_put, face_after_reads, face_after_puts}
+use Rattle.asc_depvec.specs.Tracer.{cap_of, face_of, start_of_face}
 use Rattle.asc_depvec.specs.Laws.{StartsStay, StartsAreTold}
-use Rattle.asc_depvec.proofs.Marking.{times, times-first, times-first_other, FitPlaces-touch, touched-after_read, touched-after_write, listed_within, times-once}
+use Rattle.asc_depvec.proofs.Marking.{Fits, times, times-first, times-first_other, FitPlaces-touch, touched-after_read, touched-after_write, listed_within, times-once}
 
 -- a place that is listed first is listed
 times-first_here : (noted : ℕ × ℕ) (list : List (ℕ × ℕ)) → times noted.0 (noted ∷ list) ≡ times noted.0 list + 1
@@ -87,11 +87,12 @@ start_put bytes touched place byte false count = written_over bytes touched plac
 
 -- a face that tells marks, which fit it, and started from this state
 record StartsFrom (start : State) (n : ℕ) (f : Face) : Type 0 where
+  pub cap : ℕ
   pub statuses : List Status
   pub touched : List (ℕ × ℕ)
-  pub told : f.marks ≡ Told statuses touched
+  pub told : f.marks ≡ Told cap statuses touched
   pub size : length f.state.bytes ≡ n
-  pub fits : FitPlaces n (Told statuses touched)
+  pub fits : Fits n statuses touched
   pub begin : start_of_face f ≡ start
 
 after_read : (start : State) (n : ℕ) (f : Face) (place : ℕ) → place < n → StartsFrom start n f → StartsFrom start n (face_after_read f place)
@@ -99,10 +100,11 @@ unfolding face_after_read
 after_read start n f place within from =
     let status = status_at from.statuses place in
     let byte = slice_index f.state.bytes place in
-    let marks : (face_after_read f place).marks ≡ Told (slice_set from.statuses place (status_after_read status))
+    let marks : (face_after_read f place).marks ≡ Told from.cap (slice_set from.statuses place (status_after_read status))
     (if is_untouched status then from.touched ++ (place, byte) ∷ [] else from.touched) =
     ap (λ (m : Marks). marks_after status_after_read m place byte) from.told in
     record {
+      cap = from.cap;
       statuses = slice_set from.statuses place (status_after_read status);
       touched = if is_untouched status then from.touched ++ (place, byte) ∷ [] else from.touched;
       told = marks;
@@ -120,10 +122,11 @@ after_put start n f place byte within from =
     let status = status_at from.statuses place in
     let before = slice_index f.state.bytes place in
     let state : State = record f.state { bytes = slice_set f.state.bytes place byte } in
-    let marks : (face_after_put f place byte).marks ≡ Told (slice_set from.statuses place (status_after_write status))
+    let marks : (face_after_put f place byte).marks ≡ Told from.cap (slice_set from.statuses place (status_after_write status))
     (if is_untouched status then from.touched ++ (place, before) ∷ [] else from.touched) =
     ap (λ (m : Marks). marks_after status_after_write m place before) from.told in
     record {
+      cap = from.cap;
       statuses = slice_set from.statuses place (status_after_write status);
       touched = if is_untouched status then from.touched ++ (place, before) ∷ [] else from.touched;
       told = marks;
@@ -153,7 +156,7 @@ pub starts_stay : StartsStay
 starts_stay t places cells fits reads puts =
     let n = length t.state.bytes in
     let start = start_of_face (face_of t) in
-    let first : StartsFrom start n (face_of t) = record { statuses = t.statuses; touched = t.touched; told = refl; size = refl; fits = fits; begin = refl } in
+    let first : StartsFrom start n (face_of t) = record { cap = cap_of t; statuses = t.statuses; touched = t.touched; told = refl; size = refl; fits = fits; begin = refl } in
     (after_puts start n _ cells puts (after_reads start n (face_of t) places reads first)).begin
 
 -- ---- what a tracer tells of its start

@@ -5,19 +5,19 @@ use Rattle.asc_model.specs.declared.status.Status.{Status}
 use Rattle.asc_model.specs.declared.status.Status.TheVariants.{Untouched, Read, Written, ReadWritten}
 use Rattle.asc_model.specs.State.{State}
 use Rattle.asc_shape.specs.Face.{Face, Marks, Untold, Told, status_at, is_untouched, status_after_read, face_after_read, face_after_reads}
-use Rattle.asc_depvec.specs.Tracer.{face_of, untouch}
+use Rattle.asc_depvec.specs.Tracer.{cap_of, face_of, untouch}
 use Rattle.asc_depvec.specs.Laws.{ReadsAreUndone}
 use Rattle.asc_depvec.proofs.Marking.{untouched_is}
 use Rattle.asc_depvec.proofs.Undoing.{untouch-append}
 
-abbrev told : State → List Status → List (ℕ × ℕ) → Face
-told state statuses touched = record { state = state; marks = Told statuses touched }
+abbrev told : State → (cap : ℕ) → List Status → List (ℕ × ℕ) → Face
+told state cap statuses touched = record { state = state; marks = Told cap statuses touched }
 
 -- a face to which reads lead: more places are listed, and these untouched again leave the statuses from before
-record IsReadFrom (state : State) (statuses : List Status) (touched : List (ℕ × ℕ)) (f : Face) : Type 0 where
+record IsReadFrom (state : State) (cap : ℕ) (statuses : List Status) (touched : List (ℕ × ℕ)) (f : Face) : Type 0 where
   pub later : List Status
   pub fresh : List (ℕ × ℕ)
-  pub face : f ≡ told state later (touched ++ fresh)
+  pub face : f ≡ told state cap later (touched ++ fresh)
   pub back : untouch later fresh ≡ statuses
 
 -- a read of a place that is touched leaves its status
@@ -28,9 +28,9 @@ after_read_touched Written e = refl
 after_read_touched ReadWritten e = refl
 
 -- one read
-read_by : (state : State) (statuses : List Status) (touched : List (ℕ × ℕ)) (place byte : ℕ) (b : Bool) → is_untouched (status_at statuses place) ≡ b
-    → IsReadFrom state statuses touched (told state (slice_set statuses place (status_after_read (status_at statuses place))) (if b then touched ++ (place, byte) ∷ [] else touched))
-read_by state statuses touched place byte true e = record {
+read_by : (state : State) (cap : ℕ) (statuses : List Status) (touched : List (ℕ × ℕ)) (place byte : ℕ) (b : Bool) → is_untouched (status_at statuses place) ≡ b
+    → IsReadFrom state cap statuses touched (told state cap (slice_set statuses place (status_after_read (status_at statuses place))) (if b then touched ++ (place, byte) ∷ [] else touched))
+read_by state cap statuses touched place byte true e = record {
   later = slice_set statuses place (status_after_read (status_at statuses place));
   fresh = (place, byte) ∷ [];
   face = refl;
@@ -38,54 +38,54 @@ read_by state statuses touched place byte true e = record {
       ∙ ap (λ (s : Status). slice_set statuses place s) (sym (untouched_is (status_at statuses place) e))
       ∙ set-get_or statuses place Untouched;
 }
-read_by state statuses touched place byte false e = record {
+read_by state cap statuses touched place byte false e = record {
   later = slice_set statuses place (status_after_read (status_at statuses place));
   fresh = [];
-  face = ap (told state (slice_set statuses place (status_after_read (status_at statuses place)))) (sym (append-nil touched));
+  face = ap (told state cap (slice_set statuses place (status_after_read (status_at statuses place)))) (sym (append-nil touched));
   back = ap (λ (s : Status). slice_set statuses place s) (after_read_touched (status_at statuses place) e) ∙ set-get_or statuses place Untouched;
 }
 
-read_once : (state : State) (statuses : List Status) (touched : List (ℕ × ℕ)) (place : ℕ) → IsReadFrom state statuses touched (face_after_read (told state statuses touched) place)
+read_once : (state : State) (cap : ℕ) (statuses : List Status) (touched : List (ℕ × ℕ)) (place : ℕ) → IsReadFrom state cap statuses touched (face_after_read (told state cap statuses touched) place)
 unfolding face_after_read
-read_once state statuses touched place = read_by state statuses touched place (slice_index state.bytes place) (is_untouched (status_at statuses place)) refl
+read_once state cap statuses touched place = read_by state cap statuses touched place (slice_index state.bytes place) (is_untouched (status_at statuses place)) refl
 
 -- one read more
-read_more : (state : State) (statuses : List Status) (touched : List (ℕ × ℕ)) (f : Face) (place : ℕ) → IsReadFrom state statuses touched f → IsReadFrom state statuses touched (face_after_read f place)
-read_more state statuses touched f place before =
-    let once = read_once state before.later (touched ++ before.fresh) place in
+read_more : (state : State) (cap : ℕ) (statuses : List Status) (touched : List (ℕ × ℕ)) (f : Face) (place : ℕ) → IsReadFrom state cap statuses touched f → IsReadFrom state cap statuses touched (face_after_read f place)
+read_more state cap statuses touched f place before =
+    let once = read_once state cap before.later (touched ++ before.fresh) place in
     record {
       later = once.later;
       fresh = before.fresh ++ once.fresh;
-      face = ap (λ (g : Face). face_after_read g place) before.face ∙ once.face ∙ ap (told state once.later) (append_assoc touched before.fresh once.fresh);
+      face = ap (λ (g : Face). face_after_read g place) before.face ∙ once.face ∙ ap (told state cap once.later) (append_assoc touched before.fresh once.fresh);
       back = untouch-append once.later before.fresh once.fresh ∙ ap (λ (list : List Status). untouch list before.fresh) once.back ∙ before.back;
     }
 
-read_all : (state : State) (statuses : List Status) (touched : List (ℕ × ℕ)) (f : Face) (places : List ℕ) → IsReadFrom state statuses touched f → IsReadFrom state statuses touched (face_after_reads f places)
+read_all : (state : State) (cap : ℕ) (statuses : List Status) (touched : List (ℕ × ℕ)) (f : Face) (places : List ℕ) → IsReadFrom state cap statuses touched f → IsReadFrom state cap statuses touched (face_after_reads f places)
 unfolding face_after_reads
-read_all state statuses touched f [] before = before
-read_all state statuses touched f (place ∷ places) before = read_all state statuses touched (face_after_read f place) places (read_more state statuses touched f place before)
+read_all state cap statuses touched f [] before = before
+read_all state cap statuses touched f (place ∷ places) before = read_all state cap statuses touched (face_after_read f place) places (read_more state cap statuses touched f place before)
 
 -- what taking back makes of a face
 undone_marks : Marks → ℕ → Marks
 undone_marks Untold mark = Untold
-undone_marks (Told statuses touched) mark = Told (untouch statuses (drop mark touched)) (take mark touched)
+undone_marks (Told cap statuses touched) mark = Told cap (untouch statuses (drop mark touched)) (take mark touched)
 
 undone_face : Face → ℕ → Face
 undone_face f mark = record f { marks = undone_marks f.marks mark }
 
-undone_read : (state : State) (statuses : List Status) (touched : List (ℕ × ℕ)) (f : Face) → IsReadFrom state statuses touched f → undone_face f (length touched) ≡ told state statuses touched
+undone_read : (state : State) (cap : ℕ) (statuses : List Status) (touched : List (ℕ × ℕ)) (f : Face) → IsReadFrom state cap statuses touched f → undone_face f (length touched) ≡ told state cap statuses touched
 unfolding undone_face undone_marks
-undone_read state statuses touched f read =
+undone_read state cap statuses touched f read =
     ap (λ (g : Face). undone_face g (length touched)) read.face
-    ∙ ap (λ (list : List (ℕ × ℕ)). told state (untouch read.later list) (take (length touched) (touched ++ read.fresh))) (drop_at touched read.fresh (length touched) refl)
-    ∙ ap (told state (untouch read.later read.fresh)) (take_at touched read.fresh (length touched) refl)
-    ∙ ap (λ (list : List Status). told state list touched) read.back
+    ∙ ap (λ (list : List (ℕ × ℕ)). told state cap (untouch read.later list) (take (length touched) (touched ++ read.fresh))) (drop_at touched read.fresh (length touched) refl)
+    ∙ ap (told state cap (untouch read.later read.fresh)) (take_at touched read.fresh (length touched) refl)
+    ∙ ap (λ (list : List Status). told state cap list touched) read.back
 
 pub reads_are_undone : ReadsAreUndone
 unfolding undone_face undone_marks
 reads_are_undone marked now places e =
-    let nothing : IsReadFrom marked.state marked.statuses marked.touched (face_of marked) =
-    record { later = marked.statuses; fresh = []; face = ap (told marked.state marked.statuses) (sym (append-nil marked.touched)); back = refl } in
+    let nothing : IsReadFrom marked.state (cap_of marked) marked.statuses marked.touched (face_of marked) =
+    record { later = marked.statuses; fresh = []; face = ap (told marked.state (cap_of marked) marked.statuses) (sym (append-nil marked.touched)); back = refl } in
     ap (λ (f : Face). undone_face f (length marked.touched)) e
-    ∙ undone_read marked.state marked.statuses marked.touched (face_after_reads (face_of marked) places)
-    (read_all marked.state marked.statuses marked.touched (face_of marked) places nothing)
+    ∙ undone_read marked.state (cap_of marked) marked.statuses marked.touched (face_after_reads (face_of marked) places)
+    (read_all marked.state (cap_of marked) marked.statuses marked.touched (face_of marked) places nothing)

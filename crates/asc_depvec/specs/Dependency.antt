@@ -4,7 +4,7 @@ use Rattle.std.specs.Prelude.{ℕ, Bool, true, false}
 use Rattle.asc_model.specs.declared.status.Status.{Status}
 use Rattle.asc_model.specs.declared.status.Status.TheVariants.{Untouched, Read, Written, ReadWritten}
 use Rattle.asc_model.specs.State.{State}
-use Rattle.asc_model.specs.Touched.{is_among, first_reads, written_in}
+use Rattle.asc_model.specs.DependencyVector.{is_among, first_reads, written_in}
 
 -- the status of a place, by whether it was read before it was written, and whether it was written
 abbrev pub status_by : (read written : Bool) → Status

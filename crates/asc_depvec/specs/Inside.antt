@@ -1,11 +1,20 @@
--- How a tracer's fields stand for a tracer, and a word of private contracts.
-use Rattle.std.specs.Prelude.{◌≡◌, ℕ, ◌≤◌, false, List, [], ◌∷◌, length, replicate, slice_set, vec_capacity, if◌then◌else◌}
+-- How a tracer's fields stand for a tracer, and words of private contracts.
+use Rattle.std.specs.Prelude.{◌≡◌, ℕ, zero, suc, ◌+◌, ◌<◌, ◌≤◌, false, ◌==◌, List, [], length, map, replicate, slice_set, All, vec_capacity, if◌then◌else◌}
 use Rattle.asc_model.specs.declared.status.Status.{Status}
-use Rattle.asc_model.specs.declared.status.Status.TheVariants.{Untouched}
-use Rattle.asc_model.specs.Shape.{length_of}
-use Rattle.asc_shape.specs.Face.{Told, FitPlaces, status_at, status_after_write}
+use Rattle.asc_model.specs.declared.status.Status.TheVariants.{Untouched, Read, Written, ReadWritten}
+use Rattle.asc_model.specs.Shape.{length_of, is_same_shape}
+use Rattle.asc_shape.specs.Face.{Told, FitPlaces, status_at, is_untouched, status_after_write}
 use Rattle.asc_depvec.specs.declared.tracer.Tracer.TheInside.{Inside}
-use Rattle.asc_depvec.specs.Tracer.{Tracing, is_same_shape}
+use Rattle.asc_depvec.specs.Tracer.{Tracing, most_cap}
+
+-- the status that a mark tells
+abbrev pub status_of : ℕ → Status
+status_of mark = if mark == 3 then Untouched
+    else (if mark == 2 then Read
+    else (if mark == 4 then Written else ReadWritten))
+
+abbrev pub statuses_of : List ℕ → List Status
+statuses_of marks = map status_of marks
 
 -- The statuses are those of a state of the tracer's shape. While there is a state of another shape nothing is touched.
 abbrev pub tracing_of : Inside → Tracing
@@ -13,20 +22,28 @@ tracing_of t = record {
   shape = t.shape;
   cap = t.cap;
   state = t.state;
-  statuses = if is_same_shape t.state.shape t.shape then t.statuses.items
+  statuses = if is_same_shape t.state.shape t.shape then statuses_of t.marks.items
       else replicate (length_of t.state.shape) Untouched;
   touched = t.touched.items;
 }
 
 pub record IsTracer (t : Inside) : Type 0 where
-  pub cap : t.cap ≤ 65536
+  pub cap : t.cap ≤ most_cap
   pub room : length t.touched.items ≤ t.cap
   pub reserved : t.cap ≤ vec_capacity t.touched
-  pub places : FitPlaces (length_of t.shape) (Told t.statuses.items t.touched.items)
+  pub places : FitPlaces (length_of t.shape) (Told t.cap (statuses_of t.marks.items) t.touched.items)
   pub other : is_same_shape t.state.shape t.shape ≡ false → t.touched.items ≡ []
 
--- statuses with the places of a list written, one after another
-abbrev pub written : List Status → List ℕ → List Status
-written statuses [] = statuses
-written statuses (place ∷ places) =
-    written (slice_set statuses place (status_after_write (status_at statuses place))) places
+-- the statuses of all places of a list are those of places that were written
+abbrev pub AreWritten : List Status → List ℕ → Type 0
+AreWritten statuses places = All (λ place. status_after_write (status_at statuses place) ≡ status_at statuses place
+    × is_untouched (status_at statuses place) ≡ false) places
+
+-- the n places from a place on have this status
+abbrev pub HaveStatus : List Status → Status → (place n : ℕ) → Type 0
+HaveStatus statuses status place n = (k : ℕ) → place ≤ k → k < place + n → status_at statuses k ≡ status
+
+-- the statuses once the n places from a place on have this one
+abbrev pub with_statuses : List Status → (place : ℕ) → Status → (n : ℕ) → List Status
+with_statuses statuses place status zero = statuses
+with_statuses statuses place status (suc n) = with_statuses (slice_set statuses place status) (place + 1) status n

@@ -1,12 +1,12 @@
 -- The laws of tracers, which the functions of `laws.rt` stand for.
-use Rattle.std.specs.Prelude.{◌≡◌, ℕ, ◌+◌, ◌<◌, ◌≤◌, List, All, suc, length, map, slice_index}
+use Rattle.std.specs.Prelude.{◌≡◌, ℕ, ◌<◌, ◌≤◌, List, All, suc, length, map, slice_index}
 use Rattle.asc_model.specs.State.{State}
 use Rattle.asc_model.specs.declared.status.Status.TheVariants.{Untouched}
 use Rattle.asc_model.specs.Step.{At, next}
 use Rattle.asc_model.specs.Plain.{plain}
 use Rattle.asc_model.specs.Places.{places_read, writes}
-use Rattle.asc_shape.specs.Face.{Told, FitPlaces, status_at, face_after_reads, face_after_puts}
-use Rattle.asc_depvec.specs.Tracer.{Tracing, IsTracing, face_of, room_of, undone, start_of_face}
+use Rattle.asc_shape.specs.Face.{FitPlaces, status_at, face_after_reads, face_after_puts}
+use Rattle.asc_depvec.specs.Tracer.{Tracing, cap_of, face_of, undone, start_of_face}
 use Rattle.asc_depvec.specs.Dependency.{status_of}
 
 -- Reads, and nothing else since a mark, that are taken back leave what code saw at the mark.
@@ -17,18 +17,16 @@ ReadsAreUndone = (marked now : Tracing) (places : List ℕ) → face_of now ≡ 
 -- where a tracer started stays the same through reads and then puts of places of its state
 abbrev pub StartsStay : Type 0
 StartsStay = (t : Tracing) (places : List ℕ) (cells : List (ℕ × ℕ))
-    → FitPlaces (length t.state.bytes) (Told t.statuses t.touched)
+    → FitPlaces (length t.state.bytes) (face_of t).marks
     → All (λ place. place < length t.state.bytes) places
     → All (λ place. place < length t.state.bytes) (map (λ cell. cell.0) cells)
     → start_of_face (face_after_puts (face_after_reads (face_of t) places) cells) ≡ start_of_face (face_of t)
 
--- Two tracers have the same shape and the same cap, where the first one has room, their states are of one shape, and
--- room and touched places together are as many. So calls that tell only the face and that sum, as those of `Bytes` do,
--- keep both.
+-- Reads and then puts of a tracer that may touch a place keep its shape and its cap. So calls that tell only the face,
+-- as those of `Bytes` do, keep both.
 abbrev pub LimitsStay : Type 0
-LimitsStay = (before now : Tracing) → IsTracing before → IsTracing now → 1 ≤ room_of before
-    → now.state.shape ≡ before.state.shape
-    → room_of before + length before.touched ≡ room_of now + length now.touched
+LimitsStay = (before now : Tracing) (places : List ℕ) (cells : List (ℕ × ℕ)) → 1 ≤ cap_of before
+    → face_of now ≡ face_after_puts (face_after_reads (face_of before) places) cells
     → (now.shape ≡ before.shape) × (now.cap ≡ before.cap)
 
 -- what a tracer tells of its start: each touched place is listed with the byte that stood there, and an untouched place
@@ -39,7 +37,7 @@ pub record TellsStart (t : Tracing) : Type 0 where
       → slice_index (start_of_face (face_of t)).bytes place ≡ slice_index t.state.bytes place
 
 abbrev pub StartsAreTold : Type 0
-StartsAreTold = (t : Tracing) → FitPlaces (length t.state.bytes) (Told t.statuses t.touched) → TellsStart t
+StartsAreTold = (t : Tracing) → FitPlaces (length t.state.bytes) (face_of t).marks → TellsStart t
 
 -- the statuses of a tracer are those of n steps of a state
 abbrev pub HasStatusesOf : ℕ → State → Tracing → Type 0
@@ -50,7 +48,7 @@ HasStatusesOf n start t =
 -- those of n + 1 steps.
 abbrev pub StatusesFollow : Type 0
 StatusesFollow = (n : ℕ) (start after : State) (t later : Tracing) → plain n start ≡ At t.state
-    → next t.state ≡ At after → FitPlaces (length t.state.bytes) (Told t.statuses t.touched)
+    → next t.state ≡ At after → FitPlaces (length t.state.bytes) (face_of t).marks
     → HasStatusesOf n start t
     → face_of later ≡ face_after_puts (face_after_reads (face_of t) (places_read t.state)) (writes t.state)
     → HasStatusesOf (suc n) start later

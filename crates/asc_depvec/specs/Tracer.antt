@@ -1,12 +1,11 @@
 -- What a tracer is to contracts: a state that tells how each of its places was touched.
-use Rattle.std.specs.Prelude.{◌≡◌, ℕ, ◌-◌, ◌<◌, ◌≤◌, Bool, true, false, ◌==◌, ◌&&◌, List, [], ◌∷◌, length, take, drop, replicate, slice_set, if◌then◌else◌}
+use Rattle.std.specs.Prelude.{◌≡◌, ℕ, ◌<◌, ◌≤◌, List, [], ◌∷◌, length, take, drop, replicate, slice_set, if◌then◌else◌}
 use Rattle.asc_model.specs.declared.status.Status.{Status}
 use Rattle.asc_model.specs.declared.status.Status.TheVariants.{Untouched}
-use Rattle.asc_model.specs.declared.version.Version.{Version}
-use Rattle.asc_model.specs.declared.version.Version.TheVariants.{One, Two}
-use Rattle.asc_model.specs.Shape.{Shape, length_of}
+use Rattle.asc_model.specs.Shape.{Shape, length_of, is_same_shape}
 use Rattle.asc_model.specs.State.{State}
 use Rattle.asc_model.specs.Places.{bytes_after}
+use Rattle.asc_model.specs.Reach.{step_room}
 use Rattle.asc_shape.specs.Face.{Face, Marks, Untold, Told}
 
 -- The shape that it was made with, at most how many places may be touched, the state, the status of each place of it,
@@ -18,16 +17,28 @@ pub record Tracing : Type 0 where
   pub statuses : List Status
   pub touched : List (ℕ × ℕ)
 
+-- the least and the greatest number of places that a tracer may be made to touch: room for a step, and 64 Ki
+abbrev pub least_cap : ℕ
+least_cap = step_room
+
+abbrev pub most_cap : ℕ
+most_cap = 65536
+
 -- What holds of every tracer: no more is touched than may be, and where anything is touched, the state is of the
 -- tracer's shape.
 pub record IsTracing (t : Tracing) : Type 0 where
-  pub cap : t.cap ≤ 65536
+  pub cap : t.cap ≤ most_cap
   pub room : length t.touched ≤ t.cap
   pub own : 0 < length t.touched → t.state.shape ≡ t.shape
 
+-- At most how many places of the state may be touched. None may be while the state has another shape than that which
+-- the tracer was made with.
+abbrev pub cap_of : Tracing → ℕ
+cap_of t = if is_same_shape t.state.shape t.shape then t.cap else 0
+
 -- what code sees of it through `Bytes`
 abbrev pub face_of : Tracing → Face
-face_of t = record { state = t.state; marks = Told t.statuses t.touched }
+face_of t = record { state = t.state; marks = Told (cap_of t) t.statuses t.touched }
 
 -- a tracer of this state, nothing of it touched
 abbrev pub fresh : Shape → (cap : ℕ) → State → Tracing
@@ -38,19 +49,6 @@ fresh shape cap state = record {
   statuses = replicate (length_of state.shape) Untouched;
   touched = [];
 }
-
-abbrev pub is_same_version : Version → Version → Bool
-is_same_version One One = true
-is_same_version One Two = false
-is_same_version Two One = false
-is_same_version Two Two = true
-
-abbrev pub is_same_shape : Shape → Shape → Bool
-is_same_shape a b = (a.base == b.base) && (a.size == b.size) && is_same_version a.version b.version
-
--- how many more places may be touched; none while the state has another shape than that which the tracer was made with
-abbrev pub room_of : Tracing → ℕ
-room_of t = if is_same_shape t.state.shape t.shape then t.cap - length t.touched else 0
 
 -- statuses with the places of a list untouched again
 abbrev pub untouch : List Status → List (ℕ × ℕ) → List Status
@@ -65,7 +63,7 @@ undone t mark = record t { statuses = untouch t.statuses (drop mark t.touched); 
 -- the places that are told to be touched, each with its byte before its first touch
 abbrev pub touched_of : Marks → List (ℕ × ℕ)
 touched_of Untold = []
-touched_of (Told statuses touched) = touched
+touched_of (Told cap statuses touched) = touched
 
 -- where a tracer started: its state with the first byte of each touched place put back
 abbrev pub start_of_face : Face → State

@@ -20,8 +20,8 @@ pub fn starts_are_told()
     ensures { StartsAreTold }
 {}
 
-/// Room and touched places together tell the cap. So calls that keep their sum, and the shape of the state, keep the cap
-/// and the shape of a tracer that has room.
+/// The face tells the cap. So calls that tell only the face keep the shape and the cap of a tracer that may touch a
+/// place.
 pub fn limits_stay()
     ensures { LimitsStay }
 {}

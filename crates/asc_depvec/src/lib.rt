@@ -10,4 +10,4 @@ pub use asc_shape::Status;
 pub use laws::{
     limits_stay, no_statuses, reads_are_undone, starts_are_told, starts_stay, statuses_follow,
 };
-pub use tracer::Tracer;
+pub use tracer::{LEAST_CAP, MOST_CAP, Tracer};

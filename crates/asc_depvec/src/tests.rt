@@ -1,6 +1,6 @@
 use crate::Status::{Read, ReadWritten, Untouched, Written};
-use crate::Tracer;
 use crate::tests::Call::{Get, GetWord, Put, PutWord, Reset, Undo};
+use crate::{LEAST_CAP, Tracer};
 use asc_shape::{Bytes, Shape, State};
 use std::process::Abort;
 
@@ -59,7 +59,7 @@ fn touches(rt: HostRuntime) {
     let mut first = State::new(rt.alloc(), shape).expect(&rt, "memory");
     first.set_pc(0x0102_0304);
     first.set_reg(1, 0x1122_3344);
-    let mut tracer = Tracer::new(rt.alloc(), shape, 32).expect(&rt, "memory");
+    let mut tracer = Tracer::new(rt.alloc(), shape, LEAST_CAP).expect(&rt, "memory");
     tracer.start(&first);
     for (call, answer, place, status, touched, left, last) in [
         (Get(0), 4, 0, Read, 1, 31, Some((0, 4))),
@@ -80,6 +80,16 @@ fn touches(rt: HostRuntime) {
         (GetWord(0), 0x0102_0809, 2, Read, 9, 23, Some((3, 1))),
         (Reset, 0, 0, Untouched, 0, 32, None),
         (GetWord(0), 0x0102_0809, 0, Read, 4, 28, Some((3, 1))),
+        (
+            PutWord(0, 0x0403_0201),
+            0,
+            3,
+            ReadWritten,
+            4,
+            28,
+            Some((3, 1)),
+        ),
+        (GetWord(0), 0x0403_0201, 0, ReadWritten, 4, 28, Some((3, 1))),
     ] {
         assert_eq!(rt; make(&rt, &mut tracer, call), answer);
         assert_eq!(rt; tracer.status(place), status);
@@ -96,7 +106,7 @@ fn touches(rt: HostRuntime) {
 #[test]
 fn words(rt: HostRuntime) {
     let shape = Shape::new(0x10000, 65_536).expect(&rt, "a shape");
-    let mut tracer = Tracer::new(rt.alloc(), shape, 32).expect(&rt, "memory");
+    let mut tracer = Tracer::new(rt.alloc(), shape, LEAST_CAP).expect(&rt, "memory");
     let put = (Untouched, Written, Untouched, Untouched);
     let read = (Read, Written, Read, Read);
     let both = (ReadWritten, Written, ReadWritten, ReadWritten);
@@ -135,7 +145,7 @@ fn words(rt: HostRuntime) {
 fn room(rt: HostRuntime) {
     let one = Shape::new(0x10000, 65_536).expect(&rt, "version One");
     let two = Shape::two(0x10000, 65_536).expect(&rt, "version Two");
-    let mut tracer = Tracer::new(rt.alloc(), one, 32).expect(&rt, "memory");
+    let mut tracer = Tracer::new(rt.alloc(), one, LEAST_CAP).expect(&rt, "memory");
     let mut other = State::new(rt.alloc(), two).expect(&rt, "memory");
     std::mem::swap(tracer.state_mut(), &mut other);
     assert_eq!(rt; (tracer.room(), tracer.status(65_671)), (0, Untouched));

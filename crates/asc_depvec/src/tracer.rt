@@ -1,30 +1,36 @@
-ghost use Rattle.std.specs.Prelude.{◌≡◌, ◌+◌, ◌<◌, ◌≤◌, ◌==◌, [], ◌∷◌, ◌++◌, IfOk, not, length, vec_len, vec_capacity, if◌then◌else◌};
+ghost use Rattle.std.specs.Prelude.{◌≡◌, true, ◌+◌, ◌^◌, ◌<◌, ◌≤◌, [], ◌∷◌, ◌++◌, All, IfOk, length, vec_len, vec_capacity, if◌then◌else◌};
 ghost use Rattle.std.specs.Borrow.{Lends, sem};
-ghost use Rattle.asc_model.specs.Number.{bytes_of, word_at};
+ghost use Rattle.asc_model.specs.Number.{AreBytes, bytes_of, word_at};
 ghost use Rattle.asc_model.specs.Places.{cells, places_from};
-ghost use Rattle.asc_shape.specs.Face.{KeepsTotal, Told, status_at, is_untouched, status_after_read, status_after_write, face_after_reads, face_after_puts, untouched_count};
+ghost use Rattle.asc_shape.specs.Face.{Told, status_at, is_untouched, status_after_read, status_after_write, face_after_reads, face_after_puts, untouched_count, room_of};
 ghost use Rattle.asc_shape.specs.State.{zero_state};
 ghost use Rattle.asc_shape.specs.contracts.state.State as state;
 ghost use Rattle.asc_depvec.specs.contracts.tracer.Tracer.{the_row};
-ghost use Rattle.asc_depvec.specs.Tracer.{IsTracing, face_of, fresh, room_of, undone};
-ghost use Rattle.asc_depvec.specs.Inside.{written};
+ghost use Rattle.asc_depvec.specs.Tracer.{IsTracing, least_cap, most_cap, face_of, fresh, undone, untouch};
+ghost use Rattle.asc_depvec.specs.Inside.{AreWritten, HaveStatus, status_of, statuses_of, with_statuses};
 
 use asc_shape::{Bytes, Memory, Shape, State, Status};
 use std::alloc::Global;
 use std::marker::Model;
+
+/// The least number of places that a tracer may be made to touch: room for a step.
+pub const LEAST_CAP: usize = 32;
+
+/// The greatest number of places that a tracer may be made to touch: 64 Ki.
+pub const MOST_CAP: usize = 65_536;
 
 /// A state that tells how each of its places was touched, and what byte each touched place held before.
 ///
 /// A place is `Untouched` at first. A read of an untouched place makes it `Read`; a put makes `Untouched` into
 /// `Written` and `Read` into `ReadWritten`; nothing else but `start`, `reset` and `undo` changes a status.
 ///
-/// No call but `new` takes memory. Contracts see a tracer as the `Tracing` of `specs/`.
+/// Only `new` is handed an allocator. Contracts see a tracer as the `Tracing` of `specs/`.
 #[derive(Drop)]
 pub struct Tracer {
     shape: Shape,
     cap: usize,
     state: State,
-    statuses: Vec<Status>,
+    marks: Vec<u8>,
     touched: Vec<(u32, u8)>,
 }
 
@@ -43,18 +49,18 @@ impl Model for Tracer {
 }
 
 impl Tracer {
-    /// A tracer of the state of this shape whose bytes are all 0, with room for `cap` touched places. All memory that
-    /// it ever uses is reserved here.
+    /// A tracer of the state of this shape whose bytes are all 0, with room for `cap` touched places, from `LEAST_CAP`
+    /// to `MOST_CAP`. Memory for all of them is reserved here.
     pub fn new(alloc: Global, shape: Shape, cap: usize) -> Result<Tracer, Memory>
-        requires least { 32 ≤ cap }
-        requires most { cap ≤ 65536 }
+        requires least { least_cap ≤ cap }
+        requires most { cap ≤ most_cap }
         ensures { IfOk result (λ t. t ≡ fresh shape cap (zero_state shape)) }
     {
         let state = State::new(alloc, shape)?;
         Ok(Tracer {
             shape,
             cap,
-            statuses: vec![in alloc; Status::Untouched; state.len()]?,
+            marks: vec![in alloc; UNTOUCHED; state.len()]?,
             touched: Vec::with_capacity(alloc, cap)?,
             state,
         })
@@ -103,8 +109,8 @@ impl Tracer {
     pub fn status(&self, place: u32) -> Status
         ensures { result ≡ status_at self.now.statuses place }
     {
-        let status = self.statuses.get(place as usize);
-        status.copied().unwrap_or(Status::Untouched)
+        let mark = self.marks.get(place as usize);
+        status_of(mark.copied().unwrap_or(UNTOUCHED))
     }
 
     /// Each touched place with its byte before its first touch, in the order of those touches.
@@ -119,13 +125,22 @@ impl Tracer {
     /// another shape than that of `new`.
     #[inline]
     pub fn room(&self) -> usize
-        ensures { result ≡ room_of self.now }
+        ensures { result ≡ room_of (face_of self.now).marks }
     {
         if self.state.shape() == self.shape {
             self.cap - self.touched.len()
         } else {
             0
         }
+    }
+
+    /// How many more places may be touched, while the state has the shape of `new`.
+    #[inline]
+    pub fn left(&self) -> usize
+        requires { self.now.state.shape ≡ self.now.shape }
+        ensures { result ≡ room_of (face_of self.now).marks }
+    {
+        self.cap - self.touched.len()
     }
 
     /// How many places are touched, for `undo`. A caller's proof learns from it what holds of every tracer.
@@ -143,23 +158,62 @@ impl Tracer {
         requires { mark ≤ length self.old.touched }
         ensures { self.new ≡ undone self.old mark }
     {
-        while self.touched.len() > mark {
-            if let Some((place, _)) = self.touched.pop() {
-                self.statuses[place as usize] = Status::Untouched;
-            }
+        untouch(&mut self.marks, &self.touched[mark..]);
+        self.touched.truncate(mark);
+    }
+
+    // The word in four places that are not all touched, at once where all are untouched.
+    #[cold]
+    #[inline(never)]
+    fn get_new(&mut self, place: u32) -> u32
+        requires place { place + 4 ≤ length self.old.state.bytes }
+        requires room { 4 ≤ room_of (face_of self.old).marks }
+        ensures word { result ≡ word_at self.old.state.bytes place }
+        ensures face { face_of self.new ≡ face_after_reads (face_of self.old) (places_from place 4) }
+    {
+        // That its state is one, and its marks fit it.
+        let _ = Bytes::shape(self);
+        if have_mark(&self.marks, place, UNTOUCHED) {
+            let word = Bytes::get_word(&mut self.state, place);
+            note_word(&mut self.touched, place, word);
+            mark_word(&mut self.marks, place, READ);
+            word
+        } else {
+            self.get_bytes(place)
+        }
+    }
+
+    // Puts a word in four places that are not all written, at once where all are untouched, or all only read.
+    #[cold]
+    #[inline(never)]
+    fn put_new(&mut self, place: u32, word: u32)
+        requires place { place + 4 ≤ length self.old.state.bytes }
+        requires room { 4 ≤ room_of (face_of self.old).marks }
+        ensures face { face_of self.new ≡ face_after_puts (face_of self.old) (cells place (bytes_of 4 word)) }
+    {
+        // That its state is one, and its marks fit it.
+        let _ = Bytes::shape(self);
+        if have_mark(&self.marks, place, UNTOUCHED) {
+            let before = Bytes::get_word(&mut self.state, place);
+            note_word(&mut self.touched, place, before);
+            mark_word(&mut self.marks, place, WRITTEN);
+            Bytes::put_word(&mut self.state, place, word);
+        } else if have_mark(&self.marks, place, READ) {
+            mark_word(&mut self.marks, place, READ_WRITTEN);
+            Bytes::put_word(&mut self.state, place, word);
+        } else {
+            self.put_bytes(place, word);
         }
     }
 
     // The word in the four bytes from a place on, read one after another.
+    #[cold]
+    #[inline(never)]
     fn get_bytes(&mut self, place: u32) -> u32
         requires place { place + 4 ≤ length self.old.state.bytes }
-        requires room { 4 ≤ room_of self.old }
+        requires room { 4 ≤ room_of (face_of self.old).marks }
         ensures word { result ≡ word_at self.old.state.bytes place }
         ensures face { face_of self.new ≡ face_after_reads (face_of self.old) (places_from place 4) }
-        ensures room { room_of self.old ≤ room_of self.new
-            + untouched_count (face_of self.old).marks (places_from place 4) }
-        ensures total { KeepsTotal (room_of self.old) (face_of self.old)
-            (room_of self.new) (face_of self.new) }
     {
         // Its shape bounds the places of a state, so that the sums below fit.
         let _ = Bytes::shape(self);
@@ -172,14 +226,12 @@ impl Tracer {
     }
 
     // Puts a word in the four bytes from a place on, one after another.
+    #[cold]
+    #[inline(never)]
     fn put_bytes(&mut self, place: u32, word: u32)
         requires place { place + 4 ≤ length self.old.state.bytes }
-        requires room { 4 ≤ room_of self.old }
+        requires room { 4 ≤ room_of (face_of self.old).marks }
         ensures face { face_of self.new ≡ face_after_puts (face_of self.old) (cells place (bytes_of 4 word)) }
-        ensures room { room_of self.old ≤ room_of self.new
-            + untouched_count (face_of self.old).marks (places_from place 4) }
-        ensures total { KeepsTotal (room_of self.old) (face_of self.old)
-            (room_of self.new) (face_of self.new) }
     {
         // Its shape bounds the places of a state, so that the sums below fit.
         let _ = Bytes::shape(self);
@@ -194,8 +246,6 @@ impl Tracer {
 /// It tells how its places were touched. Its room falls by one with each place that is touched for the first time.
 impl Bytes for Tracer {
     ghost face = { face_of };
-
-    ghost room = { room_of };
 
     #[inline]
     fn shape(&self) -> Shape {
@@ -212,9 +262,9 @@ impl Bytes for Tracer {
         // That its state is one, and its marks fit it.
         let _ = Bytes::shape(self);
         let byte = self.state.get(place);
-        let status = self.statuses[place as usize];
+        let status = status_of(self.marks[place as usize]);
         note(&mut self.touched, status, place, byte);
-        self.statuses[place as usize] = after_read(status);
+        self.marks[place as usize] = mark_of(after_read(status));
         byte
     }
 
@@ -223,9 +273,9 @@ impl Bytes for Tracer {
         // That its state is one, and its marks fit it.
         let _ = Bytes::shape(self);
         let before = self.state.get(place);
-        let status = self.statuses[place as usize];
+        let status = status_of(self.marks[place as usize]);
         note(&mut self.touched, status, place, before);
-        self.statuses[place as usize] = after_write(status);
+        self.marks[place as usize] = mark_of(after_write(status));
         self.state.set(place, byte);
     }
 
@@ -234,23 +284,22 @@ impl Bytes for Tracer {
     fn get_word(&mut self, place: u32) -> u32 {
         // That its state is one, and its marks fit it.
         let _ = Bytes::shape(self);
-        if are_touched(&self.statuses, place) {
+        if are_touched(&self.marks, place) {
             Bytes::get_word(&mut self.state, place)
         } else {
-            self.get_bytes(place)
+            self.get_new(place)
         }
     }
 
-    /// Where the four places are touched no place is listed, and the state's own word is put.
+    /// Where the four places are written a put changes no status, and the state's own word is put.
     #[inline]
     fn put_word(&mut self, place: u32, word: u32) {
         // That its state is one, and its marks fit it.
         let _ = Bytes::shape(self);
-        if are_touched(&self.statuses, place) {
-            mark_written(&mut self.statuses, place);
+        if are_written(&self.marks, place) {
             Bytes::put_word(&mut self.state, place, word);
         } else {
-            self.put_bytes(place, word);
+            self.put_new(place, word);
         }
     }
 }
@@ -264,45 +313,131 @@ fn note(touched: &mut Vec<(u32, u8)>, status: Status, place: u32, byte: u8)
     ensures capacity { vec_capacity touched.old ≤ vec_capacity touched.new }
 {
     if let Status::Untouched = status {
-        touched.push((place, byte)).unwrap();
+        touched.push_reserved((place, byte));
     }
 }
 
-// Whether none of the four places from a place on is untouched.
-#[inline]
-fn are_touched(statuses: &[Status], place: u32) -> bool
-    requires { place + 4 ≤ length statuses.now }
-    ensures { result ≡ (untouched_count (Told statuses.now []) (places_from place 4) == 0) }
-{
-    let at = place as usize;
-    is_touched(statuses[at])
-        & is_touched(statuses[at + 1])
-        & is_touched(statuses[at + 2])
-        & is_touched(statuses[at + 3])
-}
+// The mark of a place tells its status. Bit 0 is set where the place is untouched, and bit 1 where it isn't written.
+const UNTOUCHED: u8 = 3;
 
-// Marks the four places from a place on as written.
-#[inline]
-fn mark_written(statuses: &mut [Status], place: u32)
-    requires { place + 4 ≤ length statuses.old }
-    ensures { statuses.new ≡ written statuses.old (places_from place 4) }
-{
-    let at = place as usize;
-    statuses[at] = after_write(statuses[at]);
-    statuses[at + 1] = after_write(statuses[at + 1]);
-    statuses[at + 2] = after_write(statuses[at + 2]);
-    statuses[at + 3] = after_write(statuses[at + 3]);
-}
+const READ: u8 = 2;
+
+const WRITTEN: u8 = 4;
+
+const READ_WRITTEN: u8 = 0;
 
 #[inline]
-fn is_touched(status: Status) -> bool
-    ensures { result ≡ not (is_untouched status) }
+fn status_of(mark: u8) -> Status
+    ensures { result ≡ status_of mark }
+{
+    if mark == UNTOUCHED {
+        Status::Untouched
+    } else if mark == READ {
+        Status::Read
+    } else if mark == WRITTEN {
+        Status::Written
+    } else {
+        Status::ReadWritten
+    }
+}
+
+#[inline]
+fn mark_of(status: Status) -> u8
+    ensures { status_of result ≡ status }
 {
     match status {
-        Status::Untouched => false,
-        Status::Read | Status::Written | Status::ReadWritten => true,
+        Status::Untouched => UNTOUCHED,
+        Status::Read => READ,
+        Status::Written => WRITTEN,
+        Status::ReadWritten => READ_WRITTEN,
     }
 }
+
+// Lists the four places of a word with the bytes that they hold.
+#[inline]
+fn note_word(touched: &mut Vec<(u32, u8)>, place: u32, word: u32)
+    requires addresses { place + 4 ≤ 2 ^ 32 }
+    requires reserved { vec_len touched.old + 4 ≤ vec_capacity touched.old }
+    ensures touched { touched.new.items ≡ touched.old.items ++ cells place (bytes_of 4 word) }
+    ensures capacity { vec_capacity touched.old ≤ vec_capacity touched.new }
+{
+    let [first, second, third, fourth] = word.to_le_bytes();
+    touched.push_reserved((place, first));
+    touched.push_reserved((place + 1, second));
+    touched.push_reserved((place + 2, third));
+    touched.push_reserved((place + 3, fourth));
+}
+
+// Gives the four places from a place on one mark.
+#[inline]
+fn mark_word(marks: &mut [u8], place: u32, mark: u8)
+    requires { place + 4 ≤ length marks.old }
+    ensures { statuses_of marks.new ≡ with_statuses (statuses_of marks.old) place (status_of mark) 4 }
+{
+    let at = place as usize;
+    marks[at] = mark;
+    marks[at + 1] = mark;
+    marks[at + 2] = mark;
+    marks[at + 3] = mark;
+}
+
+// Makes these places untouched.
+#[inline]
+fn untouch(marks: &mut [u8], cells: &[(u32, u8)])
+    requires { All (λ cell. cell.0 < length marks.old) cells.now }
+    ensures { statuses_of marks.new ≡ untouch (statuses_of marks.old) cells.now }
+{
+    for &(place, _) in cells {
+        marks[place as usize] = UNTOUCHED;
+    }
+}
+
+// The marks of the four places from a place on.
+#[inline]
+fn word_of(marks: &[u8], place: u32) -> u32
+    requires { place + 4 ≤ length marks.now }
+    ensures { result ≡ word_at marks.now place }
+{
+    let at = place as usize;
+    let four = &marks[at..at + 4];
+    u32::from_le_bytes([four[0], four[1], four[2], four[3]])
+}
+
+// Where it is so, none of the four places from a place on is untouched.
+#[inline]
+fn are_touched(marks: &[u8], place: u32) -> bool
+    requires { place + 4 ≤ length marks.now }
+    ensures { result ≡ true → untouched_count (Told 0 (statuses_of marks.now) []) (places_from place 4) ≡ 0 }
+{
+    are_bytes(marks);
+    word_of(marks, place) & 0x0101_0101 == 0
+}
+
+// Where it is so, the four places from a place on have this mark.
+#[inline]
+fn have_mark(marks: &[u8], place: u32, mark: u8) -> bool
+    requires { place + 4 ≤ length marks.now }
+    ensures { result ≡ true → HaveStatus (statuses_of marks.now) (status_of mark) place 4 }
+{
+    are_bytes(marks);
+    word_of(marks, place) == u32::from_le_bytes([mark, mark, mark, mark])
+}
+
+// Where it is so, the four places from a place on are written.
+#[inline]
+fn are_written(marks: &[u8], place: u32) -> bool
+    requires { place + 4 ≤ length marks.now }
+    ensures { result ≡ true → AreWritten (statuses_of marks.now) (places_from place 4) }
+{
+    are_bytes(marks);
+    word_of(marks, place) & 0x0202_0202 == 0
+}
+
+// The elements of a slice of bytes are bytes.
+#[inline]
+fn are_bytes(_slice: &[u8])
+    ensures { AreBytes _slice.now }
+{}
 
 #[inline]
 fn after_read(status: Status) -> Status

@@ -1,8 +1,9 @@
 -- Lemmas on what no fault says of a file, and on the place of its segments.
-use Rattle.std.proofs.Common.{◌≡◌, ℕ, suc, ◌+◌, ◌*◌, ◌<◌, ◌≤◌, Bool, true, false, not, cond, ◌||◌, nat_lt, List, [], ◌∷◌, ◌++◌, length, Option, Some, None, is_some, refl, sym, ap, ◌∙◌, subst, arith}
-use Rattle.std.specs.List.{filter, list_any, position_or_len}
+use Rattle.std.proofs.Common.{◌≡◌, ℕ, suc, ◌+◌, ◌*◌, ◌<◌, ◌≤◌, Bool, true, false, not, cond, ◌||◌, nat_lt, List, [], ◌∷◌, ◌++◌, length, Option, Some, None, is_some, refl, sym, ap, ◌∙◌, arith}
+use Rattle.std.specs.List.{All, filter, list_any, position_or_len}
 use Rattle.std.specs.Option.{option_or}
 use Rattle.std.proofs.lemmas.Bool.Decides.{nat_tests}
+use Rattle.std.proofs.lemmas.List.Elements.{All-cons, All-nil}
 use Rattle.asc_model.specs.Shape.{Shape}
 use Rattle.asc_elf.specs.declared.fault.ElfFault.{ElfFault}
 use Rattle.asc_elf.specs.File.{e_phoff, e_phnum, Header, headers, is_segment, segments}
@@ -90,13 +91,6 @@ above_base file shape same = let base = ap (λ (s : Shape). s.base) same in omeg
 below_stack : (file : List ℕ) (shape : Shape) → first_fault (layout_cases file shape) ≡ None → highest_end (segments file) ≤ stack_of shape
 below_stack file shape e = grind (arith, nat_tests)
 
--- the segments of a file with no fault have a place
-pub HasPlace-cases : (file : List ℕ) (shape : Shape) → shape ≡ shape_for file shape.size shape.version → first_fault (cases file shape) ≡ None → HasPlace file shape (headers file)
-unfolding segments
-HasPlace-cases file shape same e =
-    let none = NoFault-cases file shape e in
-    record { whole = not_cut file none.third; above = above_base file shape same; below = below_stack file shape none.fourth }
-
 -- the second of two that are both false
 pub or_second : (a b : Bool) → (a || b) ≡ false → b ≡ false
 or_second true b e = cc
@@ -107,28 +101,25 @@ pub or_first : (a b : Bool) → (a || b) ≡ false → a ≡ false
 or_first true b e = e
 or_first false b e = refl
 
--- the segments behind the first begin no lower than all
-above_rest : (b : Bool) (n : ℕ) (h : Header) (rest : List Header) → n ≤ lowest_address (cond b (h ∷ rest) rest) → n ≤ lowest_address rest
-above_rest true n h rest above = omega arith
-above_rest false n h rest above = above
+-- one more header
+places_step : (b : Bool) (file : List ℕ) (shape : Shape) (h : Header) (rest : List Header) → is_segment h ≡ b → is_cut file h ≡ false
+    → (shape.base ≤ lowest_address rest → highest_end rest ≤ stack_of shape → All (HasPlace file shape) rest)
+    → shape.base ≤ lowest_address (cond b (h ∷ rest) rest) → highest_end (cond b (h ∷ rest) rest) ≤ stack_of shape → All (HasPlace file shape) (cond b (h ∷ rest) rest)
+places_step true file shape h rest segment whole later above below =
+    All-cons (HasPlace file shape) h rest (record { segment = segment; whole = whole; above = omega arith; below = omega arith }) (later (omega arith) (omega arith))
+places_step false file shape h rest segment whole later above below = later above below
 
--- the segments behind the first end no later than all
-below_rest : (b : Bool) (n : ℕ) (h : Header) (rest : List Header) → highest_end (cond b (h ∷ rest) rest) ≤ n → highest_end rest ≤ n
-below_rest true n h rest below = omega arith
-below_rest false n h rest below = below
+-- segments that cut nothing off have a place where the lowest and the highest have one
+places : (file : List ℕ) (shape : Shape) (list : List Header) → list_any (is_cut file) list ≡ false
+    → shape.base ≤ lowest_address (filter is_segment list) → highest_end (filter is_segment list) ≤ stack_of shape → All (HasPlace file shape) (filter is_segment list)
+places file shape [] whole above below = All-nil (HasPlace file shape)
+places file shape (h ∷ rest) whole above below =
+    places_step (is_segment h) file shape h (filter is_segment rest) refl (or_first (is_cut file h) (list_any (is_cut file) rest) whole)
+    (places file shape rest (or_second (is_cut file h) (list_any (is_cut file) rest) whole)) above below
 
--- the headers behind the first have a place too
-pub HasPlace-rest : (file : List ℕ) (shape : Shape) (h : Header) (rest : List Header) → HasPlace file shape (h ∷ rest) → HasPlace file shape rest
-HasPlace-rest file shape h rest place = record {
-  whole = or_second (is_cut file h) (list_any (is_cut file) rest) place.whole;
-  above = above_rest (is_segment h) shape.base h (filter is_segment rest) place.above;
-  below = below_rest (is_segment h) (stack_of shape) h (filter is_segment rest) place.below;
-}
-
--- the place of a segment
-pub HasPlace-segment : (file : List ℕ) (shape : Shape) (h : Header) → is_segment h ≡ true → HasPlace file shape (h ∷ [])
-    → (shape.base ≤ h.p_vaddr) × (h.p_vaddr + h.p_memsz ≤ stack_of shape)
-HasPlace-segment file shape h segment place =
-    let above = subst (λ b. shape.base ≤ lowest_address (cond b (h ∷ []) [])) segment place.above in
-    let below = subst (λ b. highest_end (cond b (h ∷ []) []) ≤ stack_of shape) segment place.below in
-    (omega arith, omega arith)
+-- the segments of a file with no fault have a place
+pub places-cases : (file : List ℕ) (shape : Shape) → shape ≡ shape_for file shape.size shape.version → first_fault (cases file shape) ≡ None → All (HasPlace file shape) (segments file)
+unfolding segments
+places-cases file shape same e =
+    let none = NoFault-cases file shape e in
+    places file shape (headers file) (not_cut file none.third) (above_base file shape same) (below_stack file shape none.fourth)

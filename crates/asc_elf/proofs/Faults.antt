@@ -3,9 +3,9 @@ use Rattle.std.proofs.Common.{◌≡◌, ◌≢◌, ℕ, ◌+◌, ◌-◌, ◌%�
 use Rattle.std.specs.Option.{option_or}
 use Rattle.std.proofs.lemmas.Bool.Decides.{nat_tests}
 use Rattle.asc_model.specs.declared.version.Version.{Version}
-use Rattle.asc_model.specs.Shape.{Shape, holds}
+use Rattle.asc_model.specs.Shape.{Shape, holds, is_size}
 use Rattle.asc_shape.specs.declared.shape.ShapeFault.{ShapeFault}
-use Rattle.asc_shape.specs.Shape.{is_size, shape_of}
+use Rattle.asc_shape.specs.Shape.{shape_of}
 use Rattle.asc_elf.specs.declared.fault.ElfFault.{ElfFault}
 use Rattle.asc_elf.specs.declared.fault.ElfFault.TheVariants.{TooLarge, Entry}
 use Rattle.asc_elf.specs.File.{e_entry, segments}

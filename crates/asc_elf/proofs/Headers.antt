@@ -1,7 +1,16 @@
 -- Lemmas on the program headers of a file.
-use Rattle.std.proofs.Common.{◌≡◌, ℕ, zero, suc, ◌+◌, ◌*◌, ◌<◌, ◌≤◌, List, [], ◌∷◌, length, drop, refl, ap, ◌∙◌, add-one, arith}
+use Rattle.std.proofs.Common.{◌≡◌, ℕ, zero, suc, ◌+◌, ◌*◌, ◌<◌, ◌≤◌, Bool, Option, List, [], ◌∷◌, length, take, drop, refl, ap, ◌∙◌, add-one, arith}
 use Rattle.std.proofs.lemmas.List.{drop_all}
-use Rattle.asc_elf.specs.File.{e_phoff, e_phnum, header_at, headers_from, headers}
+use Rattle.std.proofs.lemmas.Iterator.{YieldsList}
+use Rattle.std.proofs.lemmas.Iterator.Consumers.{YieldsList-from_shown, YieldsList-from_filter, YieldsList-at}
+use denote.Ref.{Bor}
+use denote.Param.Members.{Mut}
+use Rattle.std.specs.Fn.{CalledAt}
+use Rattle.std.specs.Iterator.{YieldsFirst}
+use Rattle.std.specs.Iterator.Adapters.{filter_source, filter_callee, filter_steps}
+use Rattle.asc_model.specs.Number.{number_of, AreBytes}
+use Rattle.asc_model.proofs.Numbers.{AreBytes-drop}
+use Rattle.asc_elf.specs.File.{Header, e_phoff, e_phnum, header_at, headers_from, headers, is_segment, segments}
 
 -- there are as many headers as there should be
 length-headers_from : (file : List ℕ) (at n : ℕ) → length (headers_from file at n) ≡ n
@@ -30,5 +39,27 @@ drop-headers file i h = rw (add-one i) (drop-headers_from file (e_phoff file) (e
 pub headers_end : (file : List ℕ) (i : ℕ) → e_phnum file ≤ i → drop i (headers file) ≡ []
 headers_end file i h = drop_all i (headers file) (omega (arith, length-headers file))
 
--- a loop over the headers is at its end
-pub ruleset at_end = (headers_end, length-headers)
+-- two bytes spell a number below 2 ^ 16
+two_bytes-below : (bytes : List ℕ) → AreBytes bytes → number_of (take 2 bytes) < 65536
+two_bytes-below [] h = omega arith
+two_bytes-below (a ∷ []) h = omega (arith, h 0)
+two_bytes-below (a ∷ b ∷ bytes) h = omega (arith, h 0, h 1)
+
+-- there are fewer than 2 ^ 16 headers
+pub headers-few : (file : List ℕ) → AreBytes file → length (headers file) < 65536
+headers-few file bytes = omega (arith, length-headers file, two_bytes-below (drop 44 file) (AreBytes-drop 44 file bytes))
+
+-- a step of an iterator over headers
+abbrev gives : List Header → Option Header → List Header → Type 0
+gives = YieldsFirst {A = Header} (λ left. left)
+
+-- an iterator over a file's headers yields them
+pub YieldsList-headers : {s : List Header} (file : List ℕ) → s ≡ headers file → YieldsList gives (λ h. h) s (headers file)
+YieldsList-headers {s} file same =
+    YieldsList-at same (YieldsList-from_shown gives (λ h. h) (λ left. left) (λ s t h. ap length h.0) (λ s x t h. h) (headers file))
+
+-- with a filter that keeps segments, it yields the file's segments
+pub YieldsList-segments : {F : Type 0} {s : _} (g : Mut F (Bor Header × Unit {0}) Bool) {f : F} (file : List ℕ) → filter_source s ≡ headers file → filter_callee s ≡ f
+    → ((h : Header) (b : Bool) (q : F) → CalledAt g f h b q → (q ≡ f) × (b ≡ is_segment h)) → YieldsList (filter_steps gives g) (λ h. h) s (segments file)
+unfolding segments
+YieldsList-segments g file source callee keeps = YieldsList-from_filter g is_segment (YieldsList-headers file source) callee keeps

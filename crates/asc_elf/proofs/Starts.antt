@@ -1,13 +1,14 @@
 -- Lemmas on the state in which a program begins.
-use Rattle.std.proofs.Common.{◌≡◌, ℕ, true, false, cond, List, [], ◌∷◌, ◌++◌, refl, sym, ap, ◌∙◌}
-use Rattle.std.specs.List.{filter, flat_map}
+use Rattle.std.proofs.Common.{◌≡◌, ℕ, List, [], ◌∷◌, ◌++◌, refl, sym, ap, ◌∙◌}
+use Rattle.std.specs.List.{flat_map}
+use Rattle.std.proofs.lemmas.Grind.{flat_map-append}
 use Rattle.asc_model.specs.Shape.{Shape}
 use Rattle.asc_model.specs.State.{State}
 use Rattle.asc_model.specs.Machine.{Change, Pc, Register}
 use Rattle.asc_shape.specs.State.{zero_state, state_after, state_after_all}
 use Rattle.asc_elf.specs.Image.{segment_changes, stack_of, start_state}
 use Rattle.asc_shape.proofs.States.{shape-state_after}
-use Rattle.asc_elf.specs.File.{e_entry, Header, is_segment, segments}
+use Rattle.asc_elf.specs.File.{e_entry, Header, segments}
 
 -- what changes keep
 pub ruleset kept = (shape-state_after)
@@ -28,18 +29,12 @@ pub state_after_all-append : (s : State) (a b : List Change) → state_after_all
 state_after_all-append s [] b = refl
 state_after_all-append s (c ∷ a) b = state_after_all-append (state_after s c) a b
 
--- the segments of a list that begins with one
-pub placed_segment : (file : List ℕ) (s : State) (h : Header) (rest : List Header) → is_segment h ≡ true
-    → state_after_all (state_after_all s (segment_changes file h)) (flat_map (segment_changes file) (filter is_segment rest)) ≡ state_after_all s (flat_map (segment_changes file) (filter is_segment (h ∷ rest)))
-placed_segment file s h rest segment =
-    sym (state_after_all-append s (segment_changes file h) (flat_map (segment_changes file) (filter is_segment rest)))
-    ∙ ap (λ b. state_after_all s (flat_map (segment_changes file) (cond b (h ∷ filter is_segment rest) (filter is_segment rest)))) (sym segment)
-
--- the segments of a list that begins with another header
-pub placed_other : (file : List ℕ) (s : State) (h : Header) (rest : List Header) → is_segment h ≡ false
-    → state_after_all s (flat_map (segment_changes file) (filter is_segment rest)) ≡ state_after_all s (flat_map (segment_changes file) (filter is_segment (h ∷ rest)))
-placed_other file s h rest other =
-    ap (λ b. state_after_all s (flat_map (segment_changes file) (cond b (h ∷ filter is_segment rest) (filter is_segment rest)))) (sym other)
+-- one more segment is put
+pub placed_more : (file : List ℕ) (s : State) (list : List Header) (h : Header)
+    → state_after_all (state_after_all s (flat_map (segment_changes file) list)) (segment_changes file h) ≡ state_after_all s (flat_map (segment_changes file) (list ++ h ∷ []))
+placed_more file s list h =
+    sym (state_after_all-append s (flat_map (segment_changes file) list) (segment_changes file h))
+    ∙ ap (state_after_all s) (sym (flat_map-append (segment_changes file) list (h ∷ [])))
 
 -- the pc and the stack pointer are set behind the segments
 pub start_state-steps : (file : List ℕ) (shape : Shape) (s : State) → s ≡ state_after_all (zero_state shape) (flat_map (segment_changes file) (segments file))

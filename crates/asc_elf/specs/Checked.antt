@@ -1,14 +1,13 @@
 -- What is known of a file once some of its faults are ruled out.
-use Rattle.std.specs.Prelude.{◌≡◌, ℕ, ◌+◌, ◌*◌, ◌<◌, ◌≤◌, List, length, None, false}
-use Rattle.std.specs.List.{filter, list_any}
+use Rattle.std.specs.Prelude.{◌≡◌, ℕ, ◌+◌, ◌*◌, ◌<◌, ◌≤◌, List, length, None, true, false}
 use Rattle.asc_model.specs.Shape.{Shape}
-use Rattle.asc_elf.specs.File.{e_entry, e_phoff, e_phnum, Header, is_segment}
-use Rattle.asc_elf.specs.Image.{first_fault, header_cases, table_cases, segment_cases, cases, is_cut, lowest_address, highest_end, stack_of, shape_for, low_of}
+use Rattle.asc_elf.specs.File.{elf_header_size, program_header_size, e_entry, e_phoff, e_phnum, Header, is_segment}
+use Rattle.asc_elf.specs.Image.{first_fault, header_cases, table_cases, segment_cases, cases, is_cut, stack_of, shape_for, low_of}
 
 -- the header and the table of program headers are within the file
 pub record HasTable (file : List ℕ) : Type 0 where
-  pub header : 52 ≤ length file
-  pub table : 0 < e_phnum file → e_phoff file + 32 * e_phnum file ≤ length file
+  pub header : elf_header_size ≤ length file
+  pub table : 0 < e_phnum file → e_phoff file + program_header_size * e_phnum file ≤ length file
 
 -- no fault but maybe one of its place in memory
 pub record IsWhole (file : List ℕ) : Type 0 where
@@ -23,8 +22,9 @@ pub record IsAccepted (file : List ℕ) (shape : Shape) (entry low : ℕ) : Type
   pub begins : entry ≡ e_entry file
   pub breaks : low ≡ low_of file
 
--- these program headers cut nothing off, and their segments have a place in memory below the first stack pointer
-pub record HasPlace (file : List ℕ) (shape : Shape) (list : List Header) : Type 0 where
-  pub whole : list_any (is_cut file) list ≡ false
-  pub above : shape.base ≤ lowest_address (filter is_segment list)
-  pub below : highest_end (filter is_segment list) ≤ stack_of shape
+-- a segment that the file does not cut off, and that has a place in memory below the first stack pointer
+pub record HasPlace (file : List ℕ) (shape : Shape) (header : Header) : Type 0 where
+  pub segment : is_segment header ≡ true
+  pub whole : is_cut file header ≡ false
+  pub above : shape.base ≤ header.p_vaddr
+  pub below : header.p_vaddr + header.p_memsz ≤ stack_of shape

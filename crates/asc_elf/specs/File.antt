@@ -4,6 +4,13 @@ use Rattle.std.specs.Prelude.{ℕ, zero, suc, ◌+◌, Bool, ◌==◌, ◌&&◌,
 use Rattle.std.specs.List.{filter}
 use Rattle.asc_model.specs.Number.{number_at}
 
+-- the sizes of an ELF header and of a program header, in bytes
+abbrev pub elf_header_size : ℕ
+elf_header_size = 52
+
+abbrev pub program_header_size : ℕ
+program_header_size = 32
+
 -- an Elf32_Half and an Elf32_Word, which Elf32_Addr and Elf32_Off are too
 abbrev pub half : List ℕ → ℕ → ℕ
 half file at = number_at 2 file at
@@ -62,7 +69,7 @@ header_at file at = record {
 -- n headers, one after another
 abbrev pub headers_from : List ℕ → ℕ → ℕ → List Header
 headers_from file at zero = []
-headers_from file at (suc n) = header_at file at ∷ headers_from file (at + 32) n
+headers_from file at (suc n) = header_at file at ∷ headers_from file (at + program_header_size) n
 
 unfoldable pub headers : List ℕ → List Header
 headers file = headers_from file (e_phoff file) (e_phnum file)

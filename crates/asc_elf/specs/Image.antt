@@ -3,13 +3,13 @@
 use Rattle.std.specs.Prelude.{ℕ, ◌+◌, ◌-◌, ◌*◌, ◌/◌, ◌%◌, ◌^◌, min, max, nat_eq, Bool, not, ◌==◌, ◌&&◌, ◌||◌, nat_lt, List, [], ◌∷◌, ◌++◌, length, take, drop, replicate, position, Option, Some, None, is_some, unwrap_or, Result, Ok, Err, if◌then◌else◌}
 use Rattle.std.specs.List.{flat_map, list_any, starts_with}
 use Rattle.asc_model.specs.declared.version.Version.{Version}
-use Rattle.asc_model.specs.Shape.{Shape, holds}
+use Rattle.asc_model.specs.Shape.{Shape, page_size, holds}
 use Rattle.asc_model.specs.State.{State}
 use Rattle.asc_model.specs.Machine.{Change, Pc, Register, Memory}
 use Rattle.asc_shape.specs.State.{zero_state, state_after_all}
 use Rattle.asc_elf.specs.declared.fault.ElfFault.{ElfFault}
 use Rattle.asc_elf.specs.declared.fault.ElfFault.TheVariants as faults
-use Rattle.asc_elf.specs.File.{ei_class, ei_data, ei_version, e_type, e_machine, e_entry, e_phoff, e_flags, e_phentsize, e_phnum, Header, headers, is_load, segments}
+use Rattle.asc_elf.specs.File.{elf_header_size, program_header_size, ei_class, ei_data, ei_version, e_type, e_machine, e_entry, e_phoff, e_flags, e_phentsize, e_phnum, Header, headers, is_load, segments}
 
 -- a fault, and whether it stands
 pub record Case : Type 0 where
@@ -32,7 +32,7 @@ magic = 0x7F ∷ 0x45 ∷ 0x4C ∷ 0x46 ∷ []
 -- the header: ELFCLASS32, ELFDATA2LSB, EV_CURRENT, ET_EXEC, EM_RISCV, and no flag but EF_RISCV_TSO
 abbrev pub header_cases : List ℕ → List Case
 header_cases file =
-    (faults.Short if nat_lt (length file) 52)
+    (faults.Short if nat_lt (length file) elf_header_size)
     ∷ (faults.Magic if not (starts_with nat_eq file magic))
     ∷ (faults.Class if not (ei_class file == 1))
     ∷ (faults.Data if not (ei_data file == 1))
@@ -45,8 +45,9 @@ header_cases file =
 -- the table of program headers, where there are any
 abbrev pub table_cases : List ℕ → List Case
 table_cases file =
-    (faults.HeaderSize if nat_lt 0 (e_phnum file) && not (e_phentsize file == 32))
-    ∷ (faults.Table if nat_lt 0 (e_phnum file) && nat_lt (length file) (e_phoff file + 32 * e_phnum file))
+    (faults.HeaderSize if nat_lt 0 (e_phnum file) && not (e_phentsize file == program_header_size))
+    ∷ (faults.Table if nat_lt 0 (e_phnum file)
+    && nat_lt (length file) (e_phoff file + program_header_size * e_phnum file))
     ∷ []
 
 -- PT_INTERP
@@ -82,14 +83,18 @@ highest_end (first ∷ rest) = max (first.p_vaddr + first.p_memsz) (highest_end 
 
 -- memory begins at the page of the lowest segment
 abbrev pub base_of : List ℕ → ℕ
-base_of file = let low = lowest_address (segments file) in low - low % 4096
+base_of file = let low = lowest_address (segments file) in low - low % page_size
 
 abbrev pub shape_for : List ℕ → ℕ → Version → Shape
 shape_for file size version = record { base = base_of file; size = size; version = version }
 
--- the first stack pointer: 64 bytes below the end of memory, which no segment passes
+-- the bytes from the first stack pointer to the end of memory
+abbrev pub below_top : ℕ
+below_top = 64
+
+-- the first stack pointer, which no segment passes
 abbrev pub stack_of : Shape → ℕ
-stack_of shape = shape.base + shape.size - 64
+stack_of shape = shape.base + shape.size - below_top
 
 abbrev pub layout_cases : List ℕ → Shape → List Case
 layout_cases file shape =
@@ -124,9 +129,13 @@ pub record Image : Type 0 where
 abbrev pub low_of : List ℕ → ℕ
 low_of file = (highest_end (segments file) + 15) / 16 * 16
 
--- The break may rise to 65,536 bytes below the end of memory; where low lies above that, it may not rise.
+-- the bytes at the end of memory that are kept for the stack: 64 KiB
+abbrev pub stack_reserve : ℕ
+stack_reserve = 65536
+
+-- The break may rise to where the stack's bytes begin; where low lies above that, it may not rise.
 abbrev pub high_of : Image → ℕ
-high_of image = max image.low (image.start.shape.base + image.start.shape.size - 65536)
+high_of image = max image.low (image.start.shape.base + image.start.shape.size - stack_reserve)
 
 abbrev pub image_for : List ℕ → Shape → Image
 image_for file shape = record { start = start_state file shape; low = low_of file }

@@ -1,17 +1,18 @@
 //! The faults of a file, in the order in which they are looked for, but for those of its place in memory.
 
-ghost use Rattle.std.specs.Prelude.{◌≡◌, ◌≤◌, ◌<◌, length, nat_lt};
+ghost use Rattle.std.specs.Prelude.{◌≡◌, ◌≤◌, length, nat_lt};
 ghost use Rattle.std.specs.List.{list_any};
-ghost use Rattle.asc_elf.specs.File.{headers, segments};
+ghost use Rattle.asc_elf.specs.File.{elf_header_size, headers, segments};
 ghost use Rattle.asc_elf.specs.Image.{first_fault, header_cases, table_cases, segment_cases, is_interp, cut_header};
 ghost use Rattle.asc_elf.specs.Checked.{HasTable};
 
 use crate::ElfFault;
 use crate::file::{
     EF_RISCV_TSO, EI_CLASS, EI_DATA, EI_VERSION, ELF_HEADER_SIZE, ELFCLASS32, ELFDATA2LSB,
-    EM_RISCV, ET_EXEC, EV_CURRENT, Header, PROGRAM_HEADER_SIZE, e_flags, e_machine, e_phentsize,
-    e_phnum, e_phoff, e_type,
+    EM_RISCV, ET_EXEC, EV_CURRENT, PROGRAM_HEADER_SIZE, e_flags, e_machine, e_phentsize, e_phnum,
+    e_phoff, e_type,
 };
+use crate::table::headers;
 
 /// The first fault of the header.
 pub(crate) fn header_fault(file: &[u8]) -> Option<ElfFault>
@@ -40,7 +41,7 @@ pub(crate) fn header_fault(file: &[u8]) -> Option<ElfFault>
 
 /// The first fault of the table of program headers.
 pub(crate) fn table_fault(file: &[u8]) -> Option<ElfFault>
-    requires { 52 ≤ length file.now }
+    requires { elf_header_size ≤ length file.now }
     ensures { result ≡ first_fault (table_cases file.now) }
 {
     let count = e_phnum(file) as usize;
@@ -63,7 +64,7 @@ pub(crate) fn segment_fault(file: &[u8]) -> Option<ElfFault>
     if has_interp(file) {
         Some(ElfFault::Interp)
     } else if let Some(index) = cut_header(file) {
-        Some(ElfFault::Segment(index))
+        Some(ElfFault::Segment(index as u32))
     } else if !has_segment(file) {
         Some(ElfFault::NoLoad)
     } else {
@@ -72,43 +73,25 @@ pub(crate) fn segment_fault(file: &[u8]) -> Option<ElfFault>
 }
 
 /// Whether an interpreter is asked for.
-#[tactic(auto, using(crate::proofs::Headers::at_end))]
 fn has_interp(file: &[u8]) -> bool
     requires { HasTable file.now }
     ensures { result ≡ list_any is_interp (headers file.now) }
 {
-    for index in 0..e_phnum(file) {
-        if Header::nth(file, index).is_interp() {
-            return true;
-        }
-    }
-    false
+    headers(file).any(|header| header.is_interp())
 }
 
 /// The first header that the file cuts off.
-#[tactic(auto, using(crate::proofs::Headers::at_end))]
-fn cut_header(file: &[u8]) -> Option<u32>
+fn cut_header(file: &[u8]) -> Option<usize>
     requires { HasTable file.now }
     ensures { result ≡ cut_header file.now }
 {
-    for index in 0..e_phnum(file) {
-        if Header::nth(file, index).is_cut(file) {
-            return Some(index);
-        }
-    }
-    None
+    headers(file).position(|header| header.is_cut(file))
 }
 
 /// Whether a header loads something.
-#[tactic(auto, using(crate::proofs::Headers::at_end), unfolding(crate::specs::File::segments))]
 fn has_segment(file: &[u8]) -> bool
     requires { HasTable file.now }
     ensures { result ≡ nat_lt 0 (length (segments file.now)) }
 {
-    for index in 0..e_phnum(file) {
-        if Header::nth(file, index).is_segment() {
-            return true;
-        }
-    }
-    false
+    headers(file).any(|header| header.is_segment())
 }

@@ -1,11 +1,11 @@
 //! The fields of a file, and its program headers.
 
-ghost use Rattle.std.specs.Prelude.{◌≡◌, ◌+◌, ◌<◌, ◌≤◌, true, false, [], ◌∷◌, length, take, drop};
+ghost use Rattle.std.specs.Prelude.{◌≡◌, ◌+◌, ◌≤◌, true, false, length, take, drop};
 ghost use Rattle.asc_shape.specs.State.{state_after_all};
-ghost use Rattle.asc_elf.specs.File.{half, word, e_type, e_machine, e_entry, e_phoff, e_flags, e_phentsize, e_phnum};
-ghost use Rattle.asc_elf.specs.File.{header_at, headers, is_load, is_segment};
+ghost use Rattle.asc_elf.specs.File.{elf_header_size, program_header_size, half, word, e_type, e_machine, e_entry, e_phoff, e_flags, e_phentsize, e_phnum};
+ghost use Rattle.asc_elf.specs.File.{header_at, is_load, is_segment};
 ghost use Rattle.asc_elf.specs.Image.{is_interp, is_cut, segment_changes};
-ghost use Rattle.asc_elf.specs.Checked.{HasTable, HasPlace};
+ghost use Rattle.asc_elf.specs.Checked.{HasPlace};
 
 use asc_shape::State;
 use byteorder::{ByteOrder, LittleEndian};
@@ -70,7 +70,7 @@ fn word(file: &[u8], at: usize) -> u32
 
 /// The kind of file.
 pub(crate) fn e_type(file: &[u8]) -> u16
-    requires { 52 ≤ length file.now }
+    requires { elf_header_size ≤ length file.now }
     ensures { result ≡ e_type file.now }
 {
     half(file, 16)
@@ -78,7 +78,7 @@ pub(crate) fn e_type(file: &[u8]) -> u16
 
 /// The machine that it is for.
 pub(crate) fn e_machine(file: &[u8]) -> u16
-    requires { 52 ≤ length file.now }
+    requires { elf_header_size ≤ length file.now }
     ensures { result ≡ e_machine file.now }
 {
     half(file, 18)
@@ -86,7 +86,7 @@ pub(crate) fn e_machine(file: &[u8]) -> u16
 
 /// The address at which its program begins.
 pub(crate) fn e_entry(file: &[u8]) -> u32
-    requires { 52 ≤ length file.now }
+    requires { elf_header_size ≤ length file.now }
     ensures { result ≡ e_entry file.now }
 {
     word(file, 24)
@@ -94,7 +94,7 @@ pub(crate) fn e_entry(file: &[u8]) -> u32
 
 /// The place of the table of program headers.
 pub(crate) fn e_phoff(file: &[u8]) -> u32
-    requires { 52 ≤ length file.now }
+    requires { elf_header_size ≤ length file.now }
     ensures { result ≡ e_phoff file.now }
 {
     word(file, 28)
@@ -102,7 +102,7 @@ pub(crate) fn e_phoff(file: &[u8]) -> u32
 
 /// The flags of its machine.
 pub(crate) fn e_flags(file: &[u8]) -> u32
-    requires { 52 ≤ length file.now }
+    requires { elf_header_size ≤ length file.now }
     ensures { result ≡ e_flags file.now }
 {
     word(file, 36)
@@ -110,7 +110,7 @@ pub(crate) fn e_flags(file: &[u8]) -> u32
 
 /// The bytes of a program header.
 pub(crate) fn e_phentsize(file: &[u8]) -> u16
-    requires { 52 ≤ length file.now }
+    requires { elf_header_size ≤ length file.now }
     ensures { result ≡ e_phentsize file.now }
 {
     half(file, 42)
@@ -118,7 +118,7 @@ pub(crate) fn e_phentsize(file: &[u8]) -> u16
 
 /// The number of program headers.
 pub(crate) fn e_phnum(file: &[u8]) -> u32
-    requires { 52 ≤ length file.now }
+    requires { elf_header_size ≤ length file.now }
     ensures { result ≡ e_phnum file.now }
 {
     u32::from(half(file, 44))
@@ -149,9 +149,10 @@ impl Model for Header {
 }
 
 impl Header {
+    /// The program header at a place.
     #[tactic(auto, unfolding(crate::specs::File::header_at))]
-    fn at(file: &[u8], at: usize) -> Header
-        requires { at + 32 ≤ length file.now }
+    pub(crate) fn at(file: &[u8], at: usize) -> Header
+        requires { at + program_header_size ≤ length file.now }
         ensures { result ≡ header_at file.now at }
     {
         Header {
@@ -161,16 +162,6 @@ impl Header {
             p_filesz: word(file, at + 16),
             p_memsz: word(file, at + 20),
         }
-    }
-
-    /// The program header of an index.
-    pub(crate) fn nth(file: &[u8], index: u32) -> Header
-        requires table { HasTable file.now }
-        requires index { index < e_phnum file.now }
-        ensures { drop index (headers file.now) ≡ result ∷ drop (index + 1) (headers file.now) }
-    {
-        let table = e_phoff(file) as usize;
-        Header::at(file, table + PROGRAM_HEADER_SIZE * index as usize)
     }
 
     /// Whether it asks for an interpreter.
@@ -217,8 +208,7 @@ impl Header {
 
     /// Puts a segment into memory: its bytes of the file, and zeros behind them.
     pub(crate) fn put(&self, file: &[u8], s: &mut State)
-        requires segment { is_segment self.now ≡ true }
-        requires place { HasPlace file.now s.old.shape (self.now ∷ []) }
+        requires { HasPlace file.now s.old.shape self.now }
         ensures { s.new ≡ state_after_all s.old (segment_changes file.now self.now) }
     {
         let _ = s.shape();

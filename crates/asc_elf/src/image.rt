@@ -1,17 +1,22 @@
 ghost use Rattle.std.specs.Prelude.{◌≡◌, IsTrue};
-ghost use Rattle.asc_model.specs.Shape.{IsShape};
-ghost use Rattle.asc_shape.specs.Shape.{is_size};
-ghost use Rattle.asc_elf.specs.Image.{image_of};
+ghost use Rattle.asc_model.specs.Shape.{IsShape, is_size};
+ghost use Rattle.asc_elf.specs.Image.{image_of, high_of};
 ghost use Rattle.asc_elf.specs.Checked.{IsWhole};
 
 use crate::ElfFault;
 use crate::cases::{header_fault, segment_fault, table_fault};
 use crate::file::e_entry;
 use crate::segment::{highest, lowest, put_segments};
-use asc_shape::{Shape, State, Version};
+use asc_shape::{PAGE_SIZE, Shape, State, Version};
 use std::marker::Model;
 
-/// An accepted file, for a machine with a size and a version. It takes no memory of its own.
+/// The bytes from the first stack pointer to the end of memory.
+const BELOW_TOP: u32 = 64;
+
+/// The bytes at the end of memory that are kept for the stack: 64 KiB.
+const STACK_RESERVE: u32 = 65_536;
+
+/// An accepted file, for a machine with a size and a version. It borrows the file's bytes.
 ///
 /// Contracts see it as the state in which its program begins, and the program's first break.
 #[derive(Drop)]
@@ -57,12 +62,12 @@ fn laid_out(file: &[u8], size: u32, version: Version) -> Result<Image<'_>, ElfFa
     ensures { result ≡ image_of file.now size version }
 {
     let lowest = lowest(file);
-    let Ok(shape) = Shape::of(lowest - lowest % 4096, size, version) else {
+    let Ok(shape) = Shape::of(lowest - lowest % PAGE_SIZE, size, version) else {
         return Err(ElfFault::TooLarge);
     };
     let highest = highest(file);
-    let end = u64::from(shape.base()) + u64::from(size);
-    if end - 64 < highest {
+    let stack = u64::from(shape.base()) + u64::from(size) - u64::from(BELOW_TOP);
+    if stack < highest {
         return Err(ElfFault::TooLarge);
     }
     let entry = e_entry(file);
@@ -94,6 +99,14 @@ impl Image<'_> {
         self.low
     }
 
+    /// The greatest break: where the stack's 64 KiB begin, or `low` where that lies above.
+    pub fn high(&self) -> u32
+        ensures { result ≡ high_of self.now }
+    {
+        self.low
+            .max(self.shape.base() + (self.shape.size() - STACK_RESERVE))
+    }
+
     /// Makes a state of the image's shape the one in which its program begins.
     pub fn put(&self, s: &mut State)
         requires { s.old.shape ≡ self.now.start.shape }
@@ -102,6 +115,6 @@ impl Image<'_> {
         s.fill();
         put_segments(self.file, s);
         s.set_pc(self.entry);
-        s.set_reg(2, self.shape.base() + (self.shape.size() - 64));
+        s.set_reg(2, self.shape.base() + (self.shape.size() - BELOW_TOP));
     }
 }

@@ -7,6 +7,7 @@ mod file;
 mod image;
 mod laws;
 mod segment;
+mod table;
 
 pub use fault::ElfFault;
 pub use image::{Image, read};

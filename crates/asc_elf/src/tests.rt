@@ -186,3 +186,13 @@ fn puts_the_image(rt: HostRuntime) -> Result<(), Fail> {
     }
     Ok(())
 }
+
+#[test]
+fn the_stack_is_kept_from_the_break(rt: HostRuntime) -> Result<(), Fail> {
+    for (size, high) in [(65_536, 0x1_0010), (131_072, 0x2_0000)] {
+        let image = read(&FIRST, size, Version::Two)?;
+        assert_eq!(rt; image.low(), 0x1_0010);
+        assert_eq!(rt; image.high(), high);
+    }
+    Ok(())
+}

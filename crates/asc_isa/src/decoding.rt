@@ -20,7 +20,7 @@ pub fn decode(word: u32, atomics: bool) -> Option<Instr>
     instruction(word, atomics)
 }
 
-/// The instruction of a word, by its opcode. It is apart from `decode`, so that what is said of registers is shown once.
+/// The instruction of a word, by its opcode. It is not in `decode`, so that what is said of registers is shown once.
 #[inline(always)]
 fn instruction(word: u32, atomics: bool) -> Option<Instr>
     ensures { result ≡ decode (version_of atomics) word }
@@ -44,7 +44,7 @@ fn instruction(word: u32, atomics: bool) -> Option<Instr>
 
 /// LUI.
 #[inline]
-fn lui(word: u32) -> Option<Instr>
+pub(crate) fn lui(word: u32) -> Option<Instr>
     requires { opcode word ≡ 0b0110111 }
     ensures { result ≡ find (rows_of 0b0110111 base_table) word }
 {
@@ -53,7 +53,7 @@ fn lui(word: u32) -> Option<Instr>
 
 /// AUIPC.
 #[inline]
-fn auipc(word: u32) -> Option<Instr>
+pub(crate) fn auipc(word: u32) -> Option<Instr>
     requires { opcode word ≡ 0b0010111 }
     ensures { result ≡ find (rows_of 0b0010111 base_table) word }
 {
@@ -62,7 +62,7 @@ fn auipc(word: u32) -> Option<Instr>
 
 /// JAL.
 #[inline]
-fn jal(word: u32) -> Option<Instr>
+pub(crate) fn jal(word: u32) -> Option<Instr>
     requires { opcode word ≡ 0b1101111 }
     ensures { result ≡ find (rows_of 0b1101111 base_table) word }
 {
@@ -71,7 +71,7 @@ fn jal(word: u32) -> Option<Instr>
 
 /// JALR.
 #[inline]
-fn jalr(word: u32) -> Option<Instr>
+pub(crate) fn jalr(word: u32) -> Option<Instr>
     requires { opcode word ≡ 0b1100111 }
     ensures { result ≡ find (rows_of 0b1100111 base_table) word }
 {
@@ -184,7 +184,7 @@ fn op(word: u32) -> Option<Instr>
 
 /// MISC-MEM: the fences.
 #[inline]
-fn misc_mem(word: u32) -> Option<Instr>
+pub(crate) fn misc_mem(word: u32) -> Option<Instr>
     requires { opcode word ≡ 0b0001111 }
     ensures { result ≡ find (rows_of 0b0001111 base_table) word }
 {
@@ -197,7 +197,7 @@ fn misc_mem(word: u32) -> Option<Instr>
 
 /// SYSTEM: the words that call the environment.
 #[inline]
-fn system(word: u32) -> Option<Instr>
+pub(crate) fn system(word: u32) -> Option<Instr>
     requires { opcode word ≡ 0b1110011 }
     ensures { result ≡ find (rows_of 0b1110011 base_table) word }
 {

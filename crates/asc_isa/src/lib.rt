@@ -4,8 +4,10 @@
 mod decoding;
 mod fields;
 mod operands;
+mod specialized;
 #[cfg(test)]
 mod tests;
 
 pub use asc_model::{Instr, Op};
 pub use decoding::decode;
+pub use specialized::decode_specialized;

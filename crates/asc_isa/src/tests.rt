@@ -1,15 +1,17 @@
 //! Words and the instructions that they are. Where an instruction stands beside a word, llvm-mc (LLVM 14.0.6) made the
 //! word of it; the other words are written after the manual's encoding.
-use crate::{Instr, Op, decode};
+use crate::{Instr, Op, decode, decode_specialized};
 use std::process::Abort;
 
-/// A word is this instruction with the atomics, and that one without.
+/// Both decoders answer this instruction for a word with the atomics, and that one without.
 fn assert_decoded<R: Abort>(rt: &R, word: u32, with: Option<Instr>, without: Option<Instr>) {
-    assert_eq!(rt;
-        (decode(word, true), decode(word, false)),
-        (with, without),
-        "{word}"
-    );
+    for (atomics, want) in [(true, with), (false, without)] {
+        assert_eq!(rt;
+            (decode(word, atomics), decode_specialized(word, atomics)),
+            (want, want),
+            "{word}"
+        );
+    }
 }
 
 #[test]

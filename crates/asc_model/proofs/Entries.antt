@@ -10,8 +10,8 @@ use Rattle.asc_model.specs.State.{State, IsState}
 use Rattle.asc_model.specs.Step.{Next, At, Call, Bad}
 use Rattle.asc_model.specs.Plain.{plain}
 use Rattle.asc_model.specs.Places.{places_from, bytes_after}
-use Rattle.asc_model.specs.Touched.{is_among, first_reads, written_in}
-use Rattle.asc_model.specs.Entry.{IsTrueEntry, Entry, IsListing, IsEntry, Matches, put_entry, HoldsEverywhere, cells_among, entry_of, own_start, IsOwn}
+use Rattle.asc_model.specs.DependencyVector.{is_among, first_reads, written_in}
+use Rattle.asc_model.specs.Entry.{IsTrueEntry, Entry, IsListing, IsEntry, Matches, put_entry, HoldsEverywhere, cells_among, entry_of, own_start, IsCanonical}
 use Rattle.asc_model.specs.Laws.{AgreeOn, PlainStepsAlike, EntriesAreTrue}
 use Rattle.asc_model.proofs.Numbers.{length-bytes_after}
 use Rattle.asc_model.proofs.Touches.{places_from-AllBelow}
@@ -342,7 +342,7 @@ module _ (n : ℕ) (s after : State) (good : IsState s) (goes : plain n s ≡ At
         (all_of_each (λ p. slice_index (own_start e).bytes p ≡ slice_index s.bytes p) places own-read);
   }
 
-  is_own : IsOwn e
+  is_own : IsCanonical e
   is_own =
       let own = own_start e in
       let alike = goes_alike own own-IsState own-Matches in

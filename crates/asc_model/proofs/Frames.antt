@@ -19,7 +19,7 @@ use Rattle.asc_model.specs.Instruction.{decode, op_of, rd_of, rs1_of, rs2_of, im
 use Rattle.asc_model.specs.Effect.{Effect, Set, Load, Store, Jump, LoadReserved, StoreConditional, Modify, GuestCall, Breakpoint, effect}
 use Rattle.asc_model.specs.Step.{Outcome, Goes, Calls, Fails, fault_outcome, is_aligned, loaded_word, effect_of, outcome_of, fetch, outcome_of_word, outcome, Next, At, Call, Bad, next}
 use Rattle.asc_model.specs.Places.{places_from, register_places, reservation_places, data_places, operand_places, places_read, cells_of_outcome, writes, places_written, bytes_after}
-use Rattle.asc_model.specs.Touched.{without, first_reads, written_in}
+use Rattle.asc_model.specs.DependencyVector.{without, first_reads, written_in}
 use Rattle.asc_model.specs.Laws.{KeepsOthers, AgreeOn, GoesAlike, StepsAlike, OneStepFrame, ManyStepsFrame}
 use Rattle.asc_model.proofs.Numbers.{number_at-suc}
 use Rattle.asc_model.proofs.Views.{view_of-reserved_One, view_of-reserved_Two, view_of-pc, view_of-register_suc, view_of-load}

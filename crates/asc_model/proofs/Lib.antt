@@ -11,3 +11,5 @@ pub mod Frames
 pub mod Listings
 pub mod Entries
 pub mod Reaches
+pub mod Computing
+pub mod Shapes

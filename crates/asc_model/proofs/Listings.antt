@@ -6,7 +6,7 @@ use Rattle.std.proofs.lemmas.Bool.{cases_Bool, cases_eq, eq-eqb, ne_eqb, cond-tr
 use Rattle.std.proofs.lemmas.List.Elements.{All-tail}
 use Rattle.std.proofs.lemmas.List.Sums.{sum_by-cons}
 use Rattle.asc_model.specs.Places.{places_from}
-use Rattle.asc_model.specs.Touched.{is_among}
+use Rattle.asc_model.specs.DependencyVector.{is_among}
 
 -- ---- rising lists
 

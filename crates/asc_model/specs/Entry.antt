@@ -7,7 +7,7 @@ use Rattle.asc_model.specs.State.{State, IsState}
 use Rattle.asc_model.specs.Step.{At, Call, Bad}
 use Rattle.asc_model.specs.Plain.{plain}
 use Rattle.asc_model.specs.Places.{places_from, bytes_after}
-use Rattle.asc_model.specs.Touched.{is_among, first_reads, written_in}
+use Rattle.asc_model.specs.DependencyVector.{is_among, first_reads, written_in}
 
 -- an entry of steps: the bytes that they read first, and those that they leave, each with its place
 pub record Entry : Type 0 where
@@ -66,11 +66,11 @@ abbrev pub own_start : Entry → State
 own_start e = record { shape = e.shape; bytes = bytes_after (replicate (length_of e.shape) 0) e.reads }
 
 -- An entry is its own: it is the entry of its steps from there.
-abbrev pub IsOwn : Entry → Type 0
-IsOwn e = entry_of e.steps (own_start e) ≡ Some e
+abbrev pub IsCanonical : Entry → Type 0
+IsCanonical e = entry_of e.steps (own_start e) ≡ Some e
 
 -- an entry that holds everywhere and is its own
 pub record IsTrueEntry (e : Entry) : Type 0 where
   pub entry : IsEntry e
   pub everywhere : HoldsEverywhere e
-  pub own : IsOwn e
+  pub own : IsCanonical e

@@ -91,7 +91,14 @@ fits (AtomicLoad funct) word =
     (opcode word == atomic_opcode) && (funct3 word == word_width) && (funct5 word == funct) && (rs2 word == 0)
 fits (Whole whole) word = word == whole
 
--- how a word spells its operands
+-- how a word spells its operands, by format; Plain spells none
+-- R: funct7 31..25 | rs2 24..20 | rs1 19..15 | funct3 14..12 | rd 11..7 | opcode 6..0
+-- I: imm[11:0] 31..20 | rs1 19..15 | funct3 14..12 | rd 11..7 | opcode 6..0
+-- Shift: funct7 31..25 | shamt 24..20 | rs1 19..15 | funct3 14..12 | rd 11..7 | opcode 6..0
+-- S: imm[11:5] 31..25 | rs2 24..20 | rs1 19..15 | funct3 14..12 | imm[4:0] 11..7 | opcode 6..0
+-- B: imm[12] 31 | imm[10:5] 30..25 | rs2 24..20 | rs1 19..15 | funct3 14..12 | imm[4:1] 11..8 | imm[11] 7 | opcode 6..0
+-- U: imm[31:12] 31..12 | rd 11..7 | opcode 6..0
+-- J: imm[20] 31 | imm[10:1] 30..21 | imm[11] 20 | imm[19:12] 19..12 | rd 11..7 | opcode 6..0
 pub data Format : Type 0 where
   U J I Shift S B R Plain : Format
 

@@ -9,10 +9,10 @@ use Rattle.asc_model.specs.Step.{At, Call, Bad, next}
 use Rattle.asc_model.specs.Instruction.{Row, fits, operands, table, decode}
 use Rattle.asc_model.specs.Places.{places_read, places_written, writes, bytes_after}
 use Rattle.asc_model.specs.Plain.{plain}
-use Rattle.asc_model.specs.Touched.{first_reads, written_in}
+use Rattle.asc_model.specs.DependencyVector.{first_reads, written_in}
 use Rattle.asc_model.specs.Entry.{Entry, IsTrueEntry, entry_of}
 use Rattle.asc_model.specs.declared.why.Why.{Why}
-use Rattle.asc_model.specs.Reach.{Bounds, IsReach}
+use Rattle.asc_model.specs.Reach.{Bounds, IsReach, reach_of}
 
 -- The machine of a state is one of its shape, and the state is the one of that shape and machine: they determine it.
 abbrev pub ViewsDetermineStates : Type 0
@@ -133,3 +133,8 @@ EntriesAreTrue = (n : ℕ) (s : State) (e : Entry) → IsState s → 1 ≤ n →
 abbrev pub ReachesAreOne : Type 0
 ReachesAreOne = (bounds : Bounds) (start : State) (m n : ℕ) (why other : Why)
     → IsReach bounds start m why → IsReach bounds start n other → (m ≡ n) × (why ≡ other)
+
+-- A trace that ends after n steps, by what a reach is, takes as many as are computed.
+abbrev pub ReachesAreComputed : Type 0
+ReachesAreComputed = (bounds : Bounds) (start : State) (n : ℕ) (why : Why) → IsReach bounds start n why
+    → reach_of bounds start ≡ n

@@ -8,7 +8,7 @@ pub mod Effect
 pub mod Step
 pub mod Places
 pub mod Plain
-pub mod Touched
+pub mod DependencyVector
 pub mod Entry
 pub mod Reach
 pub mod Laws

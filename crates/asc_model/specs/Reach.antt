@@ -1,5 +1,5 @@
 -- Where a trace of steps ends, and why.
-use Rattle.std.specs.Prelude.{◌≡◌, ℕ, ◌+◌, ◌<◌, Bool, false, ◌==◌, ◌++◌, length, nat_lt, count_by, Option, Some, None, if◌then◌else◌}
+use Rattle.std.specs.Prelude.{◌≡◌, ℕ, zero, suc, ◌+◌, ◌<◌, Bool, false, ◌==◌, ◌++◌, length, nat_lt, count_by, Option, Some, None, if◌then◌else◌}
 use Rattle.std.specs.List.{range_with_len}
 use Rattle.std.specs.Option.{option_or}
 use Rattle.asc_model.specs.declared.why.Why.{Why}
@@ -9,7 +9,7 @@ use Rattle.asc_model.specs.Machine.{view_of}
 use Rattle.asc_model.specs.Step.{Next, At, Call, Bad, next}
 use Rattle.asc_model.specs.Plain.{plain}
 use Rattle.asc_model.specs.Places.{places_from}
-use Rattle.asc_model.specs.Touched.{is_among, first_reads, written_in}
+use Rattle.asc_model.specs.DependencyVector.{is_among, first_reads, written_in}
 
 -- the bounds of a trace
 pub record Bounds : Type 0 where
@@ -36,13 +36,17 @@ abbrev pub touched_in : ℕ → State → ℕ
 touched_in n s =
     count_by (λ place. is_among place (first_reads n s ++ written_in n s)) (places_from 0 (length s.bytes))
 
--- The first of these that holds after n steps of a start: so many laps were made; so many steps were taken; fewer
--- than 32 further places may be touched, so that there might be no room for a step.
+-- room enough for each step; a step touches at most 29 places
+abbrev pub step_room : ℕ
+step_room = 32
+
+-- The first of these that holds after n steps of a start: so many laps were made; so many steps were taken; there might
+-- be no room for a step.
 abbrev pub bound_met : Bounds → ℕ → State → Option Why
 bound_met bounds n start =
     if laps_in bounds.pc n start == bounds.laps then Some whys.Lap
     else (if n == bounds.span then Some whys.Span
-    else (if nat_lt bounds.cap (touched_in n start + 32) then Some whys.Room
+    else (if nat_lt bounds.cap (touched_in n start + step_room) then Some whys.Room
     else None))
 
 -- why there is no next step
@@ -67,3 +71,19 @@ pub record IsReach (bounds : Bounds) (start : State) (n : ℕ) (why : Why) : Typ
   pub goes : plain n start ≡ At now
   pub ends : why_after bounds n start now ≡ Some why
   pub least : GoesOn bounds start n
+
+-- from a state that k steps of a start led to, over at most n more: after how many steps of the start a trace ends
+unfoldable pub reach_from : Bounds → (start : State) → (k n : ℕ) → (now : State) → ℕ
+reach_from bounds start k zero now = k
+reach_from bounds start k (suc n) now = elim (why_after bounds k start now) [
+  | Some why ↦ k
+  | None ↦ elim (next now) [
+    | At after ↦ reach_from bounds start (k + 1) n after
+    | Call ↦ k
+    | Bad fault ↦ k
+  ]
+]
+
+-- how many steps a trace of a start takes: over each state in turn, up to the first after which it ends
+abbrev pub reach_of : Bounds → State → ℕ
+reach_of bounds start = reach_from bounds start 0 bounds.span start

@@ -1,7 +1,7 @@
 //! The laws that tie states, their machines and their steps to one another. Each function stands for the law that it
 //! ensures, and does nothing.
 
-ghost use Rattle.asc_model.specs.Laws.{ViewsDetermineStates, StatesDetermineViews, StepWritesBytes, StepsKeepStates, StepsTouchPlaces, PlainStepsJoin, PlainStepsKeepStates, RowsDiffer, DecodeIsTheTable, OneStepFrame, ManyStepsFrame, EntriesAreTrue, ReachesAreOne};
+ghost use Rattle.asc_model.specs.Laws.{ViewsDetermineStates, StatesDetermineViews, StepWritesBytes, StepsKeepStates, StepsTouchPlaces, PlainStepsJoin, PlainStepsKeepStates, RowsDiffer, DecodeIsTheTable, OneStepFrame, ManyStepsFrame, EntriesAreTrue, ReachesAreOne, ReachesAreComputed};
 
 /// A state is known from its shape and its machine, which is one of that shape: turned into its machine and back, it is
 /// the same state.
@@ -77,4 +77,9 @@ pub fn entries_are_true()
 /// A trace of steps ends in at most one way: after one number of steps, for one reason.
 pub fn reaches_are_one()
     ensures { ReachesAreOne }
+{}
+
+/// How many steps a trace takes is computed by `reach_of`: where it ends after a number of steps, that is the number.
+pub fn reaches_are_computed()
+    ensures { ReachesAreComputed }
 {}

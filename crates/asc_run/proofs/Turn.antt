@@ -8,30 +8,30 @@ use Rattle.asc_model.specs.Step.{At, Call, Bad, next}
 use Rattle.asc_shape.specs.Outside.{Given, Takes, IsAtEnd}
 use Rattle.asc_calls.specs.declared.calls.Served.{Served}
 use Rattle.asc_calls.specs.declared.calls.Served.TheVariants as served
-use Rattle.asc_calls.specs.GuestCall.{Act, nothing, joint_act, Device, Input, Out, Err, CallResult}
-use Rattle.asc_calls.specs.World.{CallState, outside, World, world, Acts, Agrees, MayCome}
+use Rattle.asc_calls.specs.GuestCall.{Io, nothing, then_io, Device, Input, Out, Err, CallResult}
+use Rattle.asc_calls.specs.World.{CallState, outside, World, world, DoesIo, Agrees, MayCome}
 use Rattle.asc_calls.specs.Serving.{Serves, call_of, IsCutShort, IsAnswer, steps_of}
 use Rattle.asc_run.specs.declared.walk.Ended.{Ended}
 use Rattle.asc_run.specs.declared.walk.Ended.TheVariants as ends
-use Rattle.asc_run.specs.Plain.{On, progress_after_step, progress_after_call}
+use Rattle.asc_run.specs.Execution.{On, progress_after_step, progress_after_call}
 use Rattle.asc_run.specs.Turn.{position_in, IsAt, Turns, TurnFails, device_of_turn}
-use Rattle.asc_run.proofs.Growth.{joint_act-nothing}
-use Rattle.asc_run.proofs.Reach.{Acts-nothing}
+use Rattle.asc_run.proofs.Growth.{then_io-nothing}
+use Rattle.asc_run.proofs.Reach.{DoesIo-nothing}
 
 -- devices that stay took and were given nothing, whatever the counter of steps did
-Acts-kept : (left : Option (List ℕ)) (out err : Given) (n m : ℕ) → Acts (outside left out err n) (outside left out err m) nothing
-Acts-kept left out err n m =
-    let a = Acts-nothing (outside left out err n) in record { taken = a.taken; out = a.out; err = a.err }
+DoesIo-none : (left : Option (List ℕ)) (out err : Given) (n m : ℕ) → DoesIo (outside left out err n) (outside left out err m) nothing
+DoesIo-none left out err n m =
+    let a = DoesIo-nothing (outside left out err n) in record { taken = a.taken; out = a.out; err = a.err }
 
 -- a step that goes on
-pub Turns-at : (s t : State) (kept : CallState) (left : Option (List ℕ)) (out err : Given) (n k : ℕ) → next s ≡ At t
-    → Turns (world s kept left out err n) (world t kept left out err (n + 1)) k (k + 1) None
-Turns-at s t kept left out err n k e = record {
-  act = nothing;
-  acts = Acts-kept left out err n (n + 1);
+pub Turns-at : (s t : State) (calls : CallState) (left : Option (List ℕ)) (out err : Given) (n k : ℕ) → next s ≡ At t
+    → Turns (world s calls left out err n) (world t calls left out err (n + 1)) k (k + 1) None
+Turns-at s t calls left out err n k e = record {
+  io = nothing;
+  does = DoesIo-none left out err n (n + 1);
   turn = λ first rest may.
-      ap (λ x. progress_after_step kept.low kept.high k (record { state = s; brk = kept.brk; left = rest; act = first }) x) e
-      ∙ ap (λ a. On (record { state = t; brk = kept.brk; left = rest; act = a })) (sym (joint_act-nothing first));
+      ap (λ x. progress_after_step calls.low calls.high k (record { state = s; brk = calls.brk; left = rest; io = first }) x) e
+      ∙ ap (λ a. On (record { state = t; brk = calls.brk; left = rest; io = a })) (sym (then_io-nothing first));
   came = λ rest may. may;
   known = λ known. known;
   low = refl;
@@ -42,15 +42,15 @@ Turns-at s t kept left out err n k e = record {
 }
 
 -- a fault
-pub Turns-bad : (s : State) (kept : CallState) (left : Option (List ℕ)) (out err : Given) (n k : ℕ) (fault : Fault) → next s ≡ Bad fault
-    → Turns (world s kept left out err n) (world s kept left out err n) k k (Some (ends.Fault fault))
-Turns-bad s kept left out err n k fault e = record {
-  act = nothing;
-  acts = Acts-kept left out err n n;
+pub Turns-bad : (s : State) (calls : CallState) (left : Option (List ℕ)) (out err : Given) (n k : ℕ) (fault : Fault) → next s ≡ Bad fault
+    → Turns (world s calls left out err n) (world s calls left out err n) k k (Some (ends.Fault fault))
+Turns-bad s calls left out err n k fault e = record {
+  io = nothing;
+  does = DoesIo-none left out err n n;
   turn = λ first rest may. (
-    record { state = s; brk = kept.brk; left = rest; act = first },
-    ap (λ x. progress_after_step kept.low kept.high k (record { state = s; brk = kept.brk; left = rest; act = first }) x) e,
-    sym (joint_act-nothing first),
+    record { state = s; brk = calls.brk; left = rest; io = first },
+    ap (λ x. progress_after_step calls.low calls.high k (record { state = s; brk = calls.brk; left = rest; io = first }) x) e,
+    sym (then_io-nothing first),
   );
   came = λ rest may. may;
   known = λ known. known;
@@ -106,31 +106,31 @@ came_before false true old_left new_left taken rest ended known takes may =
     Agrees-before old_left new_left taken rest takes (Agrees-end new_left rest (known (λ e. absurd (false≢true e)) refl) may)
 came_before false false old_left new_left taken rest ended known takes may = Agrees-before old_left new_left taken rest takes may
 
-MayCome-before : (old new : World) (answer : Served) (s : Serves old new answer) (rest : List ℕ) → MayCome new rest → MayCome old (s.act.taken ++ rest)
+MayCome-before : (old new : World) (answer : Served) (s : Serves old new answer) (rest : List ℕ) → MayCome new rest → MayCome old (s.io.taken ++ rest)
 MayCome-before old new answer s rest may =
-    came_before old.kept.ended new.kept.ended old.left new.left s.act.taken rest s.ended s.known s.acts.taken may
+    came_before old.calls.ended new.calls.ended old.left new.left s.io.taken rest s.ended s.known s.does.taken may
 
 -- the bytes taken, and then what was left
 drop-taken : (taken rest : List ℕ) → drop (length taken) (taken ++ rest) ≡ rest
 drop-taken taken rest = drop_at taken rest (length taken) refl
 
 -- plain execution at a call
-progress_after_step-call : (old : World) (left : List ℕ) (first : Act) (k : ℕ) → next old.state ≡ Call
-    → progress_after_step old.kept.low old.kept.high k (position_in old left first) (next old.state) ≡ progress_after_call k (position_in old left first) (call_of old left)
-progress_after_step-call old left first k e = ap (λ x. progress_after_step old.kept.low old.kept.high k (position_in old left first) x) e
+progress_after_step-call : (old : World) (left : List ℕ) (first : Io) (k : ℕ) → next old.state ≡ Call
+    → progress_after_step old.calls.low old.calls.high k (position_in old left first) (next old.state) ≡ progress_after_call k (position_in old left first) (call_of old left)
+progress_after_step-call old left first k e = ap (λ x. progress_after_step old.calls.low old.calls.high k (position_in old left first) x) e
 
 -- plain execution comes to where a call that is served does
-IsAt-call : (old new : World) (answer : Served) (s : Serves old new answer) (k : ℕ) → device_of_turn (end_of answer) ≡ None → next old.state ≡ Call → (first : Act) (rest : List ℕ) → MayCome new rest
-    → IsAt (end_of answer) (k + 1) (position_in new rest (joint_act first s.act)) (progress_after_step old.kept.low old.kept.high k (position_in old (s.act.taken ++ rest) first) (next old.state))
+IsAt-call : (old new : World) (answer : Served) (s : Serves old new answer) (k : ℕ) → device_of_turn (end_of answer) ≡ None → next old.state ≡ Call → (first : Io) (rest : List ℕ) → MayCome new rest
+    → IsAt (end_of answer) (k + 1) (position_in new rest (then_io first s.io)) (progress_after_step old.calls.low old.calls.high k (position_in old (s.io.taken ++ rest) first) (next old.state))
 IsAt-call old new served.Went s k h e first rest may =
-    progress_after_step-call old (s.act.taken ++ rest) first k e
-    ∙ ap (λ x. progress_after_call k (position_in old (s.act.taken ++ rest) first) x) (s.call rest may)
-    ∙ ap (λ x. On (record { state = new.state; brk = new.kept.brk; left = x; act = joint_act first s.act })) (drop-taken s.act.taken rest)
+    progress_after_step-call old (s.io.taken ++ rest) first k e
+    ∙ ap (λ x. progress_after_call k (position_in old (s.io.taken ++ rest) first) x) (s.call rest may)
+    ∙ ap (λ x. On (record { state = new.state; brk = new.calls.brk; left = x; io = then_io first s.io })) (drop-taken s.io.taken rest)
 IsAt-call old new (served.Exit code) s k h e first rest may = (
-  position_in old (s.act.taken ++ rest) first,
-  progress_after_step-call old (s.act.taken ++ rest) first k e
-      ∙ ap (λ x. progress_after_call k (position_in old (s.act.taken ++ rest) first) x) (s.call rest may),
-  sym (ap (λ a. joint_act first a) s.leaves.none ∙ joint_act-nothing first),
+  position_in old (s.io.taken ++ rest) first,
+  progress_after_step-call old (s.io.taken ++ rest) first k e
+      ∙ ap (λ x. progress_after_call k (position_in old (s.io.taken ++ rest) first) x) (s.call rest may),
+  sym (ap (λ a. then_io first a) s.leaves.none ∙ then_io-nothing first),
 )
 IsAt-call old new served.ReadFault s k h e first rest may = absurd (cc)
 IsAt-call old new served.WriteFault s k h e first rest may = absurd (cc)
@@ -139,8 +139,8 @@ IsAt-call old new served.ErrFault s k h e first rest may = absurd (cc)
 -- a call that was served
 pub Turns-call : (old new : World) (answer : Served) (k : ℕ) → device_of_turn (end_of answer) ≡ None → next old.state ≡ Call → Serves old new answer → Turns old new k (k + 1) (end_of answer)
 Turns-call old new answer k h e s = record {
-  act = s.act;
-  acts = s.acts;
+  io = s.io;
+  does = s.does;
   turn = IsAt-call old new answer s k h e;
   came = MayCome-before old new answer s;
   known = s.known;
@@ -152,21 +152,21 @@ Turns-call old new answer k h e s = record {
 }
 
 -- what a call in which a device failed says of it
-IsCutShort-call : (new : World) (answer : Served) (device : Device) (act : Act) (call : CallResult) → device_of_turn (end_of answer) ≡ Some device → IsAnswer answer new act call
-    → IsCutShort device act call
-IsCutShort-call new served.Went device act call h says = absurd (cc)
-IsCutShort-call new (served.Exit code) device act call h says = absurd (cc)
-IsCutShort-call new served.ReadFault device act call h says = let same : Input ≡ device = cc in subst (λ d. IsCutShort d act call) same says
-IsCutShort-call new served.WriteFault device act call h says = let same : Out ≡ device = cc in subst (λ d. IsCutShort d act call) same says
-IsCutShort-call new served.ErrFault device act call h says = let same : Err ≡ device = cc in subst (λ d. IsCutShort d act call) same says
+IsCutShort-call : (new : World) (answer : Served) (device : Device) (io : Io) (call : CallResult) → device_of_turn (end_of answer) ≡ Some device → IsAnswer answer new io call
+    → IsCutShort device io call
+IsCutShort-call new served.Went device io call h says = absurd (cc)
+IsCutShort-call new (served.Exit code) device io call h says = absurd (cc)
+IsCutShort-call new served.ReadFault device io call h says = let same : Input ≡ device = cc in subst (λ d. IsCutShort d io call) same says
+IsCutShort-call new served.WriteFault device io call h says = let same : Out ≡ device = cc in subst (λ d. IsCutShort d io call) same says
+IsCutShort-call new served.ErrFault device io call h says = let same : Err ≡ device = cc in subst (λ d. IsCutShort d io call) same says
 
 -- a call in which a device failed
 pub TurnFails-call : (old new : World) (answer : Served) (device : Device) → device_of_turn (end_of answer) ≡ Some device → next old.state ≡ Call → Serves old new answer → TurnFails old new device
 TurnFails-call old new answer device h e s = record {
-  done = s.act;
-  acts = s.acts;
+  done = s.io;
+  does = s.does;
   asks = e;
-  call = λ rest may. IsCutShort-call new answer device s.act (call_of old (s.act.taken ++ rest)) h (s.call rest may);
+  call = λ rest may. IsCutShort-call new answer device s.io (call_of old (s.io.taken ++ rest)) h (s.call rest may);
   came = MayCome-before old new answer s;
   known = s.known;
   steps = omega (arith, s.steps, steps_of-none answer device h);

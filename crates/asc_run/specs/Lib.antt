@@ -1,4 +1,4 @@
-pub mod Plain
+pub mod Execution
 pub mod Turn
 pub mod Walk
 pub mod Laws

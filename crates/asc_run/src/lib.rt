@@ -8,4 +8,4 @@ mod tests;
 mod walk;
 
 pub use laws::progress_is_plain;
-pub use walk::{Counts, Ended, Settings, Walk};
+pub use walk::{Counts, Ended, MOST_STEPS, Settings, Walk};

@@ -18,7 +18,7 @@ pub(crate) struct Process {
 impl Process {
     ghost use Rattle.asc_calls.specs.GuestCall.{Device};
     ghost use Rattle.asc_calls.specs.World.{Blames, world};
-    ghost use Rattle.asc_run.specs.Plain.{device_of};
+    ghost use Rattle.asc_run.specs.Execution.{device_of};
     ghost use Rattle.asc_run.specs.Turn.{Turns, TurnFails, device_of_turn};
     ghost use Rattle.asc_run.specs.Walk.{Follows, StopsAt};
 

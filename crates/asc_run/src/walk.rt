@@ -26,10 +26,13 @@ pub enum Ended {
     ErrFault,
 }
 
+/// The greatest limit on steps.
+pub const MOST_STEPS: u64 = 1 << 40;
+
 /// How a program is run.
 #[derive(Clone, Copy, Debug, PartialEq, Eq)]
 pub struct Settings {
-    /// The greatest number of steps, at most 2^40.
+    /// The greatest number of steps, at most `MOST_STEPS`.
     pub limit: u64,
 }
 
@@ -38,9 +41,9 @@ impl Default for Settings {
 
     ghost is_default = { λ s. s.limit ≡ 2 ^ 40 };
 
-    /// The limit of 2^40 steps.
+    /// The greatest limit on steps.
     fn default() -> Settings {
-        Settings { limit: 1 << 40 }
+        Settings { limit: MOST_STEPS }
     }
 }
 
@@ -75,7 +78,7 @@ impl Model for Walk {
 
     ghost view = { λ w. record {
       state = w.process.state;
-      kept = w.process.calls;
+      calls = w.process.calls;
       limit = w.limit;
       count = w.process.count;
       ended = w.ended;
@@ -88,7 +91,7 @@ impl Model for Walk {
 impl Walk {
     ghost use Rattle.asc_calls.specs.GuestCall.{Device};
     ghost use Rattle.asc_calls.specs.World.{Blames};
-    ghost use Rattle.asc_run.specs.Plain.{device_of};
+    ghost use Rattle.asc_run.specs.Execution.{device_of};
     ghost use Rattle.asc_run.specs.Walk.{new_walk, world_of, Follows, StopsAt};
 
     /// A walk that has not begun. It takes the memory of one state.
@@ -96,15 +99,12 @@ impl Walk {
         requires { settings.limit ≤ 2 ^ 40 }
         ensures { IfOk result (λ walk. walk ≡ new_walk image.now settings.limit) }
     {
-        let shape = image.shape();
-        let mut state = State::new(alloc, shape)?;
+        let mut state = State::new(alloc, image.shape())?;
         image.put(&mut state);
-        let low = image.low();
-        let high = low.max(shape.base() + (shape.size() - 65_536));
         Ok(Walk {
             process: Process {
                 state,
-                calls: Calls::new(low, high),
+                calls: Calls::new(image.low(), image.high()),
                 count: 0,
             },
             limit: settings.limit,
@@ -112,7 +112,7 @@ impl Walk {
         })
     }
 
-    /// Runs the program to its end, its limit, or a call in which a device fails. It takes no memory.
+    /// Runs the program to its end, its limit, or a call in which a device fails. No allocator is handed in.
     ///
     /// A second call answers as the first did, and changes nothing.
     pub fn go<I: Source, O: Sink, E: Sink, L: Ledger>(
@@ -123,7 +123,7 @@ impl Walk {
         steps: &mut Steps<L>,
     ) -> Ended
         // The first call goes as plain execution does, where no device fails.
-        ensures plain { IsNone self.old.ended → device_of result ≡ None → Follows self.old.limit
+        ensures follows { IsNone self.old.ended → device_of result ≡ None → Follows self.old.limit
             (world_of self.old (I.left input.old) (O.given out.old) (E.given err.old) steps.old)
             (world_of self.new (I.left input.new) (O.given out.new) (E.given err.new) steps.new)
             self.new.count result }
@@ -145,7 +145,7 @@ impl Walk {
             world_of self.new (I.left input.new) (O.given out.new) (E.given err.new) steps.new
             ≡ world_of self.old (I.left input.old) (O.given out.old) (E.given err.old) steps.old) }
 
-        // A device's count of faults rises where the first call blames it, and else it stays.
+        // A device's count of faults rises by one where the first call blames it, and else it stays.
         ensures input_faults { Blames (IsNone self.old.ended × (result ≡ Ended.ReadFault))
             (I.faults input.old) (I.faults input.new) }
         ensures out_faults { Blames (IsNone self.old.ended × (result ≡ Ended.WriteFault))

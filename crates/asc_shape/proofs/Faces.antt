@@ -1,6 +1,6 @@
 -- Lemmas on faces: what reads and puts leave, and how many places they touch for the first time.
-use Rattle.std.proofs.Common.{◌≡◌, ℕ, ◌+◌, ◌*◌, ◌≤◌, Bool, true, false, cond, List, [], ◌∷◌, ◌++◌, length, refl, sym, ap, ◌∙◌, inl, inr, slice_index, slice_set, arith}
-use Rattle.std.proofs.lemmas.List.{get_or-set_same, get_or-set_other, set_past, length-set}
+use Rattle.std.proofs.Common.{◌≡◌, ℕ, ◌+◌, ◌*◌, ◌-◌, ◌≤◌, Bool, true, false, cond, List, [], ◌∷◌, ◌++◌, length, map, refl, sym, ap, ◌∙◌, inl, inr, slice_index, slice_set, arith}
+use Rattle.std.proofs.lemmas.List.{get_or-set_same, get_or-set_other, set_past, length-set, length-append}
 use Rattle.std.proofs.lemmas.List.Sums.{count_by-le-length, sum_by-append, sum_by-cons}
 use Rattle.std.specs.List.{count_by}
 use Rattle.std.proofs.lemmas.Bool.{cases_eq, cases_lt, cond_both, false≢true}
@@ -9,7 +9,7 @@ use Rattle.asc_model.specs.declared.status.Status.TheVariants.{Untouched, Read, 
 use Rattle.asc_model.specs.Number.{word_at, bytes_of}
 use Rattle.asc_model.specs.Places.{bytes_after, places_from, cells}
 use Rattle.asc_model.proofs.Numbers.{word_at-from_le_bytes}
-use Rattle.asc_shape.specs.Face.{Face, Marks, Untold, Told, status_at, is_untouched, status_after_read, status_after_write, marks_after, face_after_read, face_after_put, face_after_reads, face_after_puts, untouched_count}
+use Rattle.asc_shape.specs.Face.{Face, Marks, Untold, Told, status_at, is_untouched, status_after_read, status_after_write, marks_after, face_after_read, face_after_put, face_after_reads, face_after_puts, untouched_count, room_of}
 
 -- reads leave the state
 pub state-reads : (f : Face) (places : List ℕ) → (face_after_reads f places).state ≡ f.state
@@ -69,13 +69,13 @@ puts_untold f (cell ∷ cells) e =
 pub untouched_count-le-length : (marks : Marks) (places : List ℕ) → untouched_count marks places ≤ length places
 unfolding untouched_count
 untouched_count-le-length Untold places = omega arith
-untouched_count-le-length (Told statuses touched) places = count_by-le-length _ places
+untouched_count-le-length (Told cap statuses touched) places = count_by-le-length _ places
 
 -- the fresh places of two lists
 pub untouched_count-append : (marks : Marks) (a b : List ℕ) → untouched_count marks (a ++ b) ≡ untouched_count marks a + untouched_count marks b
 unfolding untouched_count
 untouched_count-append Untold a b = refl
-untouched_count-append (Told statuses touched) a b = sum_by-append _ a b
+untouched_count-append (Told cap statuses touched) a b = sum_by-append _ a b
 
 -- the fresh places of a list by its first place
 pub untouched_count-cons : (marks : Marks) (place : ℕ) (places : List ℕ) → untouched_count marks (place ∷ places) ≡ untouched_count marks (place ∷ []) + untouched_count marks places
@@ -108,7 +108,7 @@ untouched_count-marks_after-le : (after_change : Status → Status) → ((s : St
     → untouched_count (marks_after after_change marks place byte) places ≤ untouched_count marks places
 unfolding untouched_count
 untouched_count-marks_after-le after_change touches Untold place byte places = omega arith
-untouched_count-marks_after-le after_change touches (Told statuses touched) place byte places =
+untouched_count-marks_after-le after_change touches (Told cap statuses touched) place byte places =
     count_by-le-count_by _ _ (λ k. untouched-set statuses place k _ (touches _)) places
 
 -- a status after a read is not untouched
@@ -162,22 +162,43 @@ untouched_count_after_read f after place e places = rw e (untouched_count-read-l
 pub untouched_count_after_put : (f after : Face) (place byte : ℕ) → after ≡ face_after_put f place byte → (places : List ℕ) → untouched_count after.marks places ≤ untouched_count f.marks places
 untouched_count_after_put f after place byte e places = rw e (untouched_count-put-le f place byte places)
 
--- the fresh places of a word
-untouched_count-span_4 : (marks : Marks) (place : ℕ) → untouched_count marks (places_from place 4)
-    ≡ untouched_count marks (place ∷ []) + untouched_count marks ((place + 1) ∷ []) + untouched_count marks ((place + 2) ∷ []) + untouched_count marks ((place + 3) ∷ [])
-untouched_count-span_4 marks place =
-    let third : place + 1 + 1 ≡ place + 2 = omega arith in
-    let fourth : place + 2 + 1 ≡ place + 3 = omega arith in
-    rw (third, fourth) (omega (arith, untouched_count-cons marks place ((place + 1) ∷ (place + 2) ∷ (place + 3) ∷ []), untouched_count-cons marks (place + 1) ((place + 2) ∷ (place + 3) ∷ []), untouched_count-cons marks (place + 2) ((place + 3) ∷ [])))
+-- a touch takes the room of its place where that was untouched
+room-marks_after : (after_change : Status → Status) (marks : Marks) (place byte : ℕ)
+    → room_of marks ≤ room_of (marks_after after_change marks place byte) + untouched_count marks (place ∷ [])
+unfolding untouched_count
+room-marks_after after_change Untold place byte = omega arith
+room-marks_after after_change (Told cap statuses touched) place byte =
+    let untouched = is_untouched (status_at statuses place) in
+    let taken : cap - length touched ≤ cap - length (cond untouched (touched ++ (place, byte) ∷ []) touched) + cond untouched 1 0 =
+    cond_both untouched (touched ++ (place, byte) ∷ []) touched
+    (λ list. cap - length touched ≤ cap - length list + cond untouched 1 0)
+    (λ yes. rw yes (omega (arith, length-append touched ((place, byte) ∷ []))))
+    (λ no. omega arith) in
+    omega arith
 
--- the room that touches of four places take, none of which makes a place fresh
-pub room-span_4 : (m m1 m2 m3 : Marks) (place n0 n1 n2 n3 n4 : ℕ)
-    → ((places : List ℕ) → untouched_count m1 places ≤ untouched_count m places) → ((places : List ℕ) → untouched_count m2 places ≤ untouched_count m1 places) → ((places : List ℕ) → untouched_count m3 places ≤ untouched_count m2 places)
-    → n0 ≤ n1 + untouched_count m (place ∷ []) → n1 ≤ n2 + untouched_count m1 ((place + 1) ∷ []) → n2 ≤ n3 + untouched_count m2 ((place + 2) ∷ [])
-    → n3 ≤ n4 + untouched_count m3 ((place + 3) ∷ [])
-    → n0 ≤ n4 + untouched_count m (places_from place 4)
-room-span_4 m m1 m2 m3 place n0 n1 n2 n3 n4 f1 f2 f3 r1 r2 r3 r4 =
-    omega (arith, untouched_count-span_4 m place, f1 ((place + 1) ∷ []), f1 ((place + 2) ∷ []), f1 ((place + 3) ∷ []), f2 ((place + 2) ∷ []), f2 ((place + 3) ∷ []), f3 ((place + 3) ∷ []))
+-- a read takes the room of its place where that was untouched
+pub room-read : (f after : Face) (place : ℕ) → after ≡ face_after_read f place → room_of f.marks ≤ room_of after.marks + untouched_count f.marks (place ∷ [])
+unfolding face_after_read
+room-read f after place e = rw e (room-marks_after status_after_read f.marks place _)
+
+-- a put takes the room of its place where that was untouched
+pub room-put : (f after : Face) (place byte : ℕ) → after ≡ face_after_put f place byte → room_of f.marks ≤ room_of after.marks + untouched_count f.marks (place ∷ [])
+unfolding face_after_put
+room-put f after place byte e = rw e (room-marks_after status_after_write f.marks place _)
+
+-- reads take the room of their untouched places
+pub room-reads : (f : Face) (places : List ℕ) → room_of f.marks ≤ room_of (face_after_reads f places).marks + untouched_count f.marks places
+unfolding face_after_reads
+room-reads f [] = omega arith
+room-reads f (place ∷ places) =
+    omega (arith, room-read f (face_after_read f place) place refl, room-reads (face_after_read f place) places, untouched_count-read-le f place places, untouched_count-cons f.marks place places)
+
+-- puts take the room of their untouched places
+pub room-puts : (f : Face) (list : List (ℕ × ℕ)) → room_of f.marks ≤ room_of (face_after_puts f list).marks + untouched_count f.marks (map (λ cell. cell.0) list)
+unfolding face_after_puts
+room-puts f [] = omega arith
+room-puts f (cell ∷ list) =
+    omega (arith, room-put f (face_after_put f cell.0 cell.1) cell.0 cell.1 refl, room-puts (face_after_put f cell.0 cell.1) list, untouched_count-put-le f cell.0 cell.1 (map (λ cell. cell.0) list), untouched_count-cons f.marks cell.0 (map (λ cell. cell.0) list))
 
 -- a byte after a read
 pub slice_index-read : (f after : Face) (place k : ℕ) → after ≡ face_after_read f place → slice_index after.state.bytes k ≡ slice_index f.state.bytes k

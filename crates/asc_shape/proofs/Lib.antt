@@ -3,3 +3,9 @@ pub mod States
 pub mod Streams
 pub mod Lists
 pub mod Made
+pub mod Pages
+pub mod Copies
+pub mod Restores
+pub mod Snapshots
+pub mod Strides
+pub mod Differences

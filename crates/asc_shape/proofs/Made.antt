@@ -1,10 +1,10 @@
 -- Which shapes are made.
 use Rattle.std.proofs.Common.{◌≡◌, ℕ, Bool, true, false, not, cond, Result, Ok, Err, refl, ◌∙◌, ap, arith}
 use Rattle.std.proofs.lemmas.Bool.Decides.{nat_tests}
-use Rattle.asc_model.specs.Shape.{Shape, IsShape, IsBase, IsSize}
+use Rattle.asc_model.specs.Shape.{Shape, IsShape, IsBase, IsSize, is_base, is_size}
 use Rattle.asc_shape.specs.declared.shape.ShapeFault.{ShapeFault}
 use Rattle.asc_shape.specs.declared.shape.ShapeFault.TheVariants.{Base, Size}
-use Rattle.asc_shape.specs.Shape.{is_base, is_size, shape_of}
+use Rattle.asc_shape.specs.Shape.{shape_of}
 
 is_base-true : (base size : ℕ) → IsBase base size → is_base base size ≡ true
 is_base-true base size h = let a = h.aligned in let w = h.within in grind (arith, nat_tests)

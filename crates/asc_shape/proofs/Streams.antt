@@ -1,7 +1,7 @@
 -- Laws on what sources and sinks were given, and on their counts of faults.
-use Rattle.std.proofs.Common.{◌≡◌, ℕ, ◌+◌, ◌-◌, ◌^◌, ◌≤◌, min, List, [], ◌++◌, length, Option, Some, None, option_map, refl, ap, sym, arith, length-append}
+use Rattle.std.proofs.Common.{◌≡◌, ℕ, ◌+◌, ◌-◌, ◌^◌, min, List, [], ◌++◌, length, Option, Some, None, option_map, refl, ap, sym, arith, length-append}
 use Rattle.std.proofs.lemmas.List.{append-nil, append_assoc}
-use Rattle.asc_shape.specs.Outside.{Given, given_after, Takes, Rose}
+use Rattle.asc_shape.specs.Outside.{Given, given_after, Takes}
 
 -- a number that stops at 2 ^ 64 - 1 rises twice as it rises once by both
 stopped : (n x y : ℕ) → n + min x (2 ^ 64 - 1 - n) + min y (2 ^ 64 - 1 - (n + min x (2 ^ 64 - 1 - n))) ≡ n + min (x + y) (2 ^ 64 - 1 - n)
@@ -49,13 +49,5 @@ Takes-append (Some a) None c x y p q = absurd p
 Takes-append None (Some b) c x y p q = absurd p
 Takes-append None None (Some c) x y p q = q
 
--- what rose has risen at each later count
-pub Rose-later : (a b c : ℕ) → Rose a b → b ≤ c → Rose a c
-Rose-later a b c p q = omega arith
-
--- what rose later has risen from each earlier count
-pub Rose-earlier : (a b c : ℕ) → a ≤ b → Rose b c → Rose a c
-Rose-earlier a b c p q = omega arith
-
 -- these laws, for the attribute of a function
-pub ruleset streams = (given_after-nil, given_after-given_after, Takes-nil, Takes-append, Rose-later, Rose-earlier)
+pub ruleset streams = (given_after-nil, given_after-given_after, Takes-nil, Takes-append)

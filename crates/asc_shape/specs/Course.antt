@@ -1,16 +1,13 @@
 -- How the calls of an object in memory go: which of them fail.
-use Rattle.std.specs.Prelude.{ℕ, ◌+◌, ◌-◌, ◌^◌, ◌==◌, min, Bool, List, if◌then◌else◌}
+use Rattle.std.specs.Prelude.{ℕ, ◌==◌, Bool, List, if◌then◌else◌}
 use Rattle.std.specs.List.{list_any}
+use Rattle.asc_shape.specs.Outside.{one_more}
 
 -- the numbers, from 1, of the calls that fail, how many calls were made, and how often one failed
 pub record Course : Type 0 where
   pub fails : List ℕ
   pub calls : ℕ
   pub faults : ℕ
-
--- one more; a count stops at 2 ^ 64 - 1
-abbrev pub one_more : ℕ → ℕ
-one_more n = min (n + 1) (2 ^ 64 - 1)
 
 -- no call was made
 abbrev pub course_of : List ℕ → Course

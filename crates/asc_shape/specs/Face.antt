@@ -1,14 +1,14 @@
 -- What code sees of a state through `Bytes`: the state, and where that is told, how each place was touched.
-use Rattle.std.specs.Prelude.{◌≡◌, ℕ, ◌+◌, List, [], ◌∷◌, ◌++◌, Bool, true, false, ◌==◌, length, slice_index, slice_index_or, slice_set, count_by, if◌then◌else◌}
+use Rattle.std.specs.Prelude.{◌≡◌, ℕ, ◌-◌, ◌^◌, List, [], ◌∷◌, ◌++◌, Bool, true, false, ◌==◌, length, slice_index, slice_index_or, slice_set, count_by, if◌then◌else◌}
 use Rattle.asc_model.specs.declared.status.Status.{Status}
 use Rattle.asc_model.specs.declared.status.Status.TheVariants.{Untouched, Read, Written, ReadWritten}
 use Rattle.asc_model.specs.State.{State}
 
--- how places were touched: not told, or the status of each place, and each touched place with its byte before its
--- first touch, in the order of those touches
+-- How places were touched, where that is told: at most how many may be, and the status of each place. Each touched place
+-- is listed with its byte before its first touch, in the order of those touches.
 pub data Marks : Type 0 where
   Untold : Marks
-  Told : (statuses : List Status) (touched : List (ℕ × ℕ)) → Marks
+  Told : (cap : ℕ) (statuses : List Status) (touched : List (ℕ × ℕ)) → Marks
 
 pub record Face : Type 0 where
   pub state : State
@@ -40,13 +40,15 @@ status_after_write ReadWritten = ReadWritten
 -- the marks after a touch of a place that held this byte
 abbrev pub marks_after : (Status → Status) → Marks → ℕ → ℕ → Marks
 marks_after after_change Untold place byte = Untold
-marks_after after_change (Told statuses touched) place byte = let status = status_at statuses place in
-    Told (slice_set statuses place (after_change status))
+marks_after after_change (Told cap statuses touched) place byte = let status = status_at statuses place in
+    Told cap (slice_set statuses place (after_change status))
     (if is_untouched status then touched ++ (place, byte) ∷ [] else touched)
 
 -- the face after a read of a place
 unfoldable pub face_after_read : Face → ℕ → Face
-face_after_read f place = record f { marks = marks_after status_after_read f.marks place (slice_index f.state.bytes place) }
+face_after_read f place = record f {
+  marks = marks_after status_after_read f.marks place (slice_index f.state.bytes place);
+}
 
 -- the face after a byte was put at a place
 unfoldable pub face_after_put : Face → ℕ → ℕ → Face
@@ -68,21 +70,18 @@ face_after_puts f (cell ∷ cells) = face_after_puts (face_after_put f cell.0 ce
 -- how many of the places are told to be untouched
 unfoldable pub untouched_count : Marks → List ℕ → ℕ
 untouched_count Untold places = 0
-untouched_count (Told statuses touched) places = count_by (λ place. is_untouched (status_at statuses place)) places
+untouched_count (Told cap statuses touched) places = count_by (λ place. is_untouched (status_at statuses place)) places
 
 -- Marks of this many places, where they are told: each place has a status, and those that are touched are listed once
 -- each, and no others.
 abbrev pub FitPlaces : ℕ → Marks → Type 0
 FitPlaces places Untold = Unit {0}
-FitPlaces places (Told statuses touched) = (length statuses ≡ places)
+FitPlaces places (Told cap statuses touched) = (length statuses ≡ places)
     × ((place : ℕ) → count_by (λ noted. noted.0 == place) touched
     ≡ (if is_untouched (status_at statuses place) then 0 else 1))
 
--- how many places are told to be touched
-abbrev pub touched_count : Marks → ℕ
-touched_count Untold = 0
-touched_count (Told statuses touched) = length touched
-
--- a room and the number of places told to be touched have the same sum before and after
-abbrev pub KeepsTotal : ℕ → Face → ℕ → Face → Type 0
-KeepsTotal room f room_after g = room + touched_count f.marks ≡ room_after + touched_count g.marks
+-- How many more places may be touched. Where marks are not told there is no end of room, and its number is the greatest
+-- of 64 bits.
+abbrev pub room_of : Marks → ℕ
+room_of Untold = 2 ^ 64 - 1
+room_of (Told cap statuses touched) = cap - length touched

@@ -2,5 +2,10 @@ pub mod Shape
 pub mod State
 pub mod Face
 pub mod Outside
-pub mod Course
 pub mod Lists
+pub mod Course
+pub mod Pages
+pub mod Inside
+pub mod Stride
+pub mod TakesIn
+pub mod Pair

@@ -1,5 +1,5 @@
 -- What the sources, sinks and stores in memory are to contracts.
-use Rattle.std.specs.Prelude.{◌≡◌, ◌⊎◌, ℕ, ◌-◌, ◌^◌, ◌==◌, ◌++◌, min, List, length, take, drop, map, nat_lt, string_bytes, Option, Some, None, Result, Ok, Err, if◌then◌else◌}
+use Rattle.std.specs.Prelude.{◌≡◌, ◌⊎◌, ℕ, ◌-◌, ◌^◌, ◌==◌, ◌++◌, min, List, length, take, drop, map, nat_lt, string_bytes, Option, Some, None, Bool, true, false, Result, Ok, Err, if◌then◌else◌}
 use Rattle.asc_shape.specs.declared.outside.Loaded.{Loaded}
 use Rattle.asc_shape.specs.declared.outside.Loaded.TheVariants.{Whole, Longer}
 use Rattle.asc_shape.specs.declared.outside.StoreFault.{StoreFault}
@@ -64,9 +64,10 @@ after_put sink piece = record {
   course = course_after_put sink (length piece);
 }
 
--- a store: its files, and how its calls go
+-- a store: its files, the names that it was asked for, where it tells them, and how its calls go
 pub record Stock : Type 0 where
   pub files : List File
+  pub asked : Option (List (List ℕ))
   pub course : Course
 
 -- what a store answers where it has this content
@@ -86,6 +87,11 @@ Answers store name most result =
 -- the files of a list of names and contents
 abbrev pub files_of : List (String Global × Vec ℕ Global) → List File
 files_of files = map (λ file. record { name = string_bytes file.0; content = file.1.items }) files
+
+-- the names that a store noted, where it noted all
+abbrev pub told_names : Bool → List (String Global) → Option (List (List ℕ))
+told_names true names = Some (map string_bytes names)
+told_names false names = None
 
 -- how the calls of a store went after one that was answered so
 abbrev pub course_after_read : Course → Option (List ℕ) → Course

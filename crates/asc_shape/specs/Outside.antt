@@ -1,18 +1,17 @@
 -- Words on sources, sinks and stores. What they hold may be told or not.
-use Rattle.std.specs.Prelude.{◌≡◌, ℕ, ◌+◌, ◌-◌, ◌^◌, ◌<◌, ◌≤◌, min, List, [], ◌∷◌, ◌++◌, length, Option, Some, None, option_map, Result, OnOk, OnErr, IsErrOf, nat_eq, if◌then◌else◌}
+use Rattle.std.specs.Prelude.{◌≡◌, ℕ, ◌+◌, ◌-◌, ◌^◌, ◌<◌, min, List, [], ◌∷◌, ◌++◌, length, Option, Some, None, option_map, Result, OnOk, OnErr, IsErrOf, nat_eq, if◌then◌else◌}
 use lib.Pointwise.{pointwise}
 use Rattle.asc_shape.specs.declared.outside.StoreFault.{StoreFault}
 use Rattle.asc_shape.specs.declared.outside.StoreFault.TheVariants.{Failed, Memory}
 
--- a count rose; one that stands at its last value, 2 ^ 64 - 1, is said to have risen
-abbrev pub Rose : ℕ → ℕ → Type 0
-Rose before now = min (before + 1) (2 ^ 64 - 1) ≤ now
+-- one more; a count that stands at its last value, 2 ^ 64 - 1, stays
+abbrev pub one_more : ℕ → ℕ
+one_more n = n + min 1 (2 ^ 64 - 1 - n)
 
--- a count of faults never falls, stays where a call succeeds, and rose where it failed
+-- a count of faults stays where a call succeeds, and rises by one where it fails
 pub record HasCause {T E : Type 0} (before now : ℕ) (result : Result T E) : Type 0 where
-  pub later : before ≤ now
   pub stays : OnOk result (now ≡ before)
-  pub rose : OnErr result (Rose before now)
+  pub rose : OnErr result (now ≡ one_more before)
 
 -- these bytes were taken from the front of what was left
 abbrev pub Takes : Option (List ℕ) → Option (List ℕ) → List ℕ → Type 0
@@ -59,9 +58,16 @@ MayHoldLonger (Some files) name most =
     (content : List ℕ) × (content_of files name ≡ Some content) × (most < length content)
 MayHoldLonger None name most = Unit {0}
 
--- a count of faults never falls, stays but where the store failed, and rose there
+-- Of the names that a store was asked for, this one more is told, as the last. It may stop telling them, and then it
+-- tells none again.
+abbrev pub AsksFor : (name : List ℕ) → (before now : Option (List (List ℕ))) → Type 0
+AsksFor name (Some names) (Some now) = now ≡ names ++ name ∷ []
+AsksFor name (Some names) None = Unit {0}
+AsksFor name None None = Unit {0}
+AsksFor name None (Some now) = ⊥
+
+-- a count of faults rises by one where the store failed, and else it stays
 pub record HasStoreCause {T : Type 0} (before now : ℕ) (result : Result T StoreFault) : Type 0 where
-  pub later : before ≤ now
   pub stays : OnOk result (now ≡ before)
   pub memory : IsErrOf result Memory → now ≡ before
-  pub rose : IsErrOf result Failed → Rose before now
+  pub rose : IsErrOf result Failed → now ≡ one_more before

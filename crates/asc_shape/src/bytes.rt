@@ -1,22 +1,18 @@
-ghost use Rattle.std.specs.Prelude.{◌≡◌, ◌+◌, ◌<◌, ◌≤◌, ℕ, [], ◌∷◌, length, slice_index};
+ghost use Rattle.std.specs.Prelude.{◌≡◌, ◌+◌, ◌<◌, ◌≤◌, length, slice_index};
 ghost use Rattle.asc_model.specs.Number.{bytes_of, word_at};
 ghost use Rattle.asc_model.specs.State.{IsState};
 ghost use Rattle.asc_model.specs.Places.{places_from, cells};
-ghost use Rattle.asc_shape.specs.Face.{Face, FitPlaces, KeepsTotal, face_after_read, face_after_put, face_after_reads, face_after_puts, untouched_count};
+ghost use Rattle.asc_shape.specs.Face.{Face, FitPlaces, face_after_read, face_after_put, face_after_reads, face_after_puts, room_of};
 
 use crate::Shape;
 
 /// A state that code reads and writes byte by byte.
 ///
-/// Its face is the state, and how each place was touched where the type tells that. A type may have room for a
-/// limited number of touched places. Room falls by one with each place that is touched for the first time, and by
-/// nothing else: room and touched places together stay the same. A type that doesn't tell its marks keeps its room.
+/// Its face is the state, and how each place was touched where the type tells that, with the number of places that may
+/// be touched. Room is that number less the places touched; a type that doesn't tell its marks has no end of it.
 pub trait Bytes {
-    /// The state, and how its places were touched.
+    /// The state, how its places were touched, and how many may be.
     ghost face: { Self → Face };
-
-    /// How many more places may be touched.
-    ghost room: { Self → ℕ };
 
     /// The shape. A caller's proof learns from it that this is a state, and that its marks fit it.
     fn shape(&self) -> Shape
@@ -24,35 +20,29 @@ pub trait Bytes {
         ensures state { IsState (face self.now).state }
         ensures marks { FitPlaces (length (face self.now).state.bytes) (face self.now).marks };
 
-    /// How many more places may be touched.
+    /// How many more places may be touched: the greatest `usize` where marks are not told.
     fn room(&self) -> usize
-        ensures { result ≡ room self.now };
+        ensures { result ≡ room_of (face self.now).marks };
 
     /// The byte at a place.
     fn get(&mut self, place: u32) -> u8
         requires place { place < length (face self.old).state.bytes }
-        requires room { 1 ≤ room self.old }
+        requires room { 1 ≤ room_of (face self.old).marks }
         ensures byte { result ≡ slice_index (face self.old).state.bytes place }
-        ensures face { face self.new ≡ face_after_read (face self.old) place }
-        ensures room { room self.old ≤ room self.new + untouched_count (face self.old).marks (place ∷ []) }
-        ensures total { KeepsTotal (room self.old) (face self.old) (room self.new) (face self.new) };
+        ensures face { face self.new ≡ face_after_read (face self.old) place };
 
     /// Puts a byte at a place.
     fn put(&mut self, place: u32, byte: u8)
         requires place { place < length (face self.old).state.bytes }
-        requires room { 1 ≤ room self.old }
-        ensures face { face self.new ≡ face_after_put (face self.old) place byte }
-        ensures room { room self.old ≤ room self.new + untouched_count (face self.old).marks (place ∷ []) }
-        ensures total { KeepsTotal (room self.old) (face self.old) (room self.new) (face self.new) };
+        requires room { 1 ≤ room_of (face self.old).marks }
+        ensures face { face self.new ≡ face_after_put (face self.old) place byte };
 
     /// The word in the four bytes from a place on, the lowest byte first.
     fn get_word(&mut self, place: u32) -> u32
         requires place { place + 4 ≤ length (face self.old).state.bytes }
-        requires room { 4 ≤ room self.old }
+        requires room { 4 ≤ room_of (face self.old).marks }
         ensures word { result ≡ word_at (face self.old).state.bytes place }
         ensures face { face self.new ≡ face_after_reads (face self.old) (places_from place 4) }
-        ensures room { room self.old ≤ room self.new + untouched_count (face self.old).marks (places_from place 4) }
-        ensures total { KeepsTotal (room self.old) (face self.old) (room self.new) (face self.new) }
     {
         // Its shape bounds the places of a state, so that the sums below fit.
         let _ = self.shape();
@@ -67,10 +57,8 @@ pub trait Bytes {
     /// Puts a word in the four bytes from a place on, the lowest byte first.
     fn put_word(&mut self, place: u32, word: u32)
         requires place { place + 4 ≤ length (face self.old).state.bytes }
-        requires room { 4 ≤ room self.old }
+        requires room { 4 ≤ room_of (face self.old).marks }
         ensures face { face self.new ≡ face_after_puts (face self.old) (cells place (bytes_of 4 word)) }
-        ensures room { room self.old ≤ room self.new + untouched_count (face self.old).marks (places_from place 4) }
-        ensures total { KeepsTotal (room self.old) (face self.old) (room self.new) (face self.new) }
     {
         // Its shape bounds the places of a state, so that the sums below fit.
         let _ = self.shape();

@@ -1,5 +1,5 @@
-ghost use Rattle.std.specs.Prelude.{◌≡◌, ◌≤◌, is_err};
-ghost use Rattle.asc_shape.specs.Outside.{HasCause, Rose};
+ghost use Rattle.std.specs.Prelude.{◌≡◌, is_err};
+ghost use Rattle.asc_shape.specs.Outside.{HasCause};
 ghost use Rattle.asc_shape.specs.Course.{course_of, fails_next, course_after_failure, course_after_call};
 
 use crate::Failed;
@@ -50,9 +50,7 @@ impl Failures {
 
     /// Counts a failure of a call that was counted.
     pub(crate) fn fail(&mut self) -> Failed
-        ensures after { self.new ≡ course_after_failure self.old }
-        ensures later { self.old.faults ≤ self.new.faults }
-        ensures rose { Rose self.old.faults self.new.faults }
+        ensures { self.new ≡ course_after_failure self.old }
     {
         self.faults = self.faults.saturating_add(1);
         Failed

@@ -49,13 +49,14 @@ impl Source for ListSource {
     ghost faults = { λ s. s.course.faults };
 
     fn take(&mut self, into: &mut [u8]) -> Result<usize, Failed>
+        requires { 0 < length into.old }
         ensures fails { is_err result ≡ fails_next self.old.course }
         ensures gives { IfOk result (λ k. k ≡ given_count self.old (length into.old)) }
         ensures after { self.new ≡ after_take self.old (length into.old) }
         ensures count { IfOk result (λ k. k ≤ length into.old) }
         ensures taken { IfOk result (λ k. Takes (Some self.old.left) (Some self.new.left) (take k into.new)) }
         ensures behind { IfOk result (λ k. drop k into.new ≡ drop k into.old) }
-        ensures end { result ≡ Ok 0 → 0 < length into.old → IsAtEnd (Some self.old.left) }
+        ensures end { result ≡ Ok 0 → IsAtEnd (Some self.old.left) }
         ensures nothing { OnErr result (self.new.left ≡ self.old.left) }
         ensures buffer { OnErr result (into.new ≡ into.old) }
         ensures cause { HasCause self.old.course.faults self.new.course.faults result }

@@ -1,5 +1,5 @@
 ghost use Rattle.std.specs.Prelude.{◌≡◌, ◌<◌, ◌≤◌, ℕ, List, Option, [], length, take, drop, vec_len, IfOk, OnErr};
-ghost use Rattle.asc_shape.specs.Outside.{HasCause, HasStoreCause, Takes, IsAtEnd, Given, given_after, File, MayHold, MayHoldLonger};
+ghost use Rattle.asc_shape.specs.Outside.{HasCause, HasStoreCause, AsksFor, Takes, IsAtEnd, Given, given_after, File, MayHold, MayHoldLonger};
 
 use std::alloc::{AllocError, AllocFailed};
 
@@ -31,15 +31,16 @@ pub trait Source {
     /// How often it has failed.
     ghost faults: { Self → ℕ };
 
-    /// Takes bytes from the front of what is left into the front of a buffer, and tells how many.
+    /// Takes bytes from the front of what is left into the front of a buffer that is not empty, and tells how many.
     ///
-    /// It may take fewer than the buffer holds. Zero, for a buffer that is not empty, is the end of the input. The
-    /// buffer stays as it was behind the bytes taken.
+    /// It may take fewer than the buffer holds. Zero is the end of the input. The buffer stays as it was behind the
+    /// bytes taken.
     fn take(&mut self, into: &mut [u8]) -> Result<usize, Failed>
+        requires { 0 < length into.old }
         ensures count { IfOk result (λ k. k ≤ length into.old) }
         ensures taken { IfOk result (λ k. Takes (left self.old) (left self.new) (take k into.new)) }
         ensures behind { IfOk result (λ k. drop k into.new ≡ drop k into.old) }
-        ensures end { result ≡ Ok 0 → 0 < length into.old → IsAtEnd (left self.old) }
+        ensures end { result ≡ Ok 0 → IsAtEnd (left self.old) }
 
         // A call that fails takes nothing.
         ensures nothing { OnErr result (left self.new ≡ left self.old) }
@@ -90,6 +91,9 @@ pub trait Store {
     /// Its files, where they are told.
     ghost files: { Self → Option (List File) };
 
+    /// The names that it was asked for, in order, where they are told.
+    ghost asked: { Self → Option (List (List ℕ)) };
+
     /// How often it has failed.
     ghost faults: { Self → ℕ };
 
@@ -98,6 +102,7 @@ pub trait Store {
     /// After `Longer` and after an error the buffer is empty.
     fn read(&mut self, name: &str, into: &mut Vec<u8>, most: usize) -> Result<Loaded, StoreFault>
         ensures files { files self.new ≡ files self.old }
+        ensures asked { AsksFor name.now (asked self.old) (asked self.new) }
         ensures whole { result ≡ Ok Loaded.Whole → MayHold (files self.old) name.now into.new.items }
         ensures within { vec_len into.new ≤ most }
         ensures longer { result ≡ Ok Loaded.Longer → MayHoldLonger (files self.old) name.now most }

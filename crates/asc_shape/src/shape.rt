@@ -1,6 +1,6 @@
 ghost use Rattle.std.specs.Prelude.{◌≡◌, ◌+◌, ◌≤◌};
-ghost use Rattle.asc_shape.specs.Shape.{shape_of, is_size};
-ghost use Rattle.asc_model.specs.Shape.{IsShape, start_of, place_of, holds};
+ghost use Rattle.asc_shape.specs.Shape.{shape_of};
+ghost use Rattle.asc_model.specs.Shape.{IsShape, start_of, place_of, holds, is_size};
 ghost use Rattle.asc_model.specs.declared.version.Version.TheVariants.{One, Two};
 
 use asc_model::Version;
@@ -9,11 +9,20 @@ use std::marker::Model;
 /// Why a base and a size make no shape.
 #[derive(Clone, Copy, Debug, PartialEq, Eq)]
 pub enum ShapeFault {
-    /// The base is not a multiple of 4096, or memory would end past address 2^32 - 1.
+    /// The base is not a multiple of `PAGE_SIZE`, or memory would end past address 2^32 - 1.
     Base,
-    /// The size is not a multiple of 4, below 65,536 or above 67,108,864 bytes.
+    /// The size is not a multiple of 4, below `LEAST_SIZE` or above `MOST_SIZE`.
     Size,
 }
+
+/// The least size of memory, in bytes: 64 KiB.
+pub const LEAST_SIZE: u32 = 65_536;
+
+/// The greatest size of memory, in bytes: 64 MiB.
+pub const MOST_SIZE: u32 = 67_108_864;
+
+/// Memory begins at a multiple of this.
+pub const PAGE_SIZE: u32 = 4096;
 
 /// Where a machine's memory begins, how many bytes it has, and which version the machine is of.
 ///
@@ -56,7 +65,7 @@ impl Shape {
     pub fn of(base: u32, size: u32, version: Version) -> Result<Shape, ShapeFault>
         ensures { result ≡ shape_of base size version }
     {
-        if !base.is_multiple_of(4096) || u64::from(base) + u64::from(size) > 1 << 32 {
+        if !base.is_multiple_of(PAGE_SIZE) || u64::from(base) + u64::from(size) > 1 << 32 {
             return Err(ShapeFault::Base);
         }
         if !Shape::good_size(size) {
@@ -73,7 +82,7 @@ impl Shape {
     pub fn good_size(size: u32) -> bool
         ensures { result ≡ is_size size }
     {
-        size.is_multiple_of(4) && (65_536..=67_108_864).contains(&size)
+        size.is_multiple_of(4) && (LEAST_SIZE..=MOST_SIZE).contains(&size)
     }
 
     /// The address at which memory begins.
@@ -102,10 +111,8 @@ impl Shape {
     pub fn start(&self) -> u32
         ensures { result ≡ start_of self.now.version }
     {
-        match self.version {
-            Version::One => 128,
-            Version::Two => 136,
-        }
+        // The number of version One is 0, and that of version Two is 1.
+        128 + 8 * (self.version as u32)
     }
 
     /// Whether the `n` bytes from an address on are all in memory. The sums do not wrap.

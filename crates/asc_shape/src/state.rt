@@ -1,6 +1,6 @@
-ghost use Rattle.std.specs.Prelude.{◌≡◌, ◌+◌, ◌-◌, ◌^◌, ◌<◌, ◌≤◌, IfOk, IsTrue, length, replicate, slice_index, slice_set};
+ghost use Rattle.std.specs.Prelude.{◌≡◌, ◌≢◌, ℕ, List, [], ◌+◌, ◌-◌, ◌*◌, ◌/◌, ◌^◌, ◌<◌, ◌≤◌, min, true, false, IfOk, IsTrue, length, replicate, slice_index, slice_index_or, slice_set};
 ghost use Rattle.asc_model.specs.Shape.{length_of, place_of, holds};
-ghost use Rattle.asc_model.specs.Number.{AreBytes, word_at, bytes_of};
+ghost use Rattle.asc_model.specs.Number.{word_at, bytes_of};
 ghost use Rattle.asc_model.specs.Places.{cells, bytes_after};
 ghost use Rattle.asc_model.specs.State.{IsState};
 ghost use Rattle.asc_model.specs.Machine.{register, view_of, Pc, Register};
@@ -8,20 +8,31 @@ ghost use Rattle.asc_model.specs.Machine as machine;
 ghost use Rattle.asc_shape.specs.Face.{Untold};
 ghost use Rattle.std.specs.Borrow.{Lends, Array, sem, u8 as byte};
 ghost use Rattle.asc_shape.specs.contracts.state.State.{the_row};
+ghost use Rattle.asc_shape.specs.Pages.{IsMarked, IsBaseOf, IsBlank, IsBlankGroup, IsUnmarked, IsRestored, base_bytes};
+ghost use Rattle.asc_shape.specs.Stride.{strided};
+ghost use Rattle.asc_shape.specs.Outside.{HasCause, IsAtEnd};
+ghost use Rattle.asc_shape.specs.TakesIn.{TakesIn};
 ghost use Rattle.asc_shape.specs.State.{with_memory, zero_state, state_after, memory_at};
 
-use crate::{Bytes, Memory, Shape};
+use crate::page::{
+    GROUP, PAGE, elements_are_bytes, group_ends, is_unmarked, put_page, stride_page,
+};
+use crate::{Bytes, Failed, Memory, Pair, Shape, Snapshot, Source};
 use std::alloc::Global;
 use std::marker::Model;
+use std::sync::Arc;
 
 /// A machine's state, as one list of bytes: the pc, registers 1 to 31, in version Two the load reservation, and
 /// memory. Every number is little-endian.
 ///
 /// Contracts see it as the `State` of the model.
-#[derive(Drop)]
 pub struct State {
     shape: Shape,
     bytes: Vec<u8>,
+    // What the pages that are not changed have; zeros where there is none.
+    base: Option<Arc<Snapshot>>,
+    // For each page, whether it may differ from the base's.
+    changed: Vec<bool>,
 }
 
 impl Model for State {
@@ -33,7 +44,21 @@ impl Model for State {
 
     ghost view = { λ s. record { shape = s.shape; bytes = s.bytes.items } };
 
-    ghost invariant = { λ s. IsShape s.shape × (length s.bytes.items ≡ length_of s.shape) };
+    ghost use Rattle.asc_shape.specs.Inside.{IsInside};
+
+    ghost invariant = { IsInside };
+}
+
+// Written out, so that a function that lets a state go calls it, and its proof does not go into the fields.
+impl Drop for State {
+    fn drop(self) {
+        let State {
+            shape: _,
+            bytes: _,
+            base: _,
+            changed: _,
+        } = self;
+    }
 }
 
 impl State {
@@ -45,6 +70,8 @@ impl State {
         Ok(State {
             shape,
             bytes: vec![in alloc; 0; len]?,
+            base: None,
+            changed: first_marked(vec![in alloc; false; len / PAGE + 1]?),
         })
     }
 
@@ -81,6 +108,7 @@ impl State {
         requires { place < length_of self.old.shape }
         ensures { self.new ≡ record self.old { bytes = slice_set self.old.bytes place byte } }
     {
+        self.changed[place as usize / PAGE] = true;
         self.bytes[place as usize] = byte;
     }
 
@@ -142,7 +170,8 @@ impl State {
         &self.bytes[from..from + n as usize]
     }
 
-    /// The n bytes of memory from an address on, for writing.
+    /// The n bytes of memory from an address on, for writing. All pages from there to the end of memory count as changed;
+    /// `write` and `take_in` mark theirs alone.
     pub fn mem_mut(&mut self, at: u32, n: u32) -> &mut [u8]
         requires { IsTrue (holds self.old.shape at n) }
         ensures* writes_back { sem 𝓛 (Lends the_row (Array byte 0) self.entry result (with_memory self.old at)) }
@@ -150,6 +179,8 @@ impl State {
         ensures len { length result.now ≡ n }
     {
         let from = self.place(at);
+        let len = self.bytes.len();
+        mark(&mut self.changed, from, len - from);
         self.bytes.slice_mut(from..from + n as usize)
     }
 
@@ -161,7 +192,22 @@ impl State {
         let _ = self.shape();
         elements_are_bytes(bytes);
         let from = self.place(at);
+        mark(&mut self.changed, from, bytes.len());
         self.bytes[from..from + bytes.len()].copy_from_slice(bytes);
+    }
+
+    /// Takes bytes of a source into the n bytes of memory from an address on, at least one, in one call of the source.
+    pub fn take_in<I: Source>(&mut self, at: u32, n: u32, input: &mut I) -> Result<usize, Failed>
+        requires within { IsTrue (holds self.old.shape at n) }
+        requires some { 0 < n }
+        ensures takes { (held : List ℕ) ×
+            TakesIn (I.left input.old) (I.left input.new) self.old self.new at n result held }
+        ensures end { result ≡ Ok 0 → IsAtEnd (I.left input.old) }
+        ensures cause { HasCause (I.faults input.old) (I.faults input.new) result }
+    {
+        let from = self.place(at);
+        mark(&mut self.changed, from, n as usize);
+        input.take(&mut self.bytes[from..from + n as usize])
     }
 
     /// Puts n zeros into memory, from an address on.
@@ -171,22 +217,104 @@ impl State {
     {
         let _ = self.shape();
         let from = self.place(at);
+        mark(&mut self.changed, from, n as usize);
         self.bytes[from..from + n as usize].fill(0);
     }
 
-    /// Makes all bytes 0.
+    /// Makes all bytes 0. It costs what this state uses.
     pub fn fill(&mut self)
         ensures { self.new ≡ zero_state self.old.shape }
     {
-        self.bytes.fill(0);
+        // That it is a shape bounds how many bytes there are.
+        let _ = self.shape.base();
+        for g in 0..(self.changed.len() - 1) / GROUP + 1 {
+            blank_group(
+                self.shape,
+                &self.base,
+                &mut self.bytes,
+                &mut self.changed,
+                g,
+            );
+        }
+        self.changed[0] = true;
+        self.base = None;
     }
 
-    /// Makes this state equal to another one of its shape. It allocates nothing.
+    /// Makes this state equal to another one of its shape. No allocator is handed in.
     pub fn copy_from(&mut self, from: &State)
         requires { self.old.shape ≡ from.now.shape }
         ensures { self.new ≡ from.now }
     {
         self.bytes.copy_from_slice(&from.bytes);
+        self.changed.fill(true);
+        self.base = None;
+    }
+
+    // A copy of this state, which costs what changed since the base.
+    pub(crate) fn snapshot(&self, alloc: Global) -> Result<Arc<Snapshot>, Memory>
+        ensures { IfOk result (λ s. s.value ≡ self.now) }
+    {
+        let snapshot = Snapshot::made(alloc, self.shape, &self.bytes, &self.changed, &self.base)?;
+        Ok(Arc::new(alloc, snapshot)?)
+    }
+
+    /// A copy of this state, which stays. It costs what changed since the last one that was made so; after `new`,
+    /// `fill`, `restore` and `stride` what the state uses, and after `copy_from` all of it.
+    pub fn freeze(&mut self, alloc: Global) -> Result<Arc<Snapshot>, Memory>
+        ensures stays { self.new ≡ self.old }
+        ensures frozen { IfOk result (λ s. s.value ≡ self.old) }
+    {
+        let snapshot = self.snapshot(alloc)?;
+        let base = Arc::try_clone(&snapshot)?;
+        self.base = Some(base);
+        self.changed.fill(false);
+        self.changed[0] = true;
+        Ok(snapshot)
+    }
+
+    /// Makes this state equal to a copy of a state of its shape. It costs what either uses. No allocator is handed in.
+    pub fn restore(&mut self, from: &Snapshot)
+        requires { self.old.shape ≡ from.now.shape }
+        ensures { self.new ≡ from.now }
+    {
+        // That its shape is one, which bounds how many bytes it has.
+        let _ = from.shape().base();
+        for g in 0..(self.changed.len() - 1) / GROUP + 1 {
+            put_group(from, &self.base, &mut self.bytes, &mut self.changed, g);
+        }
+        self.changed[0] = true;
+        self.base = None;
+    }
+
+    /// Makes each aligned word that of the pair's later one, and `ahead` times what it rose by from the earlier one,
+    /// modulo 2^32. It costs what either of the pair or this state uses. No allocator is handed in.
+    pub fn stride(&mut self, pair: &Pair, ahead: u32)
+        requires { self.old.shape ≡ pair.now.last.shape }
+        ensures { self.new ≡ record self.old { bytes = strided ahead pair.now.last.bytes pair.now.prev.bytes } }
+    {
+        let differ = pair.differ();
+        self.restore(pair.last());
+        for k in 0..differ.len() {
+            self.stride_page(pair.prev(), pair.last(), differ[k], ahead);
+        }
+    }
+
+    // Strides page p, whatever was there.
+    fn stride_page(&mut self, prev: &Snapshot, last: &Snapshot, p: usize, ahead: u32)
+        requires prev { self.old.shape ≡ prev.now.shape }
+        requires last { self.old.shape ≡ last.now.shape }
+        requires page { p < length_of self.old.shape / 4096 + 1 }
+        ensures shape { self.new.shape ≡ self.old.shape }
+        ensures length { length self.new.bytes ≡ length self.old.bytes }
+        ensures page { (i : ℕ) → i / 4096 ≡ p
+            → slice_index self.new.bytes i ≡ slice_index (strided ahead last.now.bytes prev.now.bytes) i }
+        ensures others { (i : ℕ) → i / 4096 ≢ p → slice_index self.new.bytes i ≡ slice_index self.old.bytes i }
+    {
+        // That their shapes are ones.
+        let _ = (prev.shape(), last.shape());
+        self.changed[p] = true;
+        put_page(&mut self.bytes, p, last.page(p), false);
+        stride_page(&mut self.bytes, p, prev.page(p), ahead);
     }
 
     // The place of an address from the base of memory to its end, as an index.
@@ -215,6 +343,7 @@ impl State {
         ensures { self.new ≡ record self.old { bytes = bytes_after self.old.bytes (cells place (bytes_of 4 word)) } }
     {
         let at = place as usize;
+        mark_word(&mut self.changed, at);
         self.bytes[at..at + 4].copy_from_slice(&word.to_le_bytes());
     }
 }
@@ -222,8 +351,6 @@ impl State {
 /// It does not tell how its places were touched, and has no end of room.
 impl Bytes for State {
     ghost face = { λ s. record { state = s; marks = Untold } };
-
-    ghost room = { λ s. 2 ^ 64 - 1 };
 
     #[inline]
     fn shape(&self) -> Shape {
@@ -260,7 +387,131 @@ impl Bytes for State {
     }
 }
 
-// The elements of a slice of bytes are bytes.
-fn elements_are_bytes(_slice: &[u8])
-    ensures { AreBytes _slice.now }
-{}
+// The same marks, the first page marked too.
+fn first_marked(changed: Vec<bool>) -> Vec<bool>
+    requires { 0 < length changed.items }
+    ensures { result.items ≡ slice_set changed.items 0 true }
+{
+    let mut changed = changed;
+    changed[0] = true;
+    changed
+}
+
+// Marks the pages of the word at a place. The first page, in which the registers are, is always marked.
+#[inline]
+fn mark_word(changed: &mut Vec<bool>, at: usize)
+    requires within { at + 4 < 2 ^ 32 }
+    requires pages { (at + 3) / 4096 < length changed.old.items }
+    requires first { slice_index_or changed.old.items 0 true ≡ true }
+    ensures { IsMarked at 4 changed.old.items changed.new.items }
+{
+    if at + 3 >= PAGE {
+        changed[at / PAGE] = true;
+        // A word at a multiple of 4 lies in one page.
+        if !at.is_multiple_of(4) {
+            changed[(at + 3) / PAGE] = true;
+        }
+    }
+}
+
+// Marks the pages of the n places from a place on.
+fn mark(changed: &mut Vec<bool>, from: usize, n: usize)
+    requires within { from + n < 2 ^ 32 }
+    requires pages { (from + n) / 4096 < length changed.old.items }
+    ensures { IsMarked from n changed.old.items changed.new.items }
+{
+    for p in from / PAGE..(from + n + (PAGE - 1)) / PAGE {
+        changed[p] = true;
+    }
+}
+
+// Whether page p is known to be blank, where it is not changed.
+#[inline]
+fn is_blank(shape: Shape, base: &Option<Arc<Snapshot>>, p: usize, changed: bool) -> bool
+    requires base { IsBaseOf shape base.now }
+    requires page { p < length_of shape / 4096 + 1 }
+    ensures changed { result ≡ true → changed ≡ false }
+    ensures blank { result ≡ true → IsBlank (base_bytes base.now) p }
+{
+    match base {
+        None => !changed,
+        Some(base) => !changed && base.page(p).is_empty(),
+    }
+}
+
+// Whether group g is known to be blank in a state with this base and these marks.
+fn is_blank_group(shape: Shape, base: &Option<Arc<Snapshot>>, changed: &[bool], g: usize) -> bool
+    requires base { IsBaseOf shape base.now }
+    requires marks { length changed.now ≡ length_of shape / 4096 + 1 }
+    requires group { 64 * g < length changed.now }
+    ensures changed { result ≡ true → IsUnmarked changed.now g }
+    ensures base { result ≡ true → IsBlankGroup (base_bytes base.now) g }
+{
+    // That it is a shape bounds how many marks there are.
+    let _ = shape.base();
+    is_unmarked(changed, g)
+        && match base {
+            None => true,
+            Some(base) => base.is_blank_group(g),
+        }
+}
+
+// Writes zeros over group g of a state with this base and these bytes and marks.
+fn blank_group(
+    shape: Shape,
+    base: &Option<Arc<Snapshot>>,
+    bytes: &mut [u8],
+    changed: &mut [bool],
+    g: usize,
+)
+    requires base { IsBaseOf shape base.now }
+    requires length { length bytes.old ≡ length_of shape }
+    requires marks { length changed.old ≡ length_of shape / 4096 + 1 }
+    requires group { 64 * g < length changed.old }
+    requires restored { IsRestored [] (min (64 * g) (length changed.old)) (base_bytes base.now) bytes.old changed.old }
+    ensures { IsRestored [] (min (64 * g + 64) (length changed.old)) (base_bytes base.now) bytes.new changed.new }
+{
+    if is_blank_group(shape, base, changed, g) {
+        return;
+    }
+    // That it is a shape bounds how many marks there are.
+    let _ = shape.base();
+    let (first, end) = group_ends(g, changed.len());
+    for p in first..end {
+        let blank = is_blank(shape, base, p, changed[p]);
+        put_page(bytes, p, &[], blank);
+        changed[p] = false;
+    }
+}
+
+// Writes group g of a copy of a state over that of another state with this base and these bytes and marks.
+fn put_group(
+    from: &Snapshot,
+    base: &Option<Arc<Snapshot>>,
+    bytes: &mut [u8],
+    changed: &mut [bool],
+    g: usize,
+)
+    requires base { IsBaseOf from.now.shape base.now }
+    requires length { length bytes.old ≡ length_of from.now.shape }
+    requires marks { length changed.old ≡ length_of from.now.shape / 4096 + 1 }
+    requires group { 64 * g < length changed.old }
+    requires restored { IsRestored from.now.bytes (min (64 * g) (length changed.old)) (base_bytes base.now)
+        bytes.old changed.old }
+    ensures { IsRestored from.now.bytes (min (64 * g + 64) (length changed.old)) (base_bytes base.now)
+        bytes.new changed.new }
+{
+    // That it is a shape bounds how many marks there are.
+    let shape = from.shape();
+    let _ = shape.base();
+    if from.is_blank_group(g) && is_blank_group(shape, base, changed, g) {
+        return;
+    }
+    let (first, end) = group_ends(g, changed.len());
+    for p in first..end {
+        let page = from.page(p);
+        let blank = is_blank(shape, base, p, changed[p]);
+        put_page(bytes, p, page, blank);
+        changed[p] = !page.is_empty();
+    }
+}

@@ -38,11 +38,12 @@ impl Source for SureSource {
     ghost faults = { λ _. 0 };
 
     fn take(&mut self, into: &mut [u8]) -> Result<usize, Failed>
+        requires { 0 < length into.old }
         ensures gives { result ≡ Ok (min (length into.old) (length self.old)) }
         ensures count { IfOk result (λ k. k ≤ length into.old) }
         ensures taken { IfOk result (λ k. Takes (Some self.old) (Some self.new) (take k into.new)) }
         ensures behind { IfOk result (λ k. drop k into.new ≡ drop k into.old) }
-        ensures end { result ≡ Ok 0 → 0 < length into.old → IsAtEnd (Some self.old) }
+        ensures end { result ≡ Ok 0 → IsAtEnd (Some self.old) }
         ensures nothing { OnErr result (self.new ≡ self.old) }
         ensures buffer { OnErr result (into.new ≡ into.old) }
         ensures cause { HasCause 0 0 result }

@@ -1,8 +1,12 @@
 ghost use Rattle.std.specs.Prelude.{◌≡◌, ◌+◌, ◌≤◌, IsTrue, slice_set};
 ghost use Rattle.asc_model.specs.Shape.{length_of, holds};
+ghost use Rattle.asc_shape.specs.Face.{room_of};
 ghost use Rattle.asc_shape.specs.State.{memory_at, with_memory};
 
-use crate::{Bytes, Shape, ShapeFault, State, Version};
+use crate::{Bytes, Pair, Shape, ShapeFault, Snapshot, State, Version};
+use std::alloc::Global;
+use std::sync::Arc;
+use std::thread;
 
 #[test]
 fn shapes(rt: HostRuntime) {
@@ -98,6 +102,265 @@ fn edges_of_memory(rt: HostRuntime) {
     }
 }
 
+// Runs beside plain lists of bytes: the size of memory, the number that they begin with, and how many rounds they have.
+static RUNS: [(u32, u32, u32); 3] = [(65_536, 1, 24), (65_536, 2, 24), (1_048_576, 3, 4)];
+
+// Where memory is refused, what comes after it goes on from what was there before.
+#[test]
+fn snapshots(rt: HostRuntime) {
+    for (size, number, rounds) in RUNS {
+        let shape = Shape::two(0x10000, size).expect(&rt, "a shape");
+        let Some(mut run) = run_of(rt.alloc(), shape, number) else {
+            return;
+        };
+        for round in 0..rounds {
+            run.step(rt.alloc());
+            assert!(rt; run.is_as_plain(), "size {size}, round {round}");
+        }
+    }
+}
+
+// A snapshot, and what it was taken of.
+#[derive(Drop)]
+struct Kept {
+    snapshot: Arc<Snapshot>,
+    plain: Vec<u8>,
+}
+
+#[derive(Drop)]
+struct Run {
+    state: State,
+    plain: Vec<u8>,
+    copy: State,
+    prev: Kept,
+    last: Kept,
+    number: u32,
+}
+
+fn run_of(alloc: Global, shape: Shape, number: u32) -> Option<Run> {
+    let mut state = State::new(alloc, shape).ok()?;
+    Some(Run {
+        plain: vec![in alloc; 0; state.len()].ok()?,
+        copy: State::new(alloc, shape).ok()?,
+        prev: kept_of(alloc, &mut state)?,
+        last: kept_of(alloc, &mut state)?,
+        state,
+        number,
+    })
+}
+
+fn kept_of(alloc: Global, state: &mut State) -> Option<Kept> {
+    Some(Kept {
+        snapshot: state.freeze(alloc).ok()?,
+        plain: vec![in alloc; 0; state.len()].ok()?,
+    })
+}
+
+impl Run {
+    fn next(&mut self) -> u32 {
+        self.number = self
+            .number
+            .wrapping_mul(1_664_525)
+            .wrapping_add(1_013_904_223);
+        self.number >> 8
+    }
+
+    // Some puts, and then a freeze, a restore or a stride.
+    fn step(&mut self, alloc: Global) {
+        for _ in 0..self.next() % 8 {
+            self.put();
+        }
+        match self.next() % 6 {
+            0 => self.restore(),
+            1 => self.stride(alloc),
+            2 => self.fill(),
+            _ => self.freeze(alloc),
+        }
+    }
+
+    // A word or a byte in the first or the last page, across two pages, or anywhere.
+    fn put(&mut self) {
+        let shape = self.state.shape();
+        let _ = shape.base();
+        let len = shape.start() + shape.size();
+        let place = match self.next() % 4 {
+            0 => self.next() % 4096,
+            1 => len.saturating_sub(4 + self.next() % 64),
+            2 => (4096 * (self.next() % 64)).saturating_sub(self.next() % 4),
+            _ => self.next().saturating_mul(4) % len.max(1),
+        };
+        let word = self.next().wrapping_mul(257);
+        if self.next() % 2 == 0 {
+            let [byte, ..] = word.to_le_bytes();
+            put_byte(&mut self.state, place, byte);
+            put_plain(&mut self.plain, place as usize, &[byte]);
+        } else if place <= len.saturating_sub(4) {
+            put_whole(&mut self.state, place, word);
+            put_plain(&mut self.plain, place as usize, &word.to_le_bytes());
+        }
+    }
+
+    fn fill(&mut self) {
+        self.state.fill();
+        self.plain.fill(0);
+    }
+
+    fn freeze(&mut self, alloc: Global) {
+        if let Ok(snapshot) = self.state.freeze(alloc) {
+            std::mem::swap(&mut self.prev, &mut self.last);
+            self.last.snapshot = snapshot;
+            copy_plain(&mut self.last.plain, &self.plain);
+        }
+    }
+
+    fn restore(&mut self) {
+        restore(&mut self.state, &self.prev.snapshot);
+        copy_plain(&mut self.plain, &self.prev.plain);
+    }
+
+    fn stride(&mut self, alloc: Global) {
+        let ahead = self.next();
+        if let Some(pair) = pair_of(alloc, &self.prev.snapshot, &self.last.snapshot) {
+            stride(&mut self.state, &pair, ahead);
+            stride_plain(&mut self.plain, &self.prev.plain, &self.last.plain, ahead);
+        }
+    }
+
+    // The state and both snapshots are as their plain lists.
+    fn is_as_plain(&mut self) -> bool {
+        if !is_as(&self.state, &self.plain) {
+            return false;
+        }
+        restore(&mut self.copy, &self.prev.snapshot);
+        if !is_as(&self.copy, &self.prev.plain) {
+            return false;
+        }
+        restore(&mut self.copy, &self.last.snapshot);
+        is_as(&self.copy, &self.last.plain) && self.copy.pc() == self.last.snapshot.pc()
+    }
+}
+
+fn pair_of(alloc: Global, prev: &Arc<Snapshot>, last: &Arc<Snapshot>) -> Option<Pair> {
+    let prev = Arc::try_clone(prev).ok()?;
+    let last = Arc::try_clone(last).ok()?;
+    if prev.shape() != last.shape() {
+        return None;
+    }
+    Pair::of(alloc, prev, last).ok()
+}
+
+fn put_byte(state: &mut State, place: u32, byte: u8) {
+    let _ = state.shape();
+    if (place as usize) < state.len() {
+        state.set(place, byte);
+    }
+}
+
+fn put_whole(state: &mut State, place: u32, word: u32) {
+    let _ = state.shape();
+    if place as usize + 4 <= state.len() {
+        put_word_of(state, place, word);
+    }
+}
+
+fn put_plain(plain: &mut [u8], place: usize, bytes: &[u8]) {
+    if place < plain.len() && bytes.len() <= plain.len() - place {
+        plain[place..place + bytes.len()].copy_from_slice(bytes);
+    }
+}
+
+fn copy_plain(plain: &mut [u8], from: &[u8]) {
+    if plain.len() == from.len() {
+        plain.copy_from_slice(from);
+    }
+}
+
+fn restore(state: &mut State, from: &Snapshot) {
+    if state.shape() == from.shape() {
+        state.restore(from);
+    }
+}
+
+fn stride(state: &mut State, pair: &Pair, ahead: u32) {
+    if state.shape() == pair.last().shape() {
+        state.stride(pair, ahead);
+    }
+}
+
+fn stride_plain(plain: &mut [u8], prev: &[u8], last: &[u8], ahead: u32) {
+    let words = prev.chunks_exact(4).zip(last.chunks_exact(4));
+    for (place, (prev, last)) in plain.chunks_exact_mut(4).zip(words) {
+        let (prev, last) = (word_of(prev), word_of(last));
+        let word = last.wrapping_add(ahead.wrapping_mul(last.wrapping_sub(prev)));
+        place.copy_from_slice(&word.to_le_bytes());
+    }
+}
+
+fn word_of(bytes: &[u8]) -> u32 {
+    let mut word = [0; 4];
+    copy_plain(&mut word, bytes);
+    u32::from_le_bytes(word)
+}
+
+// Memory is read as a whole, and what is before it byte by byte.
+fn is_as(state: &State, plain: &[u8]) -> bool {
+    let shape = state.shape();
+    let start = shape.start();
+    for place in 0..start {
+        if plain.get(place as usize) != Some(&state.get(place)) {
+            return false;
+        }
+    }
+    state.holds(shape.base(), shape.size())
+        && plain.get(start as usize..) == Some(state.mem(shape.base(), shape.size()))
+}
+
+// The greatest memory: what is put into its first and its last word comes back.
+#[test]
+fn largest_memory(rt: HostRuntime) {
+    let shape = Shape::two(0x10000, 67_108_864).expect(&rt, "a shape");
+    let mut state = State::new(rt.alloc(), shape).expect(&rt, "memory");
+    let first = state.freeze(rt.alloc()).expect(&rt, "memory");
+    put_whole(&mut state, 136, 3);
+    put_whole(&mut state, 67_108_996, 5);
+    let last = state.freeze(rt.alloc()).expect(&rt, "memory");
+    let pair = pair_of(rt.alloc(), &first, &last).expect(&rt, "memory");
+    for (turn, words) in [(first, (0, 0)), (last, (3, 5))] {
+        restore(&mut state, &turn);
+        assert_eq!(rt; ends_of(&state), words);
+    }
+    stride(&mut state, &pair, 2);
+    assert_eq!(rt; ends_of(&state), (9, 15));
+    state.fill();
+    assert_eq!(rt; ends_of(&state), (0, 0));
+}
+
+fn ends_of(state: &State) -> (u32, u32) {
+    let end = 0x10000 + 67_108_860;
+    if state.holds(0x10000, 4) && state.holds(end, 4) {
+        (word_of(state.mem(0x10000, 4)), word_of(state.mem(end, 4)))
+    } else {
+        (1, 1)
+    }
+}
+
+// Threads read one snapshot.
+#[test]
+fn snapshots_cross_threads(rt: HostRuntime) {
+    let shape = Shape::new(0x10000, 65_536).expect(&rt, "a shape");
+    let mut state = State::new(rt.alloc(), shape).expect(&rt, "memory");
+    state.set_pc(0x10004);
+    let snapshot = Snapshot::of(rt.alloc(), &state).expect(&rt, "memory");
+    let shared = &snapshot;
+    let pcs = thread::join(&rt, move || shared.pc(), move || shared.pc());
+    assert_eq!(rt; pcs, (0x10004, 0x10004));
+    crosses(&snapshot);
+    crosses(&shape);
+}
+
+// What threads may take and share.
+fn crosses<T: Send + Sync>(_it: &T) {}
+
 // It puts 9 into the second byte at an address.
 fn put_nine(state: &mut State, at: u32)
     requires { IsTrue (holds state.old.shape at 2) }
@@ -108,7 +371,7 @@ fn put_nine(state: &mut State, at: u32)
 
 fn get_word_of<B: Bytes>(bytes: &mut B, place: u32) -> u32
     requires place { place + 4 ≤ length_of (B.face bytes.old).state.shape }
-    requires room { 4 ≤ B.room bytes.old }
+    requires room { 4 ≤ room_of (B.face bytes.old).marks }
 {
     let _ = bytes.shape();
     bytes.get_word(place)
@@ -116,8 +379,25 @@ fn get_word_of<B: Bytes>(bytes: &mut B, place: u32) -> u32
 
 fn put_word_of<B: Bytes>(bytes: &mut B, place: u32, word: u32)
     requires place { place + 4 ≤ length_of (B.face bytes.old).state.shape }
-    requires room { 4 ≤ B.room bytes.old }
+    requires room { 4 ≤ room_of (B.face bytes.old).marks }
 {
     let _ = bytes.shape();
     bytes.put_word(place, word);
+}
+
+/// A register that rose from FFFFFFFE to 1, strided so many times.
+#[test]
+fn stride_wraps(rt: HostRuntime) {
+    let alloc = rt.alloc();
+    let shape = Shape::two(0x10000, 65_536).expect(&rt, "a shape");
+    let mut state = State::new(alloc, shape).expect(&rt, "memory");
+    state.set_reg(5, 0xFFFF_FFFE);
+    let prev = state.freeze(alloc).expect(&rt, "memory");
+    state.set_reg(5, 1);
+    let last = state.freeze(alloc).expect(&rt, "memory");
+    let pair = pair_of(alloc, &prev, &last).expect(&rt, "memory");
+    for (ahead, want) in [(1, 4), (0xFFFF_FFFF, 0xFFFF_FFFE), (0, 1)] {
+        stride(&mut state, &pair, ahead);
+        assert_eq!(rt; state.reg(5), want, "{ahead} times");
+    }
 }

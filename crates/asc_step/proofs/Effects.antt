@@ -295,15 +295,15 @@ finishes_break f pc rd answer at a = finishes_fails f rd Breakpoint (fault_at Br
 -- as many statuses as places, where they are told
 abbrev HasStatuses : ℕ → Marks → Type 0
 HasStatuses n Untold = Unit {0}
-HasStatuses n (Told statuses touched) = length statuses ≡ n
+HasStatuses n (Told cap statuses touched) = length statuses ≡ n
 
 has_statuses : (n : ℕ) (m : Marks) → FitPlaces n m → HasStatuses n m
 has_statuses n Untold h = tt
-has_statuses n (Told statuses touched) h = h.0
+has_statuses n (Told cap statuses touched) h = h.0
 
 has_statuses-after : (n : ℕ) (m : Marks) (place byte : ℕ) → HasStatuses n m → HasStatuses n (marks_after status_after_read m place byte)
 has_statuses-after n Untold place byte h = tt
-has_statuses-after n (Told statuses touched) place byte h = length-set statuses place (status_after_read (status_at statuses place)) ∙ h
+has_statuses-after n (Told cap statuses touched) place byte h = length-set statuses place (status_after_read (status_at statuses place)) ∙ h
 
 read_is_touched : (s : Status) → is_untouched (status_after_read s) ≡ false
 read_is_touched Untouched = refl
@@ -315,7 +315,7 @@ read_is_touched ReadWritten = refl
 touched_by_read : (n : ℕ) (m : Marks) (place byte : ℕ) → HasStatuses n m → place < n → untouched_count (marks_after status_after_read m place byte) (place ∷ []) ≡ 0
 unfolding untouched_count
 touched_by_read n Untold place byte h below = refl
-touched_by_read n (Told statuses touched) place byte h below =
+touched_by_read n (Told cap statuses touched) place byte h below =
     let status = status_after_read (status_at statuses place) in
     let here : status_at (slice_set statuses place status) place ≡ status = get_or-set_same statuses place status Untouched (omega (arith, h)) in
     ap (λ b. 0 + cond b 1 0) (ap is_untouched here ∙ read_is_touched (status_at statuses place))
@@ -323,7 +323,7 @@ touched_by_read n (Told statuses touched) place byte h below =
 touched_none : (m : Marks) → untouched_count m [] ≡ 0
 unfolding untouched_count
 touched_none Untold = refl
-touched_none (Told statuses touched) = refl
+touched_none (Told cap statuses touched) = refl
 
 -- places that were read are touched
 touched_by_reads : (n : ℕ) (f : Face) (places : List ℕ) → HasStatuses n f.marks → All (λ place. place < n) places → untouched_count (face_after_reads f places).marks places ≡ 0
@@ -346,20 +346,25 @@ at_after_reads f g places pc e at =
       touched = touched_after_reads f g places (places_from 0 4) e at.touched;
     }
 
--- once the pc and the word are read the instruction is at hand
-pub at_fetched : (f f1 f2 : Face) (pc : ℕ) (places : List ℕ) → IsState f.state → FitPlaces (length f.state.bytes) f.marks → pc ≡ word_at f.state.bytes 0
-    → f1 ≡ face_after_reads f (places_from 0 4) → f2 ≡ face_after_reads f1 places → AtInstruction f2 pc
-at_fetched f f1 f2 pc places good fit p e1 e2 =
+-- once the pc is read its places are touched
+pub touched_by_reads_of_pc : (f : Face) → IsState f.state → FitPlaces (length f.state.bytes) f.marks → untouched_count (face_after_reads f (places_from 0 4)).marks (places_from 0 4) ≡ 0
+touched_by_reads_of_pc f good fit =
     let n = length f.state.bytes in
     let long = length-IsState f.state good in
     let bound = λ (x : ℕ). x < n in
     let below : All bound (places_from 0 4) =
     All-cons bound 0 (1 ∷ 2 ∷ 3 ∷ []) (omega arith) (All-cons bound 1 (2 ∷ 3 ∷ []) (omega arith) (All-cons bound 2 (3 ∷ []) (omega arith) (All-cons bound 3 [] (omega arith) (All-nil bound)))) in
+    touched_by_reads n f (places_from 0 4) (has_statuses n f.marks fit) below
+
+-- once the pc and the word are read the instruction is at hand
+pub at_fetched : (f f1 f2 : Face) (pc : ℕ) (places : List ℕ) → IsState f.state → FitPlaces (length f.state.bytes) f.marks → pc ≡ word_at f.state.bytes 0
+    → f1 ≡ face_after_reads f (places_from 0 4) → f2 ≡ face_after_reads f1 places → AtInstruction f2 pc
+at_fetched f f1 f2 pc places good fit p e1 e2 =
     let same : f1.state ≡ f.state = ap (λ (x : Face). x.state) e1 ∙ state-reads f (places_from 0 4) in
     at_after_reads f1 f2 places pc e2 (record {
       state = subst IsState (sym same) good;
       pc = p ∙ sym (view_of-pc f.state) ∙ ap (λ (s : State). (view_of s).pc) (sym same);
-      touched = ap (λ (x : Face). untouched_count x.marks (places_from 0 4)) e1 ∙ touched_by_reads n f (places_from 0 4) (has_statuses n f.marks fit) below;
+      touched = ap (λ (x : Face). untouched_count x.marks (places_from 0 4)) e1 ∙ touched_by_reads_of_pc f good fit;
     })
 
 -- ---- versions

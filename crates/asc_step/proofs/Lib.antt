@@ -1,4 +1,5 @@
 pub mod Products
 pub mod Touches
 pub mod Effects
+pub mod Rooms
 pub mod Steps

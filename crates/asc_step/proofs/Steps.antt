@@ -1,5 +1,5 @@
 -- What a step comes to, in each of its cases.
-use Rattle.std.proofs.Common.{◌≡◌, ℕ, Bool, true, false, not, ◌&&◌, if◌then◌else◌, List, [], ◌++◌, Option, Some, None, refl, sym, ap, ◌∙◌}
+use Rattle.std.proofs.Common.{◌≡◌, ℕ, Bool, true, false, not, ◌&&◌, if◌then◌else◌, List, [], ◌++◌, length, Option, Some, None, refl, sym, ap, ◌∙◌}
 use Rattle.asc_model.specs.declared.version.Version.{Version}
 use Rattle.asc_model.specs.declared.fault.FaultKind.{FaultKind}
 use Rattle.asc_model.specs.declared.fault.FaultKind.TheVariants.{Misaligned, FetchOutside, Illegal}
@@ -13,19 +13,14 @@ use Rattle.asc_model.specs.Step.{Outcome, Goes, Calls, Fails, fault_outcome, is_
 use Rattle.asc_model.specs.Places.{places_from, places_read, operand_places, cells_of_outcome, writes, bytes_after}
 use Rattle.asc_model.proofs.Views.{view_of-pc, view_of-fetch}
 use Rattle.asc_model.proofs.Steps.{next-goes, next-calls, next-fails, writes-calls, writes-fails}
-use Rattle.asc_shape.specs.Face.{Face, face_after_reads, face_after_puts}
+use Rattle.asc_shape.specs.Face.{Face, FitPlaces, face_after_reads, face_after_puts}
 use Rattle.asc_shape.proofs.Faces.{state-reads, state-puts, face_after_reads-append}
 use Rattle.asc_step.specs.declared.stepped.Stepped.{Stepped}
 use Rattle.asc_step.specs.declared.stepped.Stepped.TheVariants as answers
-use Rattle.asc_step.specs.Step.{stepped_of, state_after_step, face_after}
+use Rattle.asc_step.specs.Step.{stepped_of, state_after_step, face_after, Attempts}
 use Rattle.asc_step.specs.Execute.{word_fault, answer_of}
 use Rattle.asc_step.proofs.Touches.{face_after_reads-nil, face_after_puts-nil, state_after_reads}
-
--- what a step answers and leaves
-pub record IsStep (f : Face) (a : Stepped) (g : Face) : Type 0 where
-  pub answer : a ≡ stepped_of (next f.state)
-  pub state : g.state ≡ state_after_step (next f.state) f.state
-  pub places : g ≡ face_after f
+use Rattle.asc_step.proofs.Rooms.{room_after_step}
 
 -- why the word at a pc cannot be fetched
 abbrev fetch_fault : Shape → ℕ → Option FaultKind
@@ -62,10 +57,10 @@ state-face_after f good =
     ∙ sym (state_after_step-is f.state good)
 
 -- a step by its outcome and the places that it reads
-conclude : (f g : Face) (answer : Stepped) (places : List ℕ) (o : Outcome) → IsState f.state → outcome f.state.shape (view_of f.state) ≡ o → places_read f.state ≡ places
-    → answer ≡ answer_of o → g ≡ face_after_puts (face_after_reads f places) (cells_of_outcome f.state.shape o) → IsStep f answer g
+conclude : (f g : Face) (answer : Stepped) (places : List ℕ) (o : Outcome) → IsState f.state → FitPlaces (length f.state.bytes) f.marks → outcome f.state.shape (view_of f.state) ≡ o → places_read f.state ≡ places
+    → answer ≡ answer_of o → g ≡ face_after_puts (face_after_reads f places) (cells_of_outcome f.state.shape o) → Attempts f g answer
 unfolding writes
-conclude f g answer places o good e p a h =
+conclude f g answer places o good fit e p a h =
     let all : g ≡ face_after f =
     h ∙ ap (λ list. face_after_puts (face_after_reads f list) (cells_of_outcome f.state.shape o)) (sym p)
     ∙ ap (λ (x : Outcome). face_after_puts (face_after_reads f (places_read f.state)) (cells_of_outcome f.state.shape x)) (sym e) in
@@ -73,6 +68,7 @@ conclude f g answer places o good e p a h =
       answer = a ∙ ap answer_of (sym e) ∙ sym (stepped_of-next f.state);
       state = ap (λ (face : Face). face.state) all ∙ state-face_after f good;
       places = all;
+      room = room_after_step f g good fit all;
     }
 
 -- a step whose word cannot be fetched, by the two tests
@@ -117,13 +113,13 @@ places_read-unfetched s kind e = unfetched_places (is_aligned (view_of s).pc) (h
 -- ---- the cases as the code has them
 
 -- the word cannot be fetched
-pub step_unfetched : (f g : Face) (answer : Stepped) (shape : Shape) (pc : ℕ) (kind : FaultKind) → IsState f.state → shape ≡ f.state.shape → pc ≡ word_at f.state.bytes 0
-    → Some kind ≡ fetch_fault shape pc → answer ≡ answers.Fault (record { kind = kind; pc = pc; value = pc }) → g ≡ face_after_reads f (places_from 0 4) → IsStep f answer g
-step_unfetched f g answer shape pc kind good same p k a e =
+pub step_unfetched : (f g : Face) (answer : Stepped) (shape : Shape) (pc : ℕ) (kind : FaultKind) → IsState f.state → FitPlaces (length f.state.bytes) f.marks → shape ≡ f.state.shape → pc ≡ word_at f.state.bytes 0
+    → Some kind ≡ fetch_fault shape pc → answer ≡ answers.Fault (record { kind = kind; pc = pc; value = pc }) → g ≡ face_after_reads f (places_from 0 4) → Attempts f g answer
+step_unfetched f g answer shape pc kind good fit same p k a e =
     let at : pc ≡ (view_of f.state).pc = p ∙ sym (view_of-pc f.state) in
     let failed : fetch_fault f.state.shape (view_of f.state).pc ≡ Some kind =
     ap (fetch_fault f.state.shape) (sym at) ∙ ap (λ (x : Shape). fetch_fault x pc) (sym same) ∙ sym k in
-    conclude f g answer (places_from 0 4) (fault_outcome (view_of f.state) kind (view_of f.state).pc) good
+    conclude f g answer (places_from 0 4) (fault_outcome (view_of f.state) kind (view_of f.state).pc) good fit
     (outcome-unfetched f.state.shape (view_of f.state) kind failed) (places_read-unfetched f.state kind failed)
     (a ∙ ap (λ x. answers.Fault (record { kind = kind; pc = x; value = x })) at)
     (e ∙ sym (face_after_puts-nil (face_after_reads f (places_from 0 4))))
@@ -131,6 +127,7 @@ step_unfetched f g answer shape pc kind good same p k a e =
 -- what is known once the word is fetched: the face before it, and the instruction
 pub record IsFetched (f f1 f2 : Face) (pc word : ℕ) (instruction : Option Instr) : Type 0 where
   pub good : IsState f.state
+  pub fit : FitPlaces (length f.state.bytes) f.marks
   pub pc_is : pc ≡ word_at f.state.bytes 0
   pub clear : fetch_fault f.state.shape pc ≡ None
   pub word_is : word ≡ word_at f1.state.bytes (place_of f.state.shape pc)
@@ -139,14 +136,15 @@ pub record IsFetched (f f1 f2 : Face) (pc word : ℕ) (instruction : Option Inst
   pub second : f2 ≡ face_after_reads f1 (places_from (place_of f.state.shape pc) 4)
 
 -- the same as the code comes to it
-pub fetched : (f f1 f2 : Face) (shape : Shape) (version : Version) (pc place word : ℕ) (instruction : Option Instr) → IsState f.state → shape ≡ f.state.shape
+pub fetched : (f f1 f2 : Face) (shape : Shape) (version : Version) (pc place word : ℕ) (instruction : Option Instr) → IsState f.state → FitPlaces (length f.state.bytes) f.marks → shape ≡ f.state.shape
     → pc ≡ word_at f.state.bytes 0 → f1 ≡ face_after_reads f (places_from 0 4) → None ≡ fetch_fault shape pc
     → place ≡ place_of shape pc → word ≡ word_at f1.state.bytes place → f2 ≡ face_after_reads f1 (places_from place 4)
     → version ≡ shape.version → instruction ≡ decode version word → IsFetched f f1 f2 pc word instruction
-fetched f f1 f2 shape version pc place word instruction good same p e1 n at w e2 v d =
+fetched f f1 f2 shape version pc place word instruction good fit same p e1 n at w e2 v d =
     let there : place ≡ place_of f.state.shape pc = at ∙ ap (λ (x : Shape). place_of x pc) same in
     record {
       good = good;
+      fit = fit;
       pc_is = p;
       clear = ap (λ (x : Shape). fetch_fault x pc) (sym same) ∙ sym n;
       word_is = w ∙ ap (λ x. word_at f1.state.bytes x) there;
@@ -194,11 +192,11 @@ module _ (f f1 f2 : Face) (pc word : ℕ) (instruction : Option Instr) (h : IsFe
   -- the answer and the face that the word's execution leaves are those of the step
   pub step_fetched : (g : Face) (answer : Stepped) → answer ≡ answer_of (outcome_of_word f2.state.shape (view_of f2.state) instruction)
       → g ≡ face_after_puts (face_after_reads f2 (operand_places f2.state.shape (view_of f2.state) instruction)) (cells_of_outcome f2.state.shape (outcome_of_word f2.state.shape (view_of f2.state) instruction))
-      → IsStep f answer g
+      → Attempts f g answer
   step_fetched g answer a e =
       let m = view_of f.state in
       let o = outcome_of_word f.state.shape m instruction in
-      conclude f g answer (places_from 0 4 ++ places_from (place_of f.state.shape pc) 4 ++ operand_places f.state.shape m instruction) o h.good fetched_outcome fetched_places
+      conclude f g answer (places_from 0 4 ++ places_from (place_of f.state.shape pc) 4 ++ operand_places f.state.shape m instruction) o h.good h.fit fetched_outcome fetched_places
       (a ∙ ap (λ (s : State). answer_of (outcome_of_word s.shape (view_of s) instruction)) fetched_state)
       (e
       ∙ ap (λ (s : State). face_after_puts (face_after_reads f2 (operand_places s.shape (view_of s) instruction)) (cells_of_outcome s.shape (outcome_of_word s.shape (view_of s) instruction))) fetched_state
@@ -206,7 +204,7 @@ module _ (f f1 f2 : Face) (pc word : ℕ) (instruction : Option Instr) (h : IsFe
 
 -- a step whose word is no instruction
 pub step_illegal : (f f1 f2 : Face) (pc word : ℕ) → IsFetched f f1 f2 pc word None → (answer : Stepped)
-    → answer ≡ answers.Fault (record { kind = Illegal; pc = pc; value = word }) → IsStep f answer f2
+    → answer ≡ answers.Fault (record { kind = Illegal; pc = pc; value = word }) → Attempts f f2 answer
 step_illegal f f1 f2 pc word h answer a =
     let same = sym (fetched_state f f1 f2 pc word None h) in
     let pcs : pc ≡ (view_of f2.state).pc = is_pc f f1 f2 pc word None h ∙ ap (λ (s : State). (view_of s).pc) same in

@@ -1,5 +1,5 @@
 -- Lemmas on the places that registers and effects touch.
-use Rattle.std.proofs.Common.{◌≡◌, ℕ, ◌+◌, ◌*◌, ◌<◌, ◌≤◌, Bool, true, false, ◌&&◌, ◌==◌, List, [], ◌∷◌, ◌++◌, length, slice_index, refl, sym, ap, ◌∙◌, arith}
+use Rattle.std.proofs.Common.{◌≡◌, ℕ, ◌+◌, ◌*◌, ◌<◌, Bool, true, false, ◌&&◌, ◌==◌, List, [], ◌∷◌, ◌++◌, length, slice_index, refl, sym, ap, ◌∙◌, arith}
 use Rattle.std.specs.Prelude.{bit_and}
 use Rattle.std.proofs.lemmas.Nat.{and_mask}
 use Rattle.std.proofs.lemmas.Bool.{eqb-true}
@@ -15,8 +15,8 @@ use Rattle.asc_model.specs.Step.{outcome_of, effect_of}
 use Rattle.asc_model.specs.Places.{places_from, cells, cells_of_outcome, register_places, data_places}
 use Rattle.asc_model.proofs.Numbers.{length-bytes_after, number_at-suc}
 use Rattle.asc_model.proofs.Views.{view_of-register, view_of-reserved_Two}
-use Rattle.asc_shape.specs.Face.{Face, Marks, face_after_read, face_after_put, face_after_reads, face_after_puts, untouched_count}
-use Rattle.asc_shape.proofs.Faces.{untouched_count-le-length, state-reads, state-puts, face_after_reads-append, face_after_puts-append}
+use Rattle.asc_shape.specs.Face.{Face, face_after_read, face_after_put, face_after_reads, face_after_puts}
+use Rattle.asc_shape.proofs.Faces.{state-reads, state-puts, face_after_reads-append, face_after_puts-append}
 
 -- no place read
 pub face_after_reads-nil : (f : Face) → face_after_reads f [] ≡ f
@@ -33,10 +33,6 @@ face_after_puts-nil f = refl
 
 pub puts_none : (f : Face) (list : List (ℕ × ℕ)) → list ≡ [] → face_after_puts f list ≡ f
 puts_none f list e = ap (face_after_puts f) e ∙ face_after_puts-nil f
-
--- four places take room for four
-pub room_word : (before now place : ℕ) (marks : Marks) → before ≤ now + untouched_count marks (places_from place 4) → before ≤ now + 4
-room_word before now place marks h = omega (arith, untouched_count-le-length marks (places_from place 4))
 
 -- the state after reads
 pub state_after_reads : (f g : Face) (places : List ℕ) → g ≡ face_after_reads f places → g.state ≡ f.state
@@ -115,10 +111,6 @@ pub puts_two_bytes : (f f1 g : Face) (place low high : ℕ) → f1 ≡ face_afte
     → g ≡ face_after_puts f ((place, low) ∷ (place + 1, high) ∷ [])
 unfolding face_after_puts
 puts_two_bytes f f1 g place low high e1 e2 = e2 ∙ ap (λ (x : Face). face_after_put x (place + 1) high) e1
-
--- a place takes room for one
-pub room_byte : (before now place : ℕ) (marks : Marks) → before ≤ now + untouched_count marks (place ∷ []) → before ≤ now + 1
-room_byte before now place marks h = omega (arith, untouched_count-le-length marks (place ∷ []))
 
 -- the number in one byte and in two
 pub number_at-one : (bytes : List ℕ) (place : ℕ) → number_at 1 bytes place ≡ slice_index bytes place

@@ -1,9 +1,10 @@
 -- What a step answers, and what it leaves.
-use Rattle.std.specs.Prelude.{ℕ}
+use Rattle.std.specs.Prelude.{◌≡◌, ℕ, ◌+◌, ◌≤◌}
 use Rattle.asc_model.specs.State.{State}
 use Rattle.asc_model.specs.Places.{places_read, writes}
-use Rattle.asc_model.specs.Step.{Next, At, Call, Bad}
-use Rattle.asc_shape.specs.Face.{Face, face_after_reads, face_after_puts}
+use Rattle.asc_model.specs.Step.{Next, At, Call, Bad, next}
+use Rattle.asc_model.specs.Reach.{step_room}
+use Rattle.asc_shape.specs.Face.{Face, face_after_reads, face_after_puts, room_of}
 use Rattle.asc_step.specs.declared.stepped.Stepped.{Stepped}
 use Rattle.asc_step.specs.declared.stepped.Stepped.TheVariants as answers
 
@@ -22,6 +23,15 @@ state_after_step (Bad fault) before = before
 -- the face after a step: the places read, in order, and then the places written
 abbrev pub face_after : Face → Face
 face_after f = face_after_puts (face_after_reads f (places_read f.state)) (writes f.state)
+
+-- From one face to the other, a step was attempted, and this was answered.
+pub record Attempts (f g : Face) (answered : Stepped) : Type 0 where
+  pub answer : answered ≡ stepped_of (next f.state)
+  pub state : g.state ≡ state_after_step (next f.state) f.state
+  -- the places read, in order, and then the places written
+  pub places : g ≡ face_after f
+  -- room for at most 32 places is used
+  pub room : room_of f.marks ≤ room_of g.marks + step_room
 
 -- how many steps an answer counts
 abbrev pub counted_steps : Stepped → ℕ

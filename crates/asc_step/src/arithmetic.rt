@@ -3,7 +3,7 @@ ghost use Rattle.std.specs.Prelude.{◌≡◌, ◌*◌, ◌/◌, ◌^◌, ◌*�
 ghost use Rattle.asc_model.specs.Arithmetic.{signed, one_if, even_part, shift_left, shift_right, shift_right_signed, shift_amount, high_word, quotient, quotient_unsigned, remainder, remainder_unsigned, lesser, greater};
 
 /// 1 where the test holds, else 0.
-#[inline]
+#[inline(always)]
 pub(crate) fn one_if(test: bool) -> u32
     ensures { result ≡ one_if test }
 {
@@ -11,7 +11,7 @@ pub(crate) fn one_if(test: bool) -> u32
 }
 
 /// Whether a word is less than another, both signed.
-#[inline]
+#[inline(always)]
 pub(crate) fn is_less(a: u32, b: u32) -> bool
     ensures { result ≡ int_lt (signed a) (signed b) }
 {
@@ -19,7 +19,7 @@ pub(crate) fn is_less(a: u32, b: u32) -> bool
 }
 
 /// The lesser of two words, both signed.
-#[inline]
+#[inline(always)]
 pub(crate) fn lesser(a: u32, b: u32) -> u32
     ensures { result ≡ lesser a b }
 {
@@ -27,7 +27,7 @@ pub(crate) fn lesser(a: u32, b: u32) -> u32
 }
 
 /// The greater of two words, both signed.
-#[inline]
+#[inline(always)]
 pub(crate) fn greater(a: u32, b: u32) -> u32
     ensures { result ≡ greater a b }
 {
@@ -35,7 +35,7 @@ pub(crate) fn greater(a: u32, b: u32) -> u32
 }
 
 /// A word with its bit 0 cleared.
-#[inline]
+#[inline(always)]
 pub(crate) fn even_part(a: u32) -> u32
     ensures { result ≡ even_part a }
 {
@@ -43,7 +43,7 @@ pub(crate) fn even_part(a: u32) -> u32
 }
 
 /// A word shifted left by the low 5 bits of `b`.
-#[inline]
+#[inline(always)]
 pub(crate) fn shift_left(a: u32, b: u32) -> u32
     ensures { result ≡ shift_left a (shift_amount b) }
 {
@@ -51,7 +51,7 @@ pub(crate) fn shift_left(a: u32, b: u32) -> u32
 }
 
 /// A word shifted right by the low 5 bits of `b`; zeros move in.
-#[inline]
+#[inline(always)]
 pub(crate) fn shift_right(a: u32, b: u32) -> u32
     ensures { result ≡ shift_right a (shift_amount b) }
 {
@@ -59,7 +59,7 @@ pub(crate) fn shift_right(a: u32, b: u32) -> u32
 }
 
 /// A word shifted right by the low 5 bits of `b`; the sign moves in.
-#[inline]
+#[inline(always)]
 pub(crate) fn shift_right_signed(a: u32, b: u32) -> u32
     ensures { result ≡ shift_right_signed a (shift_amount b) }
 {
@@ -67,7 +67,7 @@ pub(crate) fn shift_right_signed(a: u32, b: u32) -> u32
 }
 
 /// The high word of a number of 64 bits.
-#[inline]
+#[inline(always)]
 fn high_word(number: i64) -> u32
     ensures { result ≡ high_word number }
 {
@@ -75,7 +75,7 @@ fn high_word(number: i64) -> u32
 }
 
 /// The high word of the product of two words, both signed.
-#[inline]
+#[inline(always)]
 pub(crate) fn high_product_signed(a: u32, b: u32) -> u32
     ensures { result ≡ high_word (signed a *ℤ signed b) }
 {
@@ -83,7 +83,7 @@ pub(crate) fn high_product_signed(a: u32, b: u32) -> u32
 }
 
 /// The high word of the product of a signed word and an unsigned one.
-#[inline]
+#[inline(always)]
 pub(crate) fn high_product_mixed(a: u32, b: u32) -> u32
     ensures { result ≡ high_word (signed a *ℤ pos b) }
 {
@@ -91,7 +91,7 @@ pub(crate) fn high_product_mixed(a: u32, b: u32) -> u32
 }
 
 /// The high word of the product of two words, both unsigned.
-#[inline]
+#[inline(always)]
 pub(crate) fn high_product_unsigned(a: u32, b: u32) -> u32
     ensures { result ≡ a * b / 2 ^ 32 }
 {
@@ -99,7 +99,7 @@ pub(crate) fn high_product_unsigned(a: u32, b: u32) -> u32
 }
 
 /// The quotient of two words, both signed, rounded towards zero; -1 where `b` is 0.
-#[inline]
+#[inline(always)]
 pub(crate) fn quotient(a: u32, b: u32) -> u32
     ensures { result ≡ quotient a b }
 {
@@ -111,7 +111,7 @@ pub(crate) fn quotient(a: u32, b: u32) -> u32
 }
 
 /// The remainder of two words, both signed, with the sign of `a`; `a` where `b` is 0.
-#[inline]
+#[inline(always)]
 pub(crate) fn remainder(a: u32, b: u32) -> u32
     ensures { result ≡ remainder a b }
 {
@@ -123,7 +123,7 @@ pub(crate) fn remainder(a: u32, b: u32) -> u32
 }
 
 /// The quotient of two words, both unsigned, rounded down; the greatest word where `b` is 0.
-#[inline]
+#[inline(always)]
 pub(crate) fn quotient_unsigned(a: u32, b: u32) -> u32
     ensures { result ≡ quotient_unsigned a b }
 {
@@ -131,7 +131,7 @@ pub(crate) fn quotient_unsigned(a: u32, b: u32) -> u32
 }
 
 /// The remainder of two words, both unsigned; `a` where `b` is 0.
-#[inline]
+#[inline(always)]
 pub(crate) fn remainder_unsigned(a: u32, b: u32) -> u32
     ensures { result ≡ remainder_unsigned a b }
 {

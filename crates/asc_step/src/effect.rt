@@ -24,7 +24,7 @@ pub(crate) enum Size {
 
 impl Size {
     /// How many bytes it is.
-    #[inline]
+    #[inline(always)]
     pub(crate) fn bytes(self) -> u32
         ensures { result ≡ bytes_in self }
     {
@@ -102,7 +102,7 @@ pub(crate) struct Operands {
 }
 
 /// The effect of a branch, which jumps where the test holds.
-#[inline]
+#[inline(always)]
 fn branch(test: bool, target: u32) -> Effect
     ensures { model_effect result ≡ branch test target }
 {
@@ -113,7 +113,7 @@ fn branch(test: bool, target: u32) -> Effect
     }
 }
 
-#[inline]
+#[inline(always)]
 fn load(size: Size, signed: bool, address: u32) -> Effect
     ensures { model_effect result ≡ Load (bytes_in size) signed address }
 {
@@ -124,7 +124,7 @@ fn load(size: Size, signed: bool, address: u32) -> Effect
     }
 }
 
-#[inline]
+#[inline(always)]
 fn store(size: Size, address: u32, value: u32) -> Effect
     ensures { model_effect result ≡ Store (bytes_in size) address value }
 {
@@ -135,7 +135,7 @@ fn store(size: Size, address: u32, value: u32) -> Effect
     }
 }
 
-#[inline]
+#[inline(always)]
 fn modify(amo: Amo, address: u32, value: u32) -> Effect
     ensures { model_effect result ≡ Modify address (λ old. changed amo old value) }
 {
@@ -224,7 +224,7 @@ pub(crate) fn effect_of(op: Op, operands: Operands) -> Effect
 }
 
 /// What an atomic makes of the word in memory and the value of its second source.
-#[inline]
+#[inline(always)]
 pub(crate) fn changed(amo: Amo, old: u32, value: u32) -> u32
     ensures { result ≡ changed amo old value }
 {
@@ -242,7 +242,7 @@ pub(crate) fn changed(amo: Amo, old: u32, value: u32) -> u32
 }
 
 /// A loaded number of that size as a word: extended by its sign, or by zeros.
-#[inline]
+#[inline(always)]
 pub(crate) fn loaded_word(size: Size, signed: bool, number: u32) -> u32
     requires { number < 2 ^ (8 * bytes_in size) }
     ensures { result ≡ loaded_word (bytes_in size) signed number }

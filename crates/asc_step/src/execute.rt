@@ -1,11 +1,11 @@
 //! Carrying out an instruction.
-ghost use Rattle.std.specs.Prelude.{◌≡◌, ◌+◌, ◌≤◌, Some};
+ghost use Rattle.std.specs.Prelude.{◌≡◌, ◌≤◌, Some};
 ghost use Rattle.asc_model.specs.Machine.{view_of};
 ghost use Rattle.asc_model.specs.Instruction.{op_of, rd_of, rs1_of, rs2_of, imm_of};
 ghost use Rattle.asc_model.specs.Places.{operand_places};
 ghost use Rattle.asc_model.specs.Step.{effect_of, outcome_of_word};
 ghost use Rattle.asc_isa.specs.Decode.{HasRegisters};
-ghost use Rattle.asc_shape.specs.Face.{KeepsTotal};
+ghost use Rattle.asc_shape.specs.Face.{room_of};
 ghost use Rattle.asc_step.specs.Execute.{AtInstruction, IsOfVersion, answer_of, face_after_outcome};
 
 use crate::Stepped;
@@ -25,7 +25,7 @@ struct Parts {
     immediate: u32,
 }
 
-#[inline]
+#[inline(always)]
 fn split(instruction: Instr) -> Parts
     ensures op { result.op ≡ op_of instruction }
     ensures rd { result.rd ≡ rd_of instruction }
@@ -52,21 +52,19 @@ fn split(instruction: Instr) -> Parts
 }
 
 /// Carries out the instruction at this pc.
-#[inline]
+#[inline(always)]
 pub(crate) fn execute<B: Bytes>(bytes: &mut B, pc: u32, instruction: Instr) -> Stepped
     requires registers { HasRegisters instruction }
     requires at { AtInstruction (B.face bytes.old) pc }
     requires version { let s = (B.face bytes.old).state in
         IsOfVersion s.shape.version (effect_of (view_of s) instruction) }
-    requires room { 22 ≤ B.room bytes.old }
+    requires room { 22 ≤ room_of (B.face bytes.old).marks }
     ensures answer { let s = (B.face bytes.old).state in
         result ≡ answer_of (outcome_of_word s.shape (view_of s) (Some instruction)) }
     ensures face { let s = (B.face bytes.old).state in
         B.face bytes.new ≡ face_after_outcome (B.face bytes.old)
         (operand_places s.shape (view_of s) (Some instruction))
         (outcome_of_word s.shape (view_of s) (Some instruction)) }
-    ensures room { B.room bytes.old ≤ B.room bytes.new + 22 }
-    ensures total { KeepsTotal (B.room bytes.old) (B.face bytes.old) (B.room bytes.new) (B.face bytes.new) }
 {
     let Parts {
         op,

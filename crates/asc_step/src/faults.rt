@@ -7,7 +7,7 @@ use crate::{Fault, FaultKind, Stepped};
 use asc_shape::Shape;
 
 /// A fault of the instruction at this pc.
-#[inline]
+#[inline(always)]
 pub(crate) fn fault(kind: FaultKind, pc: u32, value: u32) -> Stepped
     ensures { result ≡ Stepped.Fault (record { kind = kind; pc = pc; value = value }) }
 {
@@ -15,7 +15,7 @@ pub(crate) fn fault(kind: FaultKind, pc: u32, value: u32) -> Stepped
 }
 
 /// Whether an address is a multiple of 4.
-#[inline]
+#[inline(always)]
 pub(crate) fn is_aligned(address: u32) -> bool
     ensures { result ≡ is_aligned address }
 {
@@ -23,7 +23,7 @@ pub(crate) fn is_aligned(address: u32) -> bool
 }
 
 /// Why the word at an address cannot be reached. Its alignment is tested first, and then whether it is in memory.
-#[inline]
+#[inline(always)]
 pub(crate) fn word_fault(
     shape: Shape,
     address: u32,

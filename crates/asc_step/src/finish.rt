@@ -1,9 +1,9 @@
 //! Doing what an effect asks for: all its tests, then all its reads, then all its puts.
-ghost use Rattle.std.specs.Prelude.{◌≡◌, ◌+◌, ◌<◌, ◌≤◌, ℕ, [], ◌∷◌, length};
+ghost use Rattle.std.specs.Prelude.{◌≡◌, ◌<◌, ◌≤◌, ℕ, [], ◌∷◌, length};
 ghost use Rattle.asc_model.specs.Machine.{Pc, Register};
 ghost use Rattle.asc_model.specs.Arithmetic.{◌+w◌};
 ghost use Rattle.asc_model.specs.Places.{places_from};
-ghost use Rattle.asc_shape.specs.Face.{KeepsTotal, untouched_count};
+ghost use Rattle.asc_shape.specs.Face.{room_of, untouched_count};
 ghost use Rattle.asc_model.specs.Effect.{Set, Load, Store, Jump, LoadReserved, StoreConditional, Modify};
 ghost use Rattle.asc_model.specs.declared.version.Version.TheVariants.{Two};
 ghost use Rattle.asc_model.specs.declared.fault.FaultKind.TheVariants.{AtomicMisaligned};
@@ -20,15 +20,13 @@ use crate::{FaultKind, Stepped};
 use asc_shape::{Bytes, Shape};
 
 /// Carries out the effect of the instruction at this pc.
-#[inline]
+#[inline(always)]
 pub(crate) fn finish<B: Bytes>(bytes: &mut B, pc: u32, rd: u8, effect: Effect) -> Stepped
     requires rd { rd < 32 }
     requires at { AtInstruction (B.face bytes.old) pc }
     requires version { IsOfVersion (B.face bytes.old).state.shape.version (model_effect effect) }
-    requires room { 14 ≤ B.room bytes.old }
-    ensures finish { Finishes (B.face bytes.old) (B.face bytes.new) rd (model_effect effect) result }
-    ensures room { B.room bytes.old ≤ B.room bytes.new + 14 }
-    ensures total { KeepsTotal (B.room bytes.old) (B.face bytes.old) (B.room bytes.new) (B.face bytes.new) }
+    requires room { 14 ≤ room_of (B.face bytes.old).marks }
+    ensures { Finishes (B.face bytes.old) (B.face bytes.new) rd (model_effect effect) result }
 {
     match effect {
         Effect::Set(value) => set(bytes, pc, rd, value),
@@ -58,42 +56,36 @@ pub(crate) fn finish<B: Bytes>(bytes: &mut B, pc: u32, rd: u8, effect: Effect) -
 }
 
 /// Goes on behind the instruction, with a value in its destination.
-#[inline]
+#[inline(always)]
 fn go_on<B: Bytes>(bytes: &mut B, pc: u32, rd: u8, value: u32)
     requires rd { rd < 32 }
     requires length { 128 ≤ length (B.face bytes.old).state.bytes }
     requires touched { untouched_count (B.face bytes.old).marks (places_from 0 4) ≡ 0 }
-    requires room { 4 ≤ B.room bytes.old }
-    ensures face { Puts (B.face bytes.old) (B.face bytes.new) (Pc (pc +w 4) ∷ Register rd value ∷ []) }
-    ensures room { B.room bytes.old ≤ B.room bytes.new + 4 }
-    ensures total { KeepsTotal (B.room bytes.old) (B.face bytes.old) (B.room bytes.new) (B.face bytes.new) }
+    requires room { 4 ≤ room_of (B.face bytes.old).marks }
+    ensures { Puts (B.face bytes.old) (B.face bytes.new) (Pc (pc +w 4) ∷ Register rd value ∷ []) }
 {
     set_pc(bytes, pc.wrapping_add(4));
     set_register(bytes, rd, value);
 }
 
-#[inline]
+#[inline(always)]
 fn set<B: Bytes>(bytes: &mut B, pc: u32, rd: u8, value: u32) -> Stepped
     requires rd { rd < 32 }
     requires at { AtInstruction (B.face bytes.old) pc }
-    requires room { 14 ≤ B.room bytes.old }
-    ensures finish { Finishes (B.face bytes.old) (B.face bytes.new) rd (Set value) result }
-    ensures room { B.room bytes.old ≤ B.room bytes.new + 14 }
-    ensures total { KeepsTotal (B.room bytes.old) (B.face bytes.old) (B.room bytes.new) (B.face bytes.new) }
+    requires room { 14 ≤ room_of (B.face bytes.old).marks }
+    ensures { Finishes (B.face bytes.old) (B.face bytes.new) rd (Set value) result }
 {
     go_on(bytes, pc, rd, value);
     Stepped::Went
 }
 
-#[inline]
+#[inline(always)]
 fn load<B: Bytes>(bytes: &mut B, pc: u32, rd: u8, size: Size, signed: bool, address: u32) -> Stepped
     requires rd { rd < 32 }
     requires at { AtInstruction (B.face bytes.old) pc }
-    requires room { 14 ≤ B.room bytes.old }
-    ensures finish { Finishes (B.face bytes.old) (B.face bytes.new) rd
+    requires room { 14 ≤ room_of (B.face bytes.old).marks }
+    ensures { Finishes (B.face bytes.old) (B.face bytes.new) rd
         (Load (bytes_in size) signed address) result }
-    ensures room { B.room bytes.old ≤ B.room bytes.new + 14 }
-    ensures total { KeepsTotal (B.room bytes.old) (B.face bytes.old) (B.room bytes.new) (B.face bytes.new) }
 {
     let shape = bytes.shape();
     if !shape.holds(address, size.bytes()) {
@@ -104,14 +96,12 @@ fn load<B: Bytes>(bytes: &mut B, pc: u32, rd: u8, size: Size, signed: bool, addr
     Stepped::Went
 }
 
-#[inline]
+#[inline(always)]
 fn store<B: Bytes>(bytes: &mut B, pc: u32, size: Size, address: u32, value: u32) -> Stepped
     requires at { AtInstruction (B.face bytes.old) pc }
-    requires room { 14 ≤ B.room bytes.old }
-    ensures finish { (rd : ℕ) → Finishes (B.face bytes.old) (B.face bytes.new) rd
+    requires room { 14 ≤ room_of (B.face bytes.old).marks }
+    ensures { (rd : ℕ) → Finishes (B.face bytes.old) (B.face bytes.new) rd
         (Store (bytes_in size) address value) result }
-    ensures room { B.room bytes.old ≤ B.room bytes.new + 14 }
-    ensures total { KeepsTotal (B.room bytes.old) (B.face bytes.old) (B.room bytes.new) (B.face bytes.new) }
 {
     let shape = bytes.shape();
     if !shape.holds(address, size.bytes()) {
@@ -122,14 +112,12 @@ fn store<B: Bytes>(bytes: &mut B, pc: u32, size: Size, address: u32, value: u32)
     Stepped::Went
 }
 
-#[inline]
+#[inline(always)]
 fn jump<B: Bytes>(bytes: &mut B, pc: u32, rd: u8, target: u32) -> Stepped
     requires rd { rd < 32 }
     requires at { AtInstruction (B.face bytes.old) pc }
-    requires room { 14 ≤ B.room bytes.old }
-    ensures finish { Finishes (B.face bytes.old) (B.face bytes.new) rd (Jump target) result }
-    ensures room { B.room bytes.old ≤ B.room bytes.new + 14 }
-    ensures total { KeepsTotal (B.room bytes.old) (B.face bytes.old) (B.room bytes.new) (B.face bytes.new) }
+    requires room { 14 ≤ room_of (B.face bytes.old).marks }
+    ensures { Finishes (B.face bytes.old) (B.face bytes.new) rd (Jump target) result }
 {
     if !is_aligned(target) {
         return fault(FaultKind::Misaligned, pc, target);
@@ -140,21 +128,19 @@ fn jump<B: Bytes>(bytes: &mut B, pc: u32, rd: u8, target: u32) -> Stepped
 }
 
 /// Why an atomic cannot act on the word at an address.
-#[inline]
+#[inline(always)]
 fn atomic_fault(shape: Shape, address: u32, outside: FaultKind) -> Option<FaultKind>
     ensures { result ≡ word_fault shape address AtomicMisaligned outside }
 {
     word_fault(shape, address, FaultKind::AtomicMisaligned, outside)
 }
 
-#[inline]
+#[inline(always)]
 fn load_reserved<B: Bytes>(bytes: &mut B, pc: u32, rd: u8, address: u32) -> Stepped
     requires rd { rd < 32 }
     requires at { AtInstruction (B.face bytes.old) pc }
-    requires room { 14 ≤ B.room bytes.old }
-    ensures finish { Finishes (B.face bytes.old) (B.face bytes.new) rd (LoadReserved address) result }
-    ensures room { B.room bytes.old ≤ B.room bytes.new + 14 }
-    ensures total { KeepsTotal (B.room bytes.old) (B.face bytes.old) (B.room bytes.new) (B.face bytes.new) }
+    requires room { 14 ≤ room_of (B.face bytes.old).marks }
+    ensures { Finishes (B.face bytes.old) (B.face bytes.new) rd (LoadReserved address) result }
 {
     let shape = bytes.shape();
     if let Some(kind) = atomic_fault(shape, address, FaultKind::LoadOutside) {
@@ -166,16 +152,14 @@ fn load_reserved<B: Bytes>(bytes: &mut B, pc: u32, rd: u8, address: u32) -> Step
     Stepped::Went
 }
 
-#[inline]
+#[inline(always)]
 fn store_conditional<B: Bytes>(bytes: &mut B, pc: u32, rd: u8, address: u32, value: u32) -> Stepped
     requires rd { rd < 32 }
     requires at { AtInstruction (B.face bytes.old) pc }
     requires version { (B.face bytes.old).state.shape.version ≡ Two }
-    requires room { 14 ≤ B.room bytes.old }
-    ensures finish { Finishes (B.face bytes.old) (B.face bytes.new) rd
+    requires room { 14 ≤ room_of (B.face bytes.old).marks }
+    ensures { Finishes (B.face bytes.old) (B.face bytes.new) rd
         (StoreConditional address value) result }
-    ensures room { B.room bytes.old ≤ B.room bytes.new + 14 }
-    ensures total { KeepsTotal (B.room bytes.old) (B.face bytes.old) (B.room bytes.new) (B.face bytes.new) }
 {
     let shape = bytes.shape();
     if let Some(kind) = atomic_fault(shape, address, FaultKind::StoreOutside) {
@@ -190,15 +174,13 @@ fn store_conditional<B: Bytes>(bytes: &mut B, pc: u32, rd: u8, address: u32, val
     Stepped::Went
 }
 
-#[inline]
+#[inline(always)]
 fn modify<B: Bytes>(bytes: &mut B, pc: u32, rd: u8, amo: Amo, address: u32, value: u32) -> Stepped
     requires rd { rd < 32 }
     requires at { AtInstruction (B.face bytes.old) pc }
-    requires room { 14 ≤ B.room bytes.old }
-    ensures finish { Finishes (B.face bytes.old) (B.face bytes.new) rd
+    requires room { 14 ≤ room_of (B.face bytes.old).marks }
+    ensures { Finishes (B.face bytes.old) (B.face bytes.new) rd
         (Modify address (λ old. changed amo old value)) result }
-    ensures room { B.room bytes.old ≤ B.room bytes.new + 14 }
-    ensures total { KeepsTotal (B.room bytes.old) (B.face bytes.old) (B.room bytes.new) (B.face bytes.new) }
 {
     let shape = bytes.shape();
     if let Some(kind) = atomic_fault(shape, address, FaultKind::StoreOutside) {

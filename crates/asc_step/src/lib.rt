@@ -7,10 +7,12 @@ mod execute;
 mod faults;
 mod finish;
 mod places;
+mod specialized;
 mod stepped;
 mod stepping;
 #[cfg(test)]
 mod tests;
+mod version;
 
 pub use asc_model::{Fault, FaultKind};
 pub use stepped::Stepped;

@@ -4,7 +4,7 @@ ghost use Rattle.asc_model.specs.Number.{bytes_of, number_at, word_at};
 ghost use Rattle.asc_model.specs.State.{IsState};
 ghost use Rattle.asc_model.specs.Machine.{register, is_reserved, view_of, reserve, release, Pc, Register};
 ghost use Rattle.asc_model.specs.Places.{places_from, register_places, reservation_places, cells};
-ghost use Rattle.asc_shape.specs.Face.{KeepsTotal, face_after_reads, face_after_puts, untouched_count};
+ghost use Rattle.asc_shape.specs.Face.{face_after_reads, face_after_puts, room_of};
 ghost use Rattle.asc_model.specs.declared.version.Version.TheVariants.{Two};
 ghost use Rattle.asc_step.specs.Effect.{bytes_in};
 ghost use Rattle.asc_step.specs.Execute.{Puts};
@@ -19,31 +19,27 @@ const RESERVED: u32 = 128;
 const VALID: u32 = 132;
 
 /// The word in the four bytes from a place on.
-#[inline]
+#[inline(always)]
 pub(crate) fn read_word<B: Bytes>(bytes: &mut B, place: u32) -> u32
     requires place { place + 4 ≤ length (B.face bytes.old).state.bytes }
-    requires room { 4 ≤ B.room bytes.old }
+    requires room { 4 ≤ room_of (B.face bytes.old).marks }
     ensures value { result ≡ word_at (B.face bytes.old).state.bytes place }
     ensures state { (B.face bytes.new).state ≡ (B.face bytes.old).state }
     ensures face { B.face bytes.new ≡ face_after_reads (B.face bytes.old) (places_from place 4) }
-    ensures room { B.room bytes.old ≤ B.room bytes.new + 4 }
-    ensures total { KeepsTotal (B.room bytes.old) (B.face bytes.old) (B.room bytes.new) (B.face bytes.new) }
 {
     bytes.get_word(place)
 }
 
 /// The number in as many bytes from a place on as the size says.
-#[inline]
+#[inline(always)]
 pub(crate) fn read_number<B: Bytes>(bytes: &mut B, place: u32, size: Size) -> u32
     requires place { place + bytes_in size ≤ length (B.face bytes.old).state.bytes }
-    requires room { 4 ≤ B.room bytes.old }
+    requires room { 4 ≤ room_of (B.face bytes.old).marks }
     ensures value { result ≡ number_at (bytes_in size) (B.face bytes.old).state.bytes place }
     ensures bound { result < 2 ^ (8 * bytes_in size) }
     ensures state { (B.face bytes.new).state ≡ (B.face bytes.old).state }
     ensures face { B.face bytes.new ≡ face_after_reads (B.face bytes.old)
         (places_from place (bytes_in size)) }
-    ensures room { B.room bytes.old ≤ B.room bytes.new + 4 }
-    ensures total { KeepsTotal (B.room bytes.old) (B.face bytes.old) (B.room bytes.new) (B.face bytes.new) }
 {
     match size {
         Size::Byte => u32::from(bytes.get(place)),
@@ -53,16 +49,14 @@ pub(crate) fn read_number<B: Bytes>(bytes: &mut B, place: u32, size: Size) -> u3
 }
 
 /// The number in two bytes from a place on.
-#[inline]
+#[inline(always)]
 fn read_half<B: Bytes>(bytes: &mut B, place: u32) -> u32
     requires place { place + 2 ≤ length (B.face bytes.old).state.bytes }
-    requires room { 4 ≤ B.room bytes.old }
+    requires room { 4 ≤ room_of (B.face bytes.old).marks }
     ensures value { result ≡ number_at 2 (B.face bytes.old).state.bytes place }
     ensures bound { result < 2 ^ 16 }
     ensures state { (B.face bytes.new).state ≡ (B.face bytes.old).state }
     ensures face { B.face bytes.new ≡ face_after_reads (B.face bytes.old) (places_from place 2) }
-    ensures room { B.room bytes.old ≤ B.room bytes.new + 4 }
-    ensures total { KeepsTotal (B.room bytes.old) (B.face bytes.old) (B.room bytes.new) (B.face bytes.new) }
 {
     // Its shape bounds the places of a state, so that the sum below fits.
     let _ = bytes.shape();
@@ -70,14 +64,12 @@ fn read_half<B: Bytes>(bytes: &mut B, place: u32) -> u32
 }
 
 /// Puts the lowest bytes of a number from a place on, as many as the size says.
-#[inline]
+#[inline(always)]
 pub(crate) fn put_number<B: Bytes>(bytes: &mut B, place: u32, size: Size, value: u32)
     requires place { place + bytes_in size ≤ length (B.face bytes.old).state.bytes }
-    requires room { 4 ≤ B.room bytes.old }
-    ensures face { B.face bytes.new ≡ face_after_puts (B.face bytes.old)
+    requires room { 4 ≤ room_of (B.face bytes.old).marks }
+    ensures { B.face bytes.new ≡ face_after_puts (B.face bytes.old)
         (cells place (bytes_of (bytes_in size) value)) }
-    ensures room { B.room bytes.old ≤ B.room bytes.new + 4 }
-    ensures total { KeepsTotal (B.room bytes.old) (B.face bytes.old) (B.room bytes.new) (B.face bytes.new) }
 {
     match size {
         Size::Byte => bytes.put(place, (value & 0xFF) as u8),
@@ -87,13 +79,11 @@ pub(crate) fn put_number<B: Bytes>(bytes: &mut B, place: u32, size: Size, value:
 }
 
 /// Puts the lowest two bytes of a number from a place on.
-#[inline]
+#[inline(always)]
 fn put_half<B: Bytes>(bytes: &mut B, place: u32, value: u32)
     requires place { place + 2 ≤ length (B.face bytes.old).state.bytes }
-    requires room { 4 ≤ B.room bytes.old }
-    ensures face { B.face bytes.new ≡ face_after_puts (B.face bytes.old) (cells place (bytes_of 2 value)) }
-    ensures room { B.room bytes.old ≤ B.room bytes.new + 4 }
-    ensures total { KeepsTotal (B.room bytes.old) (B.face bytes.old) (B.room bytes.new) (B.face bytes.new) }
+    requires room { 4 ≤ room_of (B.face bytes.old).marks }
+    ensures { B.face bytes.new ≡ face_after_puts (B.face bytes.old) (cells place (bytes_of 2 value)) }
 {
     // Its shape bounds the places of a state, so that the sum below fits.
     let _ = bytes.shape();
@@ -103,48 +93,38 @@ fn put_half<B: Bytes>(bytes: &mut B, place: u32, value: u32)
 }
 
 /// x\[k\]. Register 0 is 0, and no place is read for it.
-#[inline]
+#[inline(always)]
 #[tactic(auto, using(crate::proofs::Touches::reads_none, crate::proofs::Touches::register_read))]
 pub(crate) fn register<B: Bytes>(bytes: &mut B, k: u8) -> u32
     requires k { k < 32 }
     requires length { 128 ≤ length (B.face bytes.old).state.bytes }
-    requires room { 4 ≤ B.room bytes.old }
+    requires room { 4 ≤ room_of (B.face bytes.old).marks }
     ensures value { result ≡ register (view_of (B.face bytes.old).state) k }
     ensures state { (B.face bytes.new).state ≡ (B.face bytes.old).state }
     ensures face { B.face bytes.new ≡ face_after_reads (B.face bytes.old) (register_places k) }
-    ensures room { B.room bytes.old ≤ B.room bytes.new + 4 }
-    ensures total { KeepsTotal (B.room bytes.old) (B.face bytes.old) (B.room bytes.new) (B.face bytes.new) }
 {
-    if k == 0 {
-        0
-    } else {
-        read_word(bytes, 4 * u32::from(k))
-    }
+    let k = u32::from(k);
+    if k == 0 { 0 } else { read_word(bytes, 4 * k) }
 }
 
-/// Sets the pc. Where its places are touched it takes no room.
-#[inline]
+/// Sets the pc.
+#[inline(always)]
 pub(crate) fn set_pc<B: Bytes>(bytes: &mut B, value: u32)
     requires length { 128 ≤ length (B.face bytes.old).state.bytes }
-    requires room { 4 ≤ B.room bytes.old }
-    ensures face { Puts (B.face bytes.old) (B.face bytes.new) (Pc value ∷ []) }
-    ensures room { B.room bytes.old
-        ≤ B.room bytes.new + untouched_count (B.face bytes.old).marks (places_from 0 4) }
-    ensures total { KeepsTotal (B.room bytes.old) (B.face bytes.old) (B.room bytes.new) (B.face bytes.new) }
+    requires room { 4 ≤ room_of (B.face bytes.old).marks }
+    ensures { Puts (B.face bytes.old) (B.face bytes.new) (Pc value ∷ []) }
 {
     bytes.put_word(0, value);
 }
 
 /// Sets x\[k\]. Setting register 0 changes nothing.
-#[inline]
+#[inline(always)]
 #[tactic(auto, using(crate::proofs::Touches::puts_none))]
 pub(crate) fn set_register<B: Bytes>(bytes: &mut B, k: u8, value: u32)
     requires k { k < 32 }
     requires length { 128 ≤ length (B.face bytes.old).state.bytes }
-    requires room { 4 ≤ B.room bytes.old }
-    ensures face { Puts (B.face bytes.old) (B.face bytes.new) (Register k value ∷ []) }
-    ensures room { B.room bytes.old ≤ B.room bytes.new + 4 }
-    ensures total { KeepsTotal (B.room bytes.old) (B.face bytes.old) (B.room bytes.new) (B.face bytes.new) }
+    requires room { 4 ≤ room_of (B.face bytes.old).marks }
+    ensures { Puts (B.face bytes.old) (B.face bytes.new) (Register k value ∷ []) }
 {
     if k != 0 {
         bytes.put_word(4 * u32::from(k), value);
@@ -152,16 +132,14 @@ pub(crate) fn set_register<B: Bytes>(bytes: &mut B, k: u8, value: u32)
 }
 
 /// Whether an address is reserved, in version Two.
-#[inline]
+#[inline(always)]
 pub(crate) fn is_reserved<B: Bytes>(bytes: &mut B, address: u32) -> bool
     requires version { (B.face bytes.old).state.shape.version ≡ Two }
     requires length { 136 ≤ length (B.face bytes.old).state.bytes }
-    requires room { 5 ≤ B.room bytes.old }
+    requires room { 5 ≤ room_of (B.face bytes.old).marks }
     ensures value { result ≡ is_reserved (view_of (B.face bytes.old).state) address }
     ensures state { (B.face bytes.new).state ≡ (B.face bytes.old).state }
     ensures face { B.face bytes.new ≡ face_after_reads (B.face bytes.old) reservation_places }
-    ensures room { B.room bytes.old ≤ B.room bytes.new + 5 }
-    ensures total { KeepsTotal (B.room bytes.old) (B.face bytes.old) (B.room bytes.new) (B.face bytes.new) }
 {
     let reserved = read_word(bytes, RESERVED);
     let valid = bytes.get(VALID);
@@ -169,26 +147,22 @@ pub(crate) fn is_reserved<B: Bytes>(bytes: &mut B, address: u32) -> bool
 }
 
 /// Reserves an address.
-#[inline]
+#[inline(always)]
 pub(crate) fn reserve<B: Bytes>(bytes: &mut B, address: u32)
     requires length { 136 ≤ length (B.face bytes.old).state.bytes }
-    requires room { 5 ≤ B.room bytes.old }
-    ensures face { Puts (B.face bytes.old) (B.face bytes.new) (reserve address ∷ []) }
-    ensures room { B.room bytes.old ≤ B.room bytes.new + 5 }
-    ensures total { KeepsTotal (B.room bytes.old) (B.face bytes.old) (B.room bytes.new) (B.face bytes.new) }
+    requires room { 5 ≤ room_of (B.face bytes.old).marks }
+    ensures { Puts (B.face bytes.old) (B.face bytes.new) (reserve address ∷ []) }
 {
     bytes.put_word(RESERVED, address);
     bytes.put(VALID, 1);
 }
 
 /// Gives up what is reserved.
-#[inline]
+#[inline(always)]
 pub(crate) fn release<B: Bytes>(bytes: &mut B)
     requires length { 136 ≤ length (B.face bytes.old).state.bytes }
-    requires room { 1 ≤ B.room bytes.old }
-    ensures face { Puts (B.face bytes.old) (B.face bytes.new) (release ∷ []) }
-    ensures room { B.room bytes.old ≤ B.room bytes.new + 1 }
-    ensures total { KeepsTotal (B.room bytes.old) (B.face bytes.old) (B.room bytes.new) (B.face bytes.new) }
+    requires room { 1 ≤ room_of (B.face bytes.old).marks }
+    ensures { Puts (B.face bytes.old) (B.face bytes.new) (release ∷ []) }
 {
     bytes.put(VALID, 0);
 }

@@ -7,7 +7,7 @@ use Rattle.asc_elf.specs.declared.fault.ElfFault.{ElfFault}
 use Rattle.asc_elf.specs.Image as loader
 use Rattle.asc_run.specs.declared.walk.Ended.{Ended}
 use Rattle.asc_run.specs.declared.walk.Ended.TheVariants as ends
-use Rattle.asc_run.specs.Plain.{Run}
+use Rattle.asc_run.specs.Execution.{Run}
 use Rattle.asc_words.specs.Line.{Run as Line}
 use Rattle.asc_words.specs.declared.answer.Answer.{Answer}
 use Rattle.asc_words.specs.declared.answer.Answer.TheVariants as answers

@@ -1,7 +1,7 @@
 -- What holds of the answers of a file that was read, and of one that is too long.
-use Rattle.std.proofs.Common.{◌≡◌, ◌≢◌, ℕ, ◌+◌, ◌<◌, ◌≤◌, Option, Some, None, List, length, replicate, refl, sym, ap, subst, arith}
+use Rattle.std.proofs.Common.{◌≡◌, ◌≢◌, ℕ, ◌+◌, ◌<◌, ◌≤◌, Option, Some, None, List, length, replicate, refl, sym, ap, subst, arith, inl}
 use Rattle.std.proofs.lemmas.List.{length-replicate}
-use Rattle.asc_shape.specs.Outside.{File, MayHold, MayHoldLonger}
+use Rattle.asc_shape.specs.Outside.{File, MayHold, MayHoldLonger, AsksFor}
 use Rattle.asc_calls.specs.GuestCall.{Device}
 use Rattle.asc_calls.specs.World.{Outside, Agrees, Blames}
 use Rattle.asc_words.specs.Line as command
@@ -88,6 +88,7 @@ pub record FileRead (words : List (List ℕ)) (old new : Devices) (answered : An
   pub stopped : (device : Device) → device_of_answer answered ≡ Some device → IsStopped old.guest new.guest device line content
   pub refused : IsRefusal answered → new.guest ≡ old.guest
   pub files : new.files ≡ old.files
+  pub names : AsksFor line.image old.asked new.asked
   pub store_faults : new.store_faults ≡ old.store_faults
   pub read_fault : Blames (answered ≡ answers.ReadFault) old.input_faults new.input_faults
   pub write_fault : Blames (answered ≡ answers.WriteFault) old.out_faults new.out_faults
@@ -113,7 +114,7 @@ module _ (words : List (List ℕ)) (old new : Devices) (answered : Answer) (f : 
   answer_of_run = record {
     headline = λ line content left is is_held is_told completes.
         headline_means words old.files old.guest new.guest answered f.line f.content f.asked f.held (means_at answered refl completes) line content left is is_held is_told;
-    plain = λ comes. has_file _ (means_at answered refl (of_file-completes answered comes));
+    untold = λ comes. has_file _ (means_at answered refl (of_file-completes answered comes));
     stopped = λ device failed. has_file _ (f.stopped device failed);
     exit = λ code is. has_file _ (runs-exit f.line f.content f.within _ _ answered (means_at _ is tt) code is);
     limit = λ count is. has_file _ (runs-limit f.line f.content f.within _ _ answered (means_at _ is tt) count is);
@@ -124,6 +125,7 @@ module _ (words : List (List ℕ)) (old new : Devices) (answered : Answer) (f : 
     too_long = λ is. absurd (too_long-never f.line f.content f.within _ _ answered (means_at _ is tt) is);
     refused = f.refused;
     files = f.files;
+    asked = inl (f.line, f.asked, f.names);
     store_fault = record { rose = λ is. absurd (no_store_fault is); stays = λ _. f.store_faults };
     read_fault = f.read_fault;
     write_fault = f.write_fault;
@@ -132,14 +134,15 @@ module _ (words : List (List ℕ)) (old new : Devices) (answered : Answer) (f : 
   }
 
 -- a file that is too long is not run
-pub answer_of_long : (words : List (List ℕ)) (old : Devices) (files : Option (List File)) (faults : ℕ) (line : Line) → line_of words ≡ Some (command.run line)
-    → MayHoldLonger old.files line.image file_limit → files ≡ old.files → faults ≡ old.store_faults → IsAnswerTo words old (record old { files = files; store_faults = faults }) answers.TooLong
-answer_of_long words old files faults line asked longer files_stay stays =
+pub answer_of_long : (words : List (List ℕ)) (old : Devices) (files : Option (List File)) (after : Option (List (List ℕ))) (faults : ℕ) (line : Line) → line_of words ≡ Some (command.run line)
+    → MayHoldLonger old.files line.image file_limit → files ≡ old.files → AsksFor line.image old.asked after → faults ≡ old.store_faults
+    → IsAnswerTo words old (record old { files = files; asked = after; store_faults = faults }) answers.TooLong
+answer_of_long words old files after faults line asked longer files_stay names stays =
     let file = longer_file old.files line.image longer in
     let means = means_long line old.guest file.0 file.2 in
     record {
       headline = λ own content left is is_held is_told completes. headline_means words old.files old.guest old.guest answers.TooLong line file.0 asked file.1 means own content left is is_held is_told;
-      plain = λ _. record { line = line; asked = asked; content = file.0; held = file.1; holds = means };
+      untold = λ _. record { line = line; asked = asked; content = file.0; held = file.1; holds = means };
       stopped = λ device is. absurd (cc);
       exit = λ code is. absurd (cc);
       limit = λ count is. absurd (cc);
@@ -150,6 +153,7 @@ answer_of_long words old files faults line asked longer files_stay stays =
       too_long = λ _. record { line = line; asked = asked; content = file.0; held = file.1; holds = file.2 };
       refused = λ _. refl;
       files = files_stay;
+      asked = inl (line, asked, names);
       store_fault = record { rose = λ is. absurd (cc); stays = λ _. stays };
       read_fault = record { rose = λ is. absurd (cc); stays = λ _. refl };
       write_fault = record { rose = λ is. absurd (cc); stays = λ _. refl };

@@ -7,9 +7,9 @@ use Rattle.asc_calls.specs.GuestCall.{Device}
 use Rattle.asc_calls.specs.World.{Outside, outside, World, Agrees, MayCome, KnowsEnd}
 use Rattle.asc_run.specs.declared.walk.Ended.{Ended}
 use Rattle.asc_run.specs.declared.walk.Ended.TheVariants as ends
-use Rattle.asc_run.specs.Plain.{Run, device_of}
+use Rattle.asc_run.specs.Execution.{Run, device_of}
 use Rattle.asc_run.specs.Walk.{new_walk, world_of, run_from, Follows, StopsAt}
-use Rattle.asc_run.proofs.Reach.{Acts-nothing}
+use Rattle.asc_run.proofs.Reach.{DoesIo-nothing}
 use Rattle.asc_run.proofs.Turn.{Agrees-before}
 use Rattle.asc_words.specs.Line.{Run as Line}
 use Rattle.asc_words.specs.declared.answer.Answer.{Answer}
@@ -23,7 +23,7 @@ record Rest (w : World) : Type 0 where
   may : MayCome w rest
   agrees : Agrees w.left rest
 
-rest_from : (w : World) (ended : Bool) (left : Option (List ℕ)) → w.kept.ended ≡ ended → w.left ≡ left → (IsTrue ended → IsAtEnd left) → Rest w
+rest_from : (w : World) (ended : Bool) (left : Option (List ℕ)) → w.calls.ended ≡ ended → w.left ≡ left → (IsTrue ended → IsAtEnd left) → Rest w
 rest_from w true (Some told) is_ended is_left known = record {
   rest = told;
   may = subst (λ b. MatchBool b (told ≡ []) (Agrees w.left told)) (sym is_ended) (known refl);
@@ -46,7 +46,7 @@ rest_from w false None is_ended is_left known = record {
 }
 
 rest_of : (w : World) → KnowsEnd w → Rest w
-rest_of w known = rest_from w w.kept.ended w.left refl refl known
+rest_of w known = rest_from w w.calls.ended w.left refl refl known
 
 -- a walk from an image's start did what its file means
 pub means_walk : (line : Line) (content : List ℕ) (image : loader.Image) (old new : World) (count : ℕ) (ended : Ended) → length content ≤ file_limit
@@ -54,14 +54,14 @@ pub means_walk : (line : Line) (content : List ℕ) (image : loader.Image) (old 
     → Follows line.limit old new count ended → Means old.outside new.outside (answer_at ended count) line content
 means_walk line content image old new count how within loads from f =
     let r = rest_of new f.known in
-    let left = f.act.taken ++ r.rest in
-    let run : run_of_image line image left ≡ record { ended = how; count = count; act = f.act } = sym (from left) ∙ f.run r.rest r.may in
-    let gives : Gives old.outside new.outside (answer_at how count) (result_of_run (record { ended = how; count = count; act = f.act })) =
-    record { answer = refl; acts = f.acts; steps = f.steps } in
+    let left = f.io.taken ++ r.rest in
+    let run : run_of_image line image left ≡ record { ended = how; count = count; io = f.io } = sym (from left) ∙ f.run r.rest r.may in
+    let gives : Gives old.outside new.outside (answer_at how count) (result_of_run (record { ended = how; count = count; io = f.io })) =
+    record { answer = refl; does = f.does; steps = f.steps } in
     let is : meaning line content left ≡ result_of_run (run_of_image line image left) = meaning-within line content left within ∙ ap (λ i. result_of_load line i left) loads in
     record {
       left = left;
-      agrees = Agrees-before old.left new.left f.act.taken r.rest f.acts.taken r.agrees;
+      agrees = Agrees-before old.left new.left f.io.taken r.rest f.does.taken r.agrees;
       gives = subst (λ x. Gives old.outside new.outside (answer_at how count) x) (sym is)
           (subst (λ (x : Run). Gives old.outside new.outside (answer_at how count) (result_of_run x)) (sym run) gives);
     }
@@ -78,7 +78,7 @@ means_refusal line content answered o refused =
     record {
       left = input.0;
       agrees = input.1;
-      gives = subst (λ x. Gives o o answered x) (sym (refused input.0)) (record { answer = refl; acts = Acts-nothing o; steps = omega arith });
+      gives = subst (λ x. Gives o o answered x) (sym (refused input.0)) (record { answer = refl; does = DoesIo-nothing o; steps = omega arith });
     }
 
 -- a file that is no image
@@ -106,18 +106,18 @@ pub stopped_walk : (line : Line) (content : List ℕ) (image : loader.Image) (to
     → IsStopped (outside told out err n) new.outside device line content
 stopped_walk line content image told out err n new count device within loads s =
     let r = rest_of new s.known in
-    let agrees = Agrees-before told new.left (s.act.taken ++ s.done.taken) r.rest s.acts.taken r.agrees in
+    let agrees = Agrees-before told new.left (s.io.taken ++ s.done.taken) r.rest s.does.taken r.agrees in
     record {
       within = within;
       image = image;
       loads = loads;
-      left = s.act.taken ++ (s.done.taken ++ r.rest);
-      agrees = subst (λ l. Agrees told l) (append_assoc s.act.taken s.done.taken r.rest) agrees;
+      left = s.io.taken ++ (s.done.taken ++ r.rest);
+      agrees = subst (λ l. Agrees told l) (append_assoc s.io.taken s.done.taken r.rest) agrees;
       count = count;
       below = s.below;
-      act = s.act;
+      io = s.io;
       done = s.done;
-      acts = s.acts;
+      does = s.does;
       run = s.run r.rest r.may;
       call = s.call r.rest r.may;
       begins = s.begins r.rest r.may;

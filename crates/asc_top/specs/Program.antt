@@ -1,14 +1,14 @@
 -- What a file means as a program, and what `top` does with it.
-use Rattle.std.specs.Prelude.{◌≡◌, ◌≢◌, ℕ, ◌+◌, ◌*◌, ◌<◌, ◌≤◌, List, length, Option, Some, None, Result, Ok, Err, nat_lt, if◌then◌else◌}
+use Rattle.std.specs.Prelude.{◌≡◌, ◌≢◌, ◌⊎◌, ℕ, ◌+◌, ◌*◌, ◌<◌, ◌≤◌, List, length, Option, Some, None, Result, Ok, Err, nat_lt, if◌then◌else◌}
 use Rattle.asc_model.specs.declared.fault.Fault.{Fault}
-use Rattle.asc_shape.specs.Outside.{File, MayHold, content_of}
+use Rattle.asc_shape.specs.Outside.{File, MayHold, AsksFor, content_of}
 use Rattle.asc_elf.specs.declared.fault.ElfFault.{ElfFault}
 use Rattle.asc_elf.specs.Image as loader
-use Rattle.asc_calls.specs.GuestCall.{Act, nothing, joint_act, IsBeginning, Device, Input, Out, Err as ErrorOut}
-use Rattle.asc_calls.specs.World.{Outside, Acts, Agrees, Blames}
+use Rattle.asc_calls.specs.GuestCall.{Io, nothing, then_io, IsBeginning, Device, Input, Out, Err as ErrorOut}
+use Rattle.asc_calls.specs.World.{Outside, DoesIo, Agrees, Blames}
 use Rattle.asc_run.specs.declared.walk.Ended.{Ended}
 use Rattle.asc_run.specs.declared.walk.Ended.TheVariants as ends
-use Rattle.asc_run.specs.Plain.{Run, exec, progress, first_position, StandsAtFailure}
+use Rattle.asc_run.specs.Execution.{Run, exec, progress, first_position, StandsAtFailure}
 use Rattle.asc_words.specs.Line as command
 use Rattle.asc_words.specs.Line.{Run as Line, line_of}
 pub use Rattle.asc_words.specs.declared.answer.Answer.{Answer}
@@ -41,15 +41,15 @@ answer_at ends.ErrFault count = answers.ErrFault
 -- what a program comes to: the answer, what it took and put, and how many steps it did
 pub record ProgramResult : Type 0 where
   pub answer : Answer
-  pub act : Act
+  pub io : Io
   pub count : ℕ
 
 -- an answer for which the program was not run
 abbrev pub refusal : Answer → ProgramResult
-refusal answer = record { answer = answer; act = nothing; count = 0 }
+refusal answer = record { answer = answer; io = nothing; count = 0 }
 
 abbrev pub result_of_run : Run → ProgramResult
-result_of_run run = record { answer = answer_at run.ended run.count; act = run.act; count = run.count }
+result_of_run run = record { answer = answer_at run.ended run.count; io = run.io; count = run.count }
 
 -- what a loaded file comes to over an input
 abbrev pub result_of_load : Line → Result loader.Image ElfFault → (left : List ℕ) → ProgramResult
@@ -68,7 +68,7 @@ meaning line content left =
 -- the answer is the result's, what was taken and put is the result's, and the counter rose by its count
 pub record Gives (old new : Outside) (answered : Answer) (result : ProgramResult) : Type 0 where
   pub answer : answered ≡ result.answer
-  pub acts : Acts old new result.act
+  pub does : DoesIo old new result.io
   pub steps : new.steps ≡ old.steps + result.count
 
 -- the store tells that it holds a file of that name with this content
@@ -84,6 +84,13 @@ pub record HasFile (words : List (List ℕ)) (files : Option (List File)) (P : L
   pub content : List ℕ
   pub held : MayHold files line.image content
   pub holds : P line content
+
+-- What the store was asked for until these words were answered so. The words ask for a run, and it was asked for the
+-- run's image, once; or it was asked for nothing, since they ask for no run, or memory was wanting.
+abbrev pub AsksForImage : (words : List (List ℕ)) → Answer → (before after : Option (List (List ℕ))) → Type 0
+AsksForImage words answered before after =
+    ((line : Line) × (line_of words ≡ Some (command.run line)) × AsksFor line.image before after)
+    ⊎ ((after ≡ before) × ((line_of words ≡ None) ⊎ (answered ≡ answers.Memory)))
 
 -- over some input that agrees with what is told, the file means what was answered, taken, put and counted
 pub record Means (old new : Outside) (answered : Answer) (line : Line) (content : List ℕ) : Type 0 where
@@ -106,7 +113,7 @@ pub record IsNoImage (fault : ElfFault) (line : Line) (content : List ℕ) : Typ
   pub loads : load_of line content ≡ Err fault
 
 -- A file that is not too long is an image, whose plain run over some input that agrees with what is told was stopped
--- when a device failed: its steps so far took and put act, and what was done of the call at which it stood is done. The
+-- when a device failed: its steps so far took and put io, and what was done of the call at which it stood is done. The
 -- whole plain run begins with both.
 pub record IsStopped (old new : Outside) (device : Device) (line : Line) (content : List ℕ) : Type 0 where
   pub within : length content ≤ file_limit
@@ -116,14 +123,14 @@ pub record IsStopped (old new : Outside) (device : Device) (line : Line) (conten
   pub agrees : Agrees old.left left
   pub count : ℕ
   pub below : count < line.limit
-  pub act : Act
-  pub done : Act
-  pub acts : Acts old new (joint_act act done)
+  pub io : Io
+  pub done : Io
+  pub does : DoesIo old new (then_io io done)
   pub run : exec count image.low (loader.high_of image) image.start left
-      ≡ record { ended = ends.Limit; count = count; act = act }
+      ≡ record { ended = ends.Limit; count = count; io = io }
   pub call : StandsAtFailure image.low (loader.high_of image) device done
       (progress image.low (loader.high_of image) (first_position image.start image.low left) count)
-  pub begins : IsBeginning (joint_act act done) (run_of_image line image left).act
+  pub begins : IsBeginning (then_io io done) (run_of_image line image left).io
   pub steps : new.steps ≡ old.steps + count
 
 -- ---- kinds of answers
@@ -190,19 +197,21 @@ Completes answers.TooLong = Unit {0}
 
 -- ---- answers before the report
 
--- What is told of all that the program meets but its report: the store's files, the guest's devices with the counter
--- of steps, and how often each device has failed.
+-- What is told of all that the program meets but its report: the store's files and the names that it was asked for, the
+-- guest's devices with the counter of steps, and how often each device has failed.
 pub record Devices : Type 0 where
   pub files : Option (List File)
+  pub asked : Option (List (List ℕ))
   pub guest : Outside
   pub store_faults : ℕ
   pub input_faults : ℕ
   pub out_faults : ℕ
   pub err_faults : ℕ
 
-abbrev pub devices : Option (List File) → Outside → (store input out err : ℕ) → Devices
-devices files guest store input out err = record {
+abbrev pub devices : Option (List File) → Option (List (List ℕ)) → Outside → (store input out err : ℕ) → Devices
+devices files asked guest store input out err = record {
   files = files;
+  asked = asked;
   guest = guest;
   store_faults = store;
   input_faults = input;
@@ -218,7 +227,7 @@ pub record IsAnswerTo (words : List (List ℕ)) (old new : Devices) (answered : 
       → IsHeld old.files line.image content → old.guest.left ≡ Some left → Completes answered
       → Gives old.guest new.guest answered (meaning line content left)
   -- told or not, it is that of some file and some input
-  pub plain : ComesOfFile answered → HasFile words old.files (Means old.guest new.guest answered)
+  pub untold : ComesOfFile answered → HasFile words old.files (Means old.guest new.guest answered)
   -- where a device failed under the guest, all is plain execution's up to the call in which that happened
   pub stopped : (device : Device) → device_of_answer answered ≡ Some device
       → HasFile words old.files (IsStopped old.guest new.guest device)
@@ -237,7 +246,9 @@ pub record IsAnswerTo (words : List (List ℕ)) (old new : Devices) (answered : 
   -- where the guest was not run, nothing was taken, put or counted
   pub refused : IsRefusal answered → new.guest ≡ old.guest
   pub files : new.files ≡ old.files
-  -- a device's count of faults rose where the answer blames it, and else it stayed
+  -- the store was asked for the image of a run, once, and for nothing else
+  pub asked : AsksForImage words answered old.asked new.asked
+  -- a device's count of faults rose by one where the answer blames it, and else it stayed
   pub store_fault : Blames (answered ≡ answers.StoreFault) old.store_faults new.store_faults
   pub read_fault : Blames (answered ≡ answers.ReadFault) old.input_faults new.input_faults
   pub write_fault : Blames (answered ≡ answers.WriteFault) old.out_faults new.out_faults

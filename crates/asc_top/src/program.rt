@@ -8,7 +8,7 @@ ghost use Rattle.asc_calls.specs.World.{Blames, outside};
 ghost use Rattle.asc_calls.specs.Filling.{PutsPart};
 ghost use Rattle.asc_words.specs.Line.{IsWithin, Meaning, Run, line_of};
 ghost use Rattle.asc_words.specs.Report.{report_text};
-ghost use Rattle.asc_top.specs.Program.{Gives, Means, HasFile, Runs, IsHeld, IsNoImage, IsStopped, IsRefusal, IsAnswerTo, ComesOfFile, Completes, devices, device_of_answer, meaning, answer_at, file_limit};
+ghost use Rattle.asc_top.specs.Program.{Gives, Means, HasFile, AsksForImage, Runs, IsHeld, IsNoImage, IsStopped, IsRefusal, IsAnswerTo, ComesOfFile, Completes, devices, device_of_answer, meaning, answer_at, file_limit};
 
 use crate::run_line::RunLine;
 use asc_calls::put_all;
@@ -19,8 +19,8 @@ use asc_words::{Answer, Bad, Line, LineFault, parse, text};
 use std::alloc::Global;
 use std::sync::ledger::Ledger;
 
-/// The greatest file that is read, in bytes.
-const MOST: usize = 67_108_864;
+/// The greatest file that is read, in bytes: 64 MiB.
+const FILE_LIMIT: usize = 67_108_864;
 
 /// Runs the program that the words of a command line ask for, over the outside that is handed in, and puts the line of
 /// the answer to report.
@@ -50,7 +50,7 @@ pub fn top<F: Store, I: Source, O: Sink, E: Sink, R: Sink, G: Gate, L: Ledger>(
         result (meaning line content left) }
 
     // Told or not, the answer is that of some file and some input, which agree with what is told.
-    ensures plain { ComesOfFile result → HasFile (map string_bytes words.now) (F.files store.old)
+    ensures untold { ComesOfFile result → HasFile (map string_bytes words.now) (F.files store.old)
         (Means (outside (I.left input.old) (O.given out.old) (E.given err.old) steps.old)
         (outside (I.left input.new) (O.given out.new) (E.given err.new) steps.new)
         result) }
@@ -86,7 +86,12 @@ pub fn top<F: Store, I: Source, O: Sink, E: Sink, R: Sink, G: Gate, L: Ledger>(
         ≡ outside (I.left input.old) (O.given out.old) (E.given err.old) steps.old }
     ensures files { F.files store.new ≡ F.files store.old }
 
-    // A device's count of faults rises where the answer blames it, and else it stays.
+    // The store is asked for the image of a run, once, and for nothing else. Where the words are no command it is not
+    // asked, and where memory is wanting it may not have been.
+    ensures asked { result ≢ Answer.ReportFault
+        → AsksForImage (map string_bytes words.now) result (F.asked store.old) (F.asked store.new) }
+
+    // A device's count of faults rises by one where the answer blames it, and else it stays.
     ensures store_fault { result ≢ Answer.ReportFault
         → Blames (result ≡ Answer.StoreFault) (F.faults store.old) (F.faults store.new) }
     ensures read_fault { result ≢ Answer.ReportFault
@@ -105,9 +110,9 @@ pub fn top<F: Store, I: Source, O: Sink, E: Sink, R: Sink, G: Gate, L: Ledger>(
     // stands above.
     ensures report_fault { result ≡ Answer.ReportFault → (answer : Answer)
         × IsAnswerTo (map string_bytes words.now)
-        (devices (F.files store.old) (outside (I.left input.old) (O.given out.old) (E.given err.old) steps.old)
+        (devices (F.files store.old) (F.asked store.old) (outside (I.left input.old) (O.given out.old) (E.given err.old) steps.old)
         (F.faults store.old) (I.faults input.old) (O.faults out.old) (E.faults err.old))
-        (devices (F.files store.new) (outside (I.left input.new) (O.given out.new) (E.given err.new) steps.new)
+        (devices (F.files store.new) (F.asked store.new) (outside (I.left input.new) (O.given out.new) (E.given err.new) steps.new)
         (F.faults store.new) (I.faults input.new) (O.faults out.new) (E.faults err.new)) answer
         × PutsPart (R.given report.old) (R.given report.new) (report_text answer) }
 {
@@ -115,7 +120,7 @@ pub fn top<F: Store, I: Source, O: Sink, E: Sink, R: Sink, G: Gate, L: Ledger>(
 }
 
 /// Puts an answer's text to report, and gives the answer, or ReportFault where report fails. Where the answer has no
-/// text report isn't asked. It takes no memory.
+/// text report isn't asked. No allocator is handed in.
 pub fn reported<R: Sink>(answer: Answer, report: &mut R) -> Answer
     requires { answer ≢ Answer.ReportFault }
     ensures answer { result ≢ Answer.ReportFault → result ≡ answer }
@@ -144,9 +149,9 @@ fn answer<F: Store, I: Source, O: Sink, E: Sink, L: Ledger>(
     steps: &mut Steps<L>,
 ) -> Answer
     ensures { IsAnswerTo (map string_bytes words.now)
-        (devices (F.files store.old) (outside (I.left input.old) (O.given out.old) (E.given err.old) steps.old)
+        (devices (F.files store.old) (F.asked store.old) (outside (I.left input.old) (O.given out.old) (E.given err.old) steps.old)
         (F.faults store.old) (I.faults input.old) (O.faults out.old) (E.faults err.old))
-        (devices (F.files store.new) (outside (I.left input.new) (O.given out.new) (E.given err.new) steps.new)
+        (devices (F.files store.new) (F.asked store.new) (outside (I.left input.new) (O.given out.new) (E.given err.new) steps.new)
         (F.faults store.new) (I.faults input.new) (O.faults out.new) (E.faults err.new)) result }
 {
     match parse(alloc, words) {
@@ -168,13 +173,13 @@ fn run_named<F: Store, I: Source, O: Sink, E: Sink, L: Ledger>(
 ) -> Answer
     requires { IsWithin (Meaning.run line.now) }
     ensures { (words : List (List ℕ)) → line_of words ≡ Some (Meaning.run line.now) → IsAnswerTo words
-        (devices (F.files store.old) (outside (I.left input.old) (O.given out.old) (E.given err.old) steps.old)
+        (devices (F.files store.old) (F.asked store.old) (outside (I.left input.old) (O.given out.old) (E.given err.old) steps.old)
         (F.faults store.old) (I.faults input.old) (O.faults out.old) (E.faults err.old))
-        (devices (F.files store.new) (outside (I.left input.new) (O.given out.new) (E.given err.new) steps.new)
+        (devices (F.files store.new) (F.asked store.new) (outside (I.left input.new) (O.given out.new) (E.given err.new) steps.new)
         (F.faults store.new) (I.faults input.new) (O.faults out.new) (E.faults err.new)) result }
 {
     let mut file = Vec::new(alloc);
-    match store.read(line.image.as_str(), &mut file, MOST) {
+    match store.read(line.image.as_str(), &mut file, FILE_LIMIT) {
         Err(StoreFault::Failed) => Answer::StoreFault,
         Err(StoreFault::Memory) => Answer::Memory,
         Ok(Loaded::Longer) => Answer::TooLong,

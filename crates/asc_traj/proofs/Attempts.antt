@@ -7,18 +7,18 @@ use Rattle.asc_model.specs.declared.why.Why.{Why}
 use Rattle.asc_model.specs.State.{State, IsState}
 use Rattle.asc_model.specs.Step.{Next, At, Call, Bad, next}
 use Rattle.asc_model.specs.Places.{places_read, writes}
-use Rattle.asc_model.specs.Reach.{why_no_step}
-use Rattle.asc_model.proofs.LawsHold.{step_writes_bytes, steps_keep_states}
-use Rattle.asc_shape.specs.Face.{Face, Marks, Untold, Told, KeepsTotal, face_after_reads, face_after_puts}
-use Rattle.asc_step.specs.Step.{face_after, state_after_step, stepped_of}
-use Rattle.asc_depvec.specs.Tracer.{Tracing, IsTracing, face_of, room_of, undone, touched_of}
+use Rattle.asc_model.specs.Reach.{step_room, why_no_step}
+use Rattle.asc_model.proofs.LawsHold.{step_writes_bytes}
+use Rattle.asc_shape.specs.Face.{Face, Marks, Untold, Told, room_of, face_after_reads, face_after_puts}
+use Rattle.asc_step.specs.Step.{face_after, stepped_of}
+use Rattle.asc_depvec.specs.Tracer.{Tracing, face_of, undone, touched_of}
 use Rattle.asc_depvec.proofs.Limits.{limits_stay}
 use Rattle.asc_depvec.proofs.UndoneReads.{reads_are_undone}
 use Rattle.asc_traj.specs.Inside.{why_of}
 
 abbrev statuses_of : Marks → List Status
 statuses_of Untold = []
-statuses_of (Told statuses touched) = statuses
+statuses_of (Told cap statuses touched) = statuses
 
 -- a tracer is known from its shape, its cap and its face
 pub same_tracing : (a b : Tracing) → a.shape ≡ b.shape → a.cap ≡ b.cap → face_of a ≡ face_of b → a ≡ b
@@ -31,20 +31,9 @@ same_tracing a b shape cap face =
     ∙ ap (λ x. record a { shape = b.shape; cap = b.cap; state = b.state; statuses = x }) statuses
     ∙ ap (λ x. record b { touched = x }) touched
 
--- a step leaves a state of the same shape
-pub shape-step : (s : State) → IsState s → (state_after_step (next s) s).shape ≡ s.shape
-shape-step s good = by_next (next s) refl
-  where
-    by_next : (n : Next) → next s ≡ n → (state_after_step n s).shape ≡ s.shape
-    by_next (At after) e = (steps_keep_states s after good e).1
-    by_next Call e = refl
-    by_next (Bad fault) e = refl
-
 -- an attempt keeps shape and cap
-pub limits-step : (t later : Tracing) → IsState t.state → IsTracing t → IsTracing later → 32 ≤ room_of t → later.state ≡ state_after_step (next t.state) t.state
-    → KeepsTotal (room_of t) (face_of t) (room_of later) (face_of later) → (later.shape ≡ t.shape) × (later.cap ≡ t.cap)
-limits-step t later good is_t is_later room state total =
-    limits_stay t later is_t is_later (omega (arith, room)) (ap (λ (s : State). s.shape) state ∙ shape-step t.state good) total
+pub limits-step : (t later : Tracing) → step_room ≤ room_of (face_of t).marks → face_of later ≡ face_after (face_of t) → (later.shape ≡ t.shape) × (later.cap ≡ t.cap)
+limits-step t later room face = limits_stay t later (places_read t.state) (writes t.state) (omega (arith, room)) face
 
 no_puts : (f : Face) (cells : List (ℕ × ℕ)) → cells ≡ [] → face_after_puts f cells ≡ f
 unfolding face_after_puts

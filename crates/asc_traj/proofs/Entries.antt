@@ -1,26 +1,29 @@
--- The entry of the steps that a tracer stands for, and what an entry matches and puts.
-use Rattle.std.proofs.Common.{◌≡◌, ℕ, ◌^◌, ◌<◌, ◌≤◌, Bool, true, false, ◌==◌, ◌&&◌, List, [], ◌∷◌, map, length, slice_index, Some, refl, sym, ap, subst, ◌∙◌, arith}
+-- The entry of the steps that a tracer stands for.
+use Rattle.std.proofs.Common.{◌≡◌, ℕ, ◌^◌, ◌<◌, ◌≤◌, Bool, true, false, List, [], ◌∷◌, map, length, slice_index, Some, if◌then◌else◌, refl, sym, ap, subst, ◌∙◌, arith}
 use Rattle.std.specs.Prelude.{All, filter}
-use Rattle.std.specs.List.{list_all}
+use Rattle.std.specs.List.{flat_map}
 use Rattle.std.specs.List.Sorted.{IsPermutation, IsNonDecreasingBy}
-use Rattle.std.proofs.lemmas.Bool.{eq-eqb}
-use Rattle.std.proofs.lemmas.List.Elements.{All-nil, All-cons, All-head, All-tail, All-filter}
 use Rattle.std.proofs.lemmas.List.Sorted.{All-permutation}
+use Rattle.std.proofs.lemmas.List.Elements.{All-head, All-tail, All-filter}
 use Rattle.asc_model.specs.Shape.{length_of}
 use Rattle.asc_model.specs.State.{State, IsState}
 use Rattle.asc_model.specs.Step.{At}
 use Rattle.asc_model.specs.Places.{places_from}
-use Rattle.asc_model.specs.Touched.{is_among, first_reads, written_in}
+use Rattle.asc_model.specs.DependencyVector.{is_among, first_reads, written_in}
 use Rattle.asc_model.specs.Entry.{Entry, IsTrueEntry, cells_among, entry_of}
 use Rattle.asc_model.proofs.Numbers.{AreCells, AreBytes-bytes_after, length-bytes_after}
+use Rattle.asc_model.proofs.Listings.{RisesFrom}
 use Rattle.asc_model.proofs.Entries.{entry_of-is, entries_are_true}
-use Rattle.asc_shape.specs.Face.{Told, FitPlaces, status_at}
+use Rattle.asc_shape.specs.Face.{Told, FitPlaces, status_at, is_untouched}
 use Rattle.asc_depvec.specs.Dependency.{status_by}
-use Rattle.asc_depvec.specs.Tracer.{Tracing}
+use Rattle.asc_depvec.specs.Tracer.{Tracing, face_of}
 use Rattle.asc_depvec.proofs.Starts.{starts_are_told}
 use Rattle.asc_traj.specs.Trace.{StandsFor, origin_of}
-use Rattle.asc_traj.specs.Inside.{is_read_first, is_written}
-use Rattle.asc_traj.proofs.Places.{places_of, touched-within}
+use Rattle.asc_traj.specs.declared.entry.Run.{Run}
+use Rattle.asc_traj.specs.Inside.{IsRun, cells_of, is_read_first, is_written}
+use Rattle.asc_depvec.proofs.Undoing.{touched-within}
+use Rattle.asc_traj.proofs.Places.{places_of}
+use Rattle.asc_traj.proofs.Runs.{HasSame, HasSame-runs, rising}
 use Rattle.asc_traj.proofs.Sorting.{filter-alike, cells_are, cells_at, passed, all_sorted}
 
 -- ---- statuses
@@ -64,10 +67,34 @@ pub record Makes (n : ℕ) (t : Tracing) (sorted reads writes : List (ℕ × ℕ
   pub stands : StandsFor n t
   pub good : IsState t.state
   pub bytes : All (λ cell. cell.1 < 2 ^ 8) t.touched
-  pub moved : IsPermutation t.touched sorted
-  pub up : IsNonDecreasingBy (λ cell. cell.0) sorted
+  pub same : HasSame t.touched sorted
+  pub up : RisesFrom 0 (places_of sorted)
   pub read : reads ≡ filter (λ cell. is_read_first (status_at t.statuses cell.0)) sorted
   pub written : writes ≡ map (λ cell. (cell.0, slice_index t.state.bytes cell.0)) (filter (λ cell. is_written (status_at t.statuses cell.0)) sorted)
+
+-- the cells of the runs of the touched places, by rising place, make it
+pub runs_make : (n : ℕ) (t : Tracing) (runs moved : List Run) (reads writes : List (ℕ × ℕ)) → 1 ≤ n → StandsFor n t → IsState t.state → All (λ cell. cell.1 < 2 ^ 8) t.touched
+    → All (IsRun t.touched) runs → flat_map (cells_of t.touched) runs ≡ t.touched → IsPermutation runs moved → IsNonDecreasingBy (λ run. run.place) moved
+    → reads ≡ filter (λ cell. is_read_first (status_at t.statuses cell.0)) (flat_map (cells_of t.touched) moved)
+    → writes ≡ map (λ cell. (cell.0, slice_index t.state.bytes cell.0)) (filter (λ cell. is_written (status_at t.statuses cell.0)) (flat_map (cells_of t.touched) moved))
+    → Makes n t (flat_map (cells_of t.touched) moved) reads writes
+runs_make n t runs moved reads writes least stands good bytes are whole by sorted read written =
+    let same = HasSame-runs t.touched runs moved whole by in
+    let once = λ (p : ℕ). subst (λ (m : ℕ). m ≤ 1) (sym (same.times p ∙ stands.touched.1 p)) (by_status (is_untouched (status_at t.statuses p))) in
+    record {
+      least = least;
+      stands = stands;
+      good = good;
+      bytes = bytes;
+      same = same;
+      up = rising t.touched moved (All-permutation (IsRun t.touched) runs moved by are) sorted once;
+      read = read;
+      written = written;
+    }
+  where
+    by_status : (b : Bool) → (if b then 0 else 1) ≤ 1
+    by_status true = omega arith
+    by_status false = omega arith
 
 module _ (n : ℕ) (t : Tracing) (sorted reads writes : List (ℕ × ℕ)) (makes : Makes n t sorted reads writes) where
   abbrev start : State
@@ -76,14 +103,14 @@ module _ (n : ℕ) (t : Tracing) (sorted reads writes : List (ℕ × ℕ)) (make
   -- the places that steps touch so, by the statuses
   reads-places : places_of (filter (λ cell. is_read_first (status_at t.statuses cell.0)) sorted) ≡ filter (λ p. is_among p (first_reads n start)) (places_from 0 (length start.bytes))
   reads-places =
-      passed (length t.state.bytes) t.statuses t.touched sorted makes.stands.touched makes.moved makes.up is_read_first refl
+      passed (length t.state.bytes) t.statuses t.touched sorted makes.stands.touched makes.same makes.up is_read_first refl
       ∙ filter-alike (λ p. is_read_first (status_at t.statuses p)) (λ p. is_among p (first_reads n start)) 0 (length t.state.bytes)
       (λ p least most. ap is_read_first (makes.stands.statuses p (omega arith)) ∙ read_by (is_among p (first_reads n start)) (is_among p (written_in n start)))
       ∙ ap (λ m. filter (λ p. is_among p (first_reads n start)) (places_from 0 m)) (sym (length-start t))
 
   writes-places : places_of (filter (λ cell. is_written (status_at t.statuses cell.0)) sorted) ≡ filter (λ p. is_among p (written_in n start)) (places_from 0 (length t.state.bytes))
   writes-places =
-      passed (length t.state.bytes) t.statuses t.touched sorted makes.stands.touched makes.moved makes.up is_written refl
+      passed (length t.state.bytes) t.statuses t.touched sorted makes.stands.touched makes.same makes.up is_written refl
       ∙ filter-alike (λ p. is_written (status_at t.statuses p)) (λ p. is_among p (written_in n start)) 0 (length t.state.bytes)
       (λ p least most. ap is_written (makes.stands.statuses p (omega arith)) ∙ written_by (is_among p (first_reads n start)) (is_among p (written_in n start)))
 
@@ -94,7 +121,7 @@ module _ (n : ℕ) (t : Tracing) (sorted reads writes : List (ℕ × ℕ)) (make
       let kept = filter (λ (cell : ℕ × ℕ). is_read_first (status_at t.statuses cell.0)) sorted in
       makes.read
       ∙ cells_are start.bytes kept (All-filter (λ cell. is_read_first (status_at t.statuses cell.0)) same sorted
-      (all_sorted (length t.state.bytes) t.statuses t.touched sorted makes.stands.touched makes.moved makes.up same told))
+      (all_sorted (length t.state.bytes) t.statuses t.touched sorted makes.stands.touched makes.same makes.up same told))
       ∙ ap (map (λ place. (place, slice_index start.bytes place))) reads-places
 
   writes-are : writes ≡ cells_among (written_in n start) t.state
@@ -117,23 +144,8 @@ module _ (n : ℕ) (t : Tracing) (sorted reads writes : List (ℕ × ℕ)) (make
   pub entry_true : IsTrueEntry entry
   entry_true = entries_are_true n start entry (IsState-start t makes.good makes.bytes) makes.least entry_is
 
--- ---- matching and putting
+-- ---- places
 
--- a state that has each of these bytes passes the test of each
-pub has_all : (bytes : List ℕ) (cells : List (ℕ × ℕ)) → All (λ cell. slice_index bytes cell.0 ≡ cell.1) cells → list_all (λ cell. slice_index bytes cell.0 == cell.1) cells ≡ true
-has_all bytes [] h = refl
-has_all bytes (cell ∷ cells) h =
-    let same = λ (c : ℕ × ℕ). slice_index bytes c.0 ≡ c.1 in
-    ap (λ b. b && list_all (λ c. slice_index bytes c.0 == c.1) cells) (eq-eqb (slice_index bytes cell.0) cell.1 (All-head same cell cells h))
-    ∙ has_all bytes cells (All-tail same cell cells h)
-
--- sorted touched places are places of the state
-pub sorted-within : (t : Tracing) (sorted : List (ℕ × ℕ)) → IsState t.state → FitPlaces (length t.state.bytes) (Told t.statuses t.touched) → IsPermutation t.touched sorted
-    → All (λ cell. cell.0 < length_of t.state.shape) sorted
-sorted-within t sorted good fits moved =
-    All-permutation (λ cell. cell.0 < length_of t.state.shape) t.touched sorted moved
-    (All-places (λ p. p < length_of t.state.shape) t.touched (subst (λ m. All (λ p. p < m) (places_of t.touched)) good.length (touched-within (length t.state.bytes) t.statuses t.touched fits)))
-  where
-    All-places : (P : ℕ → Type 0) (cells : List (ℕ × ℕ)) → All P (places_of cells) → All (λ cell. P cell.0) cells
-    All-places P [] h = All-nil (λ cell. P cell.0)
-    All-places P (cell ∷ cells) h = All-cons (λ c. P c.0) cell cells (All-head P cell.0 (places_of cells) h) (All-places P cells (All-tail P cell.0 (places_of cells) h))
+-- touched places are places of the state
+pub touched_places : (t : Tracing) → IsState t.state → FitPlaces (length t.state.bytes) (face_of t).marks → All (λ cell. cell.0 < length_of t.state.shape) t.touched
+touched_places t good fits = subst (λ m. All (λ cell. cell.0 < m) t.touched) good.length (touched-within (length t.state.bytes) t.statuses t.touched fits)

@@ -3,3 +3,7 @@ pub mod Attempts
 pub mod Traces
 pub mod Sorting
 pub mod Entries
+pub mod Runs
+pub mod Matching
+pub mod Looks
+pub mod Finding

@@ -9,13 +9,13 @@ use Rattle.std.proofs.lemmas.List.Sums.{sum_by-cons}
 use Rattle.asc_model.specs.declared.status.Status.{Status}
 use Rattle.asc_model.specs.State.{State}
 use Rattle.asc_model.specs.Places.{places_from}
-use Rattle.asc_model.specs.Touched.{is_among, first_reads, written_in}
+use Rattle.asc_model.specs.DependencyVector.{is_among, first_reads, written_in}
 use Rattle.asc_model.specs.Reach.{touched_in}
 use Rattle.asc_model.proofs.Listings.{count_of_places}
 use Rattle.asc_shape.specs.Face.{Told, FitPlaces, is_untouched}
 use Rattle.asc_depvec.specs.Dependency.{status_by}
 use Rattle.asc_depvec.specs.Laws.{HasStatusesOf}
-use Rattle.asc_depvec.specs.Tracer.{Tracing}
+use Rattle.asc_depvec.specs.Tracer.{Tracing, face_of}
 use Rattle.asc_depvec.proofs.Marking.{listed_within}
 
 -- the places of cells
@@ -39,7 +39,7 @@ listed (cell ∷ cells) P h =
     (listed cells P (λ place least. h place (omega (arith, least, sum_by-cons (λ c. cond (c.0 == place) 1 0) cell cells))))
 
 -- the places that are listed as touched are places
-pub touched-within : (n : ℕ) (statuses : List Status) (touched : List (ℕ × ℕ)) → FitPlaces n (Told statuses touched) → All (λ place. place < n) (places_of touched)
+pub touched-within : (n : ℕ) (statuses : List Status) (touched : List (ℕ × ℕ)) → FitPlaces n (Told 0 statuses touched) → All (λ place. place < n) (places_of touched)
 touched-within n statuses touched fits = listed touched (λ place. place < n) (λ place least. listed_within n statuses touched place fits least)
 
 -- a status by whether its place was read first or written says whether it was touched
@@ -54,7 +54,7 @@ once_by true = refl
 once_by false = refl
 
 -- a tracer that has the statuses of n steps has as many touched places as these steps touch
-pub length-touched : (n : ℕ) (start : State) (t : Tracing) → FitPlaces (length t.state.bytes) (Told t.statuses t.touched) → HasStatusesOf n start t → length start.bytes ≡ length t.state.bytes
+pub length-touched : (n : ℕ) (start : State) (t : Tracing) → FitPlaces (length t.state.bytes) (face_of t).marks → HasStatusesOf n start t → length start.bytes ≡ length t.state.bytes
     → length t.touched ≡ touched_in n start
 length-touched n start t fits has size =
     let among : ℕ → Bool = λ place. is_among place (first_reads n start ++ written_in n start) in

@@ -1,47 +1,21 @@
 -- The places that a tracer touched, in rising order.
-use Rattle.std.proofs.Common.{◌≡◌, ℕ, zero, suc, ◌+◌, ◌<◌, ◌≤◌, Bool, true, false, not, ◌||◌, ◌==◌, cond, List, [], ◌∷◌, map, length, slice_index, get_or, nat_lt, if◌then◌else◌, refl, sym, ap, subst, ◌∙◌, inl, inr, arith}
+use Rattle.std.proofs.Common.{◌≡◌, ℕ, zero, suc, ◌+◌, ◌<◌, ◌≤◌, Bool, true, false, not, ◌||◌, ◌==◌, cond, List, [], ◌∷◌, map, slice_index, nat_lt, if◌then◌else◌, refl, sym, ap, ◌∙◌, inl, inr, arith}
 use Rattle.std.specs.Prelude.{All, count_by, filter}
-use Rattle.std.specs.List.Sorted.{IsPermutation, IsNonDecreasing, IsNonDecreasingBy}
-use Rattle.std.proofs.lemmas.Bool.{cases_Bool, cases_eq, eq-eqb, cond-true, cond-false, lt-ltb, false≢true}
-use Rattle.std.proofs.lemmas.List.{get_or-map, length-map}
-use Rattle.std.proofs.lemmas.List.Elements.{All-head, All-tail}
-use Rattle.std.proofs.lemmas.List.Sorted.{All-permutation, sum_by-IsPermutation}
+use Rattle.std.proofs.lemmas.Bool.{cases_Bool, cond-true, cond-false, lt-ltb, false≢true}
+use Rattle.std.proofs.lemmas.List.Elements.{All-cons, All-head, All-nil, All-tail}
 use Rattle.std.proofs.lemmas.List.Sums.{sum_by-cons}
-use Rattle.std.proofs.lemmas.Map.Views.{All-map-IsPermutation}
 use Rattle.asc_model.specs.declared.status.Status.{Status}
 use Rattle.asc_model.specs.declared.status.Status.TheVariants.{Untouched}
 use Rattle.asc_model.specs.Places.{places_from}
-use Rattle.asc_model.specs.Touched.{is_among}
+use Rattle.asc_model.specs.DependencyVector.{is_among}
 use Rattle.asc_model.proofs.Listings.{RisesFrom, increasing-RisesFrom, rising_is_filter}
 use Rattle.asc_shape.specs.Face.{Told, FitPlaces, status_at, is_untouched}
 use Rattle.asc_depvec.proofs.Marking.{untouched_is}
-use Rattle.asc_traj.proofs.Places.{places_of, times-places, touched-within}
+use Rattle.asc_depvec.proofs.Undoing.{touched-within}
+use Rattle.asc_traj.proofs.Places.{places_of, times-places}
+use Rattle.asc_traj.proofs.Runs.{HasSame, All-same_cells}
 
 -- ---- lists
-
--- what follows in a list that does not fall, in which no number stands twice
-next_above : (x : ℕ) (xs : List ℕ) → IsNonDecreasing (x ∷ xs) → ((p : ℕ) → count_by (λ k. k == p) (x ∷ xs) ≤ 1) → 0 < length xs → x + 1 ≤ slice_index xs 0
-next_above x [] sorted once lt = absurd (omega arith)
-next_above x (y ∷ ys) sorted once lt =
-    let le : x ≤ y = sorted 0 1 0 (omega arith) (omega arith) in
-    elim (cases_eq x y) [
-      | inl e ↦
-          let a = sum_by-cons (λ k. cond (k == y) 1 0) x (y ∷ ys) in
-          let b = sum_by-cons (λ k. cond (k == y) 1 0) y ys in
-          let first = ap (λ (t : Bool). cond {A = ℕ} t 1 0) (eq-eqb x y e) in
-          let second = ap (λ (t : Bool). cond {A = ℕ} t 1 0) (eq-eqb y y refl) in
-          absurd (omega (arith, a, b, first, second, once y))
-      | inr ne ↦ omega (arith, le, ne)
-    ]
-
--- such a list rises
-RisesFrom-once : (low : ℕ) (xs : List ℕ) → IsNonDecreasing xs → ((p : ℕ) → count_by (λ k. k == p) xs ≤ 1) → (0 < length xs → low ≤ slice_index xs 0) → RisesFrom low xs
-RisesFrom-once low [] sorted once first = tt
-RisesFrom-once low (x ∷ xs) sorted once first = (
-  first (omega arith),
-  RisesFrom-once (x + 1) xs (λ i j d le lt. sorted (suc i) (suc j) d (omega arith) (omega arith))
-      (λ p. omega (arith, once p, sum_by-cons (λ k. cond (k == p) 1 0) x xs)) (next_above x xs sorted once),
-)
 
 -- a number is in a list that has it some times
 among-count : (p : ℕ) (xs : List ℕ) → is_among p xs ≡ nat_lt 0 (count_by (λ k. k == p) xs)
@@ -107,32 +81,23 @@ cells_at bytes (cell ∷ cells) = ap (λ list. (cell.0, slice_index bytes cell.0
 
 -- ---- sorted touched places
 
-module _ (n : ℕ) (statuses : List Status) (touched sorted : List (ℕ × ℕ)) (fits : FitPlaces n (Told statuses touched)) (moved : IsPermutation touched sorted)
-    (up : IsNonDecreasingBy (λ cell. cell.0) sorted) where
+module _ (n : ℕ) (statuses : List Status) (touched sorted : List (ℕ × ℕ)) (fits : FitPlaces n (Told 0 statuses touched)) (same : HasSame touched sorted)
+    (up : RisesFrom 0 (places_of sorted)) where
   times-sorted : (p : ℕ) → count_by (λ k. k == p) (places_of sorted) ≡ (if is_untouched (status_at statuses p) then 0 else 1)
-  times-sorted p = times-places p sorted ∙ sum_by-IsPermutation (λ cell. cond (cell.0 == p) 1 0) touched sorted moved ∙ fits.1 p
-
-  once : (p : ℕ) → count_by (λ k. k == p) (places_of sorted) ≤ 1
-  once p = subst (λ m. m ≤ 1) (sym (times-sorted p)) (by_status (is_untouched (status_at statuses p)))
-    where
-      by_status : (b : Bool) → (if b then 0 else 1) ≤ 1
-      by_status true = omega arith
-      by_status false = omega arith
-
-  places-up : IsNonDecreasing (places_of sorted)
-  places-up i j d le lt =
-      let behind : j < length sorted = omega (arith, lt, length-map sorted (λ (cell : ℕ × ℕ). cell.0)) in
-      let h : (get_or sorted i (d, 0)).0 ≤ (get_or sorted j (d, 0)).0 = up i j (d, 0) le behind in
-      omega (arith, h, get_or-map (λ (cell : ℕ × ℕ). cell.0) sorted i (d, 0) d (omega arith), get_or-map (λ (cell : ℕ × ℕ). cell.0) sorted j (d, 0) d behind)
+  times-sorted p = times-places p sorted ∙ same.times p ∙ fits.1 p
 
   within : All (λ p. p < n) (places_of sorted)
-  within = All-map-IsPermutation (λ cell. cell.0) (λ p. p < n) touched sorted moved (touched-within n statuses touched fits)
+  within = All-places (λ p. p < n) sorted (All-same_cells (λ cell. cell.0 < n) touched sorted same (touched-within n statuses touched fits))
+    where
+      All-places : (P : ℕ → Type 0) (cells : List (ℕ × ℕ)) → All (λ cell. P cell.0) cells → All P (places_of cells)
+      All-places P [] h = All-nil P
+      All-places P (cell ∷ cells) h = All-cons P cell.0 (places_of cells) (All-head (λ c. P c.0) cell cells h) (All-places P cells (All-tail (λ c. P c.0) cell cells h))
 
   -- they are all that are not untouched
   all_touched : places_of sorted ≡ filter (λ p. not (is_untouched (status_at statuses p))) (places_from 0 n)
   all_touched =
       rising_is_filter (λ p. not (is_untouched (status_at statuses p))) n (places_of sorted)
-      (increasing-RisesFrom 0 (places_of sorted) (RisesFrom-once 0 (places_of sorted) places-up once (λ lt. omega arith))) within
+      (increasing-RisesFrom 0 (places_of sorted) up) within
       (λ p lt. among-count p (places_of sorted) ∙ ap (nat_lt 0) (times-sorted p) ∙ by_status (is_untouched (status_at statuses p)))
     where
       by_status : (b : Bool) → nat_lt 0 (if b then 0 else 1) ≡ not b
@@ -153,4 +118,4 @@ module _ (n : ℕ) (statuses : List Status) (touched sorted : List (ℕ × ℕ))
 
   -- sorted cells have what each cell has
   pub all_sorted : (P : ℕ × ℕ → Type 0) → All P touched → All P sorted
-  all_sorted P h = All-permutation P touched sorted moved h
+  all_sorted P h = All-same_cells P touched sorted same h

@@ -7,26 +7,26 @@ use Rattle.std.proofs.lemmas.Bool.{cases_lt, ltb-true, lt-ltb, cases_Bool, eq-eq
 use Rattle.std.proofs.lemmas.List.Sums.{sum_by-cons}
 use Rattle.asc_model.specs.declared.why.Why.{Why}
 use Rattle.asc_model.specs.declared.why.Why.TheVariants as whys
-use Rattle.asc_model.specs.Shape.{length_of}
+use Rattle.asc_model.specs.Shape.{length_of, is_same_shape}
 use Rattle.asc_model.specs.State.{State, IsState}
 use Rattle.asc_model.specs.Machine.{view_of}
 use Rattle.asc_model.specs.Step.{Next, At, Call, Bad, next}
 use Rattle.asc_model.specs.Places.{places_read, writes, bytes_after}
 use Rattle.asc_model.specs.Plain.{plain}
-use Rattle.asc_model.specs.Reach.{Bounds, leads_to, laps_in, touched_in, bound_met, why_no_step, why_after, GoesOn, IsReach}
+use Rattle.asc_model.specs.Reach.{Bounds, leads_to, laps_in, touched_in, step_room, bound_met, why_no_step, why_after, GoesOn, IsReach}
 use Rattle.asc_model.proofs.LawsHold.{step_writes_bytes}
 use Rattle.asc_model.proofs.PlainSteps.{plain-zero, plain_steps_join, plain_steps_keep_states, plain-suc_next}
 use Rattle.asc_model.proofs.Touches.{state-TouchesPlaces}
-use Rattle.asc_shape.specs.Face.{Face, Told, FitPlaces, status_at, is_untouched, face_after_reads}
+use Rattle.asc_shape.specs.Face.{Face, FitPlaces, room_of, status_at, is_untouched, face_after_reads}
 use Rattle.asc_shape.proofs.Faces.{state-reads, state-puts}
 use Rattle.asc_step.specs.Step.{face_after}
-use Rattle.asc_depvec.specs.Tracer.{Tracing, IsTracing, face_of, room_of, is_same_shape, start_of_face}
+use Rattle.asc_depvec.specs.Tracer.{Tracing, IsTracing, face_of, start_of_face}
 use Rattle.asc_depvec.specs.Laws.{HasStatusesOf}
 use Rattle.asc_depvec.proofs.Dependencies.{no_statuses, statuses_follow}
-use Rattle.asc_depvec.proofs.Insides.{is_same_shape-same}
+use Rattle.asc_model.proofs.Shapes.{is_same_shape-same}
 use Rattle.asc_depvec.proofs.Marking.{untouched_is}
 use Rattle.asc_depvec.proofs.Starts.{starts_stay}
-use Rattle.asc_traj.specs.Trace.{LosesPatience, StandsFor, MayStop, origin_of}
+use Rattle.asc_traj.specs.Trace.{Asked, CountsAsk, LosesPatience, StandsFor, MayStop, asks_of, origin_of}
 use Rattle.asc_traj.proofs.Places.{length-touched}
 
 -- After n steps of a start, of which so many were laps, a tracer is on its way: it stands where they lead, with their
@@ -45,7 +45,7 @@ pub record IsOnWay (bounds : Bounds) (start : State) (n laps : ℕ) (t : Tracing
 
 -- a tracer of which nothing is touched has done no step
 pub begins : (bounds : Bounds) (t : Tracing) → t.touched ≡ [] → t.state.shape ≡ t.shape → t.cap ≡ bounds.cap → IsState t.state
-    → FitPlaces (length t.state.bytes) (Told t.statuses t.touched) → IsOnWay bounds t.state 0 0 t
+    → FitPlaces (length t.state.bytes) (face_of t).marks → IsOnWay bounds t.state 0 0 t
 begins bounds t none own same_cap good fits =
     let start : origin_of t ≡ t.state = ap (λ (list : List (ℕ × ℕ)). record t.state { bytes = bytes_after t.state.bytes list }) none in
     record {
@@ -88,12 +88,12 @@ room_left cap n h = elim (cases_lt cap (n + 32)) [
 
 -- what is left of a tracer's places is what its steps leave
 pub few_left : (bounds : Bounds) (start : State) (n laps : ℕ) (t : Tracing) → IsOnWay bounds start n laps t → IsTracing t
-    → FitPlaces (length t.state.bytes) (Told t.statuses t.touched) → nat_lt (room_of t) 32 ≡ nat_lt bounds.cap (touched_in n start + 32)
+    → FitPlaces (length t.state.bytes) (face_of t).marks → nat_lt (room_of (face_of t).marks) step_room ≡ nat_lt bounds.cap (touched_in n start + 32)
 few_left bounds start n laps t on is fits =
     let kept = plain_steps_keep_states n start t.state on.good on.goes in
     let size : length start.bytes ≡ length t.state.bytes = on.good.length ∙ ap length_of (sym kept.1) ∙ sym kept.0.length in
     let same : is_same_shape t.state.shape t.shape ≡ true = is_same_shape-same t.state.shape t.shape (kept.1 ∙ sym on.own) in
-    let left : room_of t ≡ bounds.cap - length t.touched = ap (λ (b : Bool). if b then t.cap - length t.touched else 0) same ∙ ap (λ c. c - length t.touched) on.cap in
+    let left : room_of (face_of t).marks ≡ bounds.cap - length t.touched = ap (λ (b : Bool). (if b then t.cap else 0) - length t.touched) same ∙ ap (λ c. c - length t.touched) on.cap in
     ap (λ r. nat_lt r 32) left
     ∙ room_left bounds.cap (length t.touched) (subst (λ c. length t.touched ≤ c) on.cap is.room)
     ∙ ap (λ m. nat_lt bounds.cap (m + 32)) (length-touched n start t fits on.statuses size)
@@ -102,12 +102,12 @@ few_left bounds start n laps t on is fits =
 abbrev pub met : Bounds → (n laps : ℕ) → Tracing → Option Why
 met bounds n laps t = if laps == bounds.laps then Some whys.Lap
     else (if n == bounds.span then Some whys.Span
-    else (if nat_lt (room_of t) 32 then Some whys.Room else None))
+    else (if nat_lt (room_of (face_of t).marks) step_room then Some whys.Room else None))
 
 pub met-bound : (bounds : Bounds) (start : State) (n laps : ℕ) (t : Tracing) → IsOnWay bounds start n laps t → IsTracing t
-    → FitPlaces (length t.state.bytes) (Told t.statuses t.touched) → met bounds n laps t ≡ bound_met bounds n start
+    → FitPlaces (length t.state.bytes) (face_of t).marks → met bounds n laps t ≡ bound_met bounds n start
 met-bound bounds start n laps t on is fits =
-    ap (λ l. if l == bounds.laps then Some whys.Lap else (if n == bounds.span then Some whys.Span else (if nat_lt (room_of t) 32 then Some whys.Room else None))) on.counted
+    ap (λ l. if l == bounds.laps then Some whys.Lap else (if n == bounds.span then Some whys.Span else (if nat_lt (room_of (face_of t).marks) step_room then Some whys.Room else None))) on.counted
     ∙ ap (λ (b : Bool). if laps_in bounds.pc n start == bounds.laps then Some whys.Lap else (if n == bounds.span then Some whys.Span else (if b then Some whys.Room else None)))
     (few_left bounds start n laps t on is fits)
 
@@ -115,7 +115,7 @@ met-bound bounds start n laps t on is fits =
 
 -- a tracer on its way stands for its steps
 pub stands : (bounds : Bounds) (start : State) (n laps : ℕ) (t : Tracing) → IsOnWay bounds start n laps t
-    → FitPlaces (length t.state.bytes) (Told t.statuses t.touched) → StandsFor n t
+    → FitPlaces (length t.state.bytes) (face_of t).marks → StandsFor n t
 stands bounds start n laps t on fits = record {
   goes = ap (plain n) on.began ∙ on.goes;
   statuses = subst (λ s. HasStatusesOf n s t) (sym on.began) on.statuses;
@@ -212,7 +212,7 @@ least-more bounds start n t goes least bound step k now lt at = elim (cases_lt k
 
 -- the next turn: a step was taken, and it was a lap or not
 pub goes_on : (bounds : Bounds) (start : State) (n laps : ℕ) (t later : Tracing) → IsOnWay bounds start n laps t
-    → IsState t.state → FitPlaces (length t.state.bytes) (Told t.statuses t.touched)
+    → IsState t.state → FitPlaces (length t.state.bytes) (face_of t).marks
     → bound_met bounds n start ≡ None → why_no_step (next t.state) ≡ None
     → face_of later ≡ face_after (face_of t) → later.shape ≡ t.shape → later.cap ≡ t.cap
     → (more : ℕ) → more ≡ laps + cond ((view_of later.state).pc == bounds.pc) 1 0 → IsOnWay bounds start (n + 1) more later
@@ -265,3 +265,43 @@ left-next (Some (suc m)) now steps n has loses =
 -- no more steps are taken
 pub left-most : (patience : Option ℕ) (steps n : ℕ) → HasLeft patience steps n → steps ≤ n
 left-most patience steps n has = omega (arith, has.sum)
+
+-- ---- questions
+
+-- before a trace asks, its number of questions is as it was
+pub asked-none : (asks : Option ℕ) → Asked asks asks 0
+asked-none None = tt
+asked-none (Some n) = omega arith
+
+-- it is one more after the next
+pub asked-next : (first before now : Option ℕ) (n : ℕ) → Asked first before n → CountsAsk before now → Asked first now (n + 1)
+asked-next first before None n asked one = tt
+asked-next first None (Some now) n asked one = absurd one
+asked-next None (Some before) (Some now) n asked one = absurd asked
+asked-next (Some first) (Some before) (Some now) n asked one = omega arith
+
+-- where a bound is met it was not asked after the last step
+pub asked-bound : (a b c : Bool) (why : Why) (first now : Option ℕ) (n : ℕ) → Asked first now n
+    → (if a then Some whys.Lap else (if b then Some whys.Span else (if c then Some whys.Room else None))) ≡ Some why → Asked first now (asks_of n why)
+asked-bound a b c why first now n asked e = subst (Asked first now) (sym (by_bound a b c why e)) asked
+  where
+    same : (one other : Why) → Some one ≡ Some other → one ≡ other
+    same one other e = cc
+
+    by_bound : (a b c : Bool) (why : Why) → (if a then Some whys.Lap else (if b then Some whys.Span else (if c then Some whys.Room else None))) ≡ Some why → asks_of n why ≡ n
+    by_bound true b c why e = ap (asks_of n) (sym (same whys.Lap why e))
+    by_bound false true c why e = ap (asks_of n) (sym (same whys.Span why e))
+    by_bound false false true why e = ap (asks_of n) (sym (same whys.Room why e))
+    by_bound false false false why e = absurd (cc)
+
+-- and where there is no next step it was
+pub asked-step : (s : Next) (why : Why) (first now : Option ℕ) (n : ℕ) → Asked first now (n + 1) → why_no_step s ≡ Some why → Asked first now (asks_of n why)
+asked-step s why first now n asked e = subst (Asked first now) (sym (by_step s e)) asked
+  where
+    same : (one other : Why) → Some one ≡ Some other → one ≡ other
+    same one other e = cc
+
+    by_step : (s : Next) → why_no_step s ≡ Some why → asks_of n why ≡ n + 1
+    by_step (At after) e = absurd (cc)
+    by_step Call e = ap (asks_of n) (sym (same whys.Call why e))
+    by_step (Bad fault) e = ap (asks_of n) (sym (same (whys.Fault fault) why e))

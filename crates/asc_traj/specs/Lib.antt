@@ -1,2 +1,6 @@
 pub mod Trace
 pub mod Inside
+pub mod Content
+pub mod Finder
+pub mod Serial
+pub mod Finders

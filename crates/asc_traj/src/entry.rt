@@ -1,4 +1,4 @@
-ghost use Rattle.std.specs.Prelude.{◌≡◌, ◌≤◌, ◌<◌, ◌^◌, ◌==◌, true, false, All, IfOk, Some, map, filter, slice_index};
+ghost use Rattle.std.specs.Prelude.{◌≡◌, ◌+◌, ◌≤◌, ◌<◌, ◌^◌, ◌==◌, ◌++◌, true, false, All, IfOk, Some, flat_map, length, map, filter, slice_index, slice_index_or, vec_capacity, vec_len};
 ghost use Rattle.std.specs.List.{list_all};
 ghost use Rattle.std.specs.Arc.{arc_value};
 ghost use Rattle.asc_model.specs.Shape.{length_of};
@@ -6,8 +6,9 @@ ghost use Rattle.asc_model.specs.Entry.{IsTrueEntry, Matches, put_entry, entry_o
 ghost use Rattle.asc_model.specs.Step.{At};
 ghost use Rattle.asc_model.specs.Plain.{plain};
 ghost use Rattle.asc_shape.specs.Face.{status_at};
+ghost use Rattle.asc_traj.specs.Content.{matches};
 ghost use Rattle.asc_traj.specs.Trace.{StandsFor, origin_of};
-ghost use Rattle.asc_traj.specs.Inside.{is_read_first, is_written};
+ghost use Rattle.asc_traj.specs.Inside.{IsRun, cells_of, is_read_first, is_written};
 
 use crate::tracing::known;
 use asc_depvec::Tracer;
@@ -54,16 +55,15 @@ impl Entry {
     {
         known(tracer);
         are_bytes(tracer.touched());
-        let mut touched = tracer.touched().to_vec(alloc)?;
-        touched.sort_unstable_by_key(|cell| cell.0);
-        let reads = first_read(alloc, tracer, &touched)?;
-        let writes = written(alloc, tracer, &touched)?;
+        let mut runs = runs_of(alloc, tracer.touched())?;
+        runs.sort_unstable_by_key(|run| run.place);
+        let lists = split(alloc, tracer, &runs)?;
         Ok(Arc::new(
             alloc,
             Entry {
                 shape: tracer.state().shape(),
-                reads,
-                writes,
+                reads: lists.0,
+                writes: lists.1,
                 steps,
             },
         )?)
@@ -112,6 +112,7 @@ impl Entry {
     pub fn matches(&self, state: &State) -> bool
         ensures yes { result ≡ true → Matches self.now state.now }
         ensures no { result ≡ false → Matches self.now state.now → ⊥ }
+        ensures test { result ≡ matches state.now self.now }
     {
         self.shape == state.shape() && has_bytes(state, &self.reads)
     }
@@ -139,64 +140,131 @@ fn has_bytes(state: &State, cells: &[(u32, u8)]) -> bool
     cells.iter().all(|&(place, byte)| state.get(place) == byte)
 }
 
-/// Those of the places that were read before they were written, each with its byte.
-fn first_read(
-    alloc: Global,
-    tracer: &Tracer,
-    touched: &[(u32, u8)],
-) -> Result<Vec<(u32, u8)>, AllocError>
-    ensures { IfOk result (λ cells. cells.items
-        ≡ filter (λ cell. is_read_first (status_at tracer.now.statuses cell.0)) touched.now) }
-{
-    touched
-        .iter()
-        .copied()
-        .filter(|cell| is_read_first(tracer.status(cell.0)))
-        .collect(alloc)
+/// Cells that were listed one after another, at places one after another.
+#[derive(Clone, Copy)]
+struct Run {
+    place: u32,
+    from: u32,
+    to: u32,
 }
 
-/// Those of the places that were written, each with the byte that it has now.
-fn written(
+/// The runs that cells are made of, in their order.
+#[inline(never)]
+fn runs_of(alloc: Global, cells: &[(u32, u8)]) -> Result<Vec<Run>, AllocError>
+    requires { length cells.now ≤ 65536 }
+    ensures runs { IfOk result (λ runs. All (IsRun cells.now) runs.items) }
+    ensures whole { IfOk result (λ runs. flat_map (cells_of cells.now) runs.items ≡ cells.now) }
+{
+    // Most are words.
+    let mut runs = Vec::with_capacity(alloc, cells.len() / 4)?;
+    let mut from = 0;
+    while from < cells.len() {
+        let place = cells[from].0;
+        let to = end_of(cells, from, place);
+        runs.push(Run {
+            place,
+            from: from as u32,
+            to: to as u32,
+        })?;
+        from = to;
+    }
+    Ok(runs)
+}
+
+/// Where the run ends that begins there, at this place.
+#[inline]
+fn end_of(cells: &[(u32, u8)], from: usize, place: u32) -> usize
+    requires most { length cells.now ≤ 65536 }
+    requires from { from < length cells.now }
+    requires place { (slice_index_or cells.now from (0, 0)).0 ≡ place }
+    ensures { IsRun cells.now (record { place = place; from = from; to = result }) }
+{
+    let mut to = from + 1;
+    let mut next = place as usize + 1;
+    while to < cells.len() && cells[to].0 as usize == next {
+        to += 1;
+        next += 1;
+    }
+    to
+}
+
+/// The cells of a run.
+#[inline]
+fn cells_of(cells: &[(u32, u8)], run: Run) -> &[(u32, u8)]
+    requires { IsRun cells.now run }
+    ensures { result.now ≡ cells_of cells.now run }
+{
+    &cells[run.from as usize..run.to as usize]
+}
+
+/// Those of the touched places that were read before they were written, each with its byte, and those that were
+/// written, each with the byte that it has now, run by run.
+#[inline(never)]
+fn split(
     alloc: Global,
     tracer: &Tracer,
-    touched: &[(u32, u8)],
-) -> Result<Vec<(u32, u8)>, AllocError>
-    requires { All (λ cell. cell.0 < length_of tracer.now.state.shape) touched.now }
-    ensures { IfOk result (λ cells. cells.items
+    runs: &[Run],
+) -> Result<(Vec<(u32, u8)>, Vec<(u32, u8)>), AllocError>
+    requires places { All (λ cell. cell.0 < length_of tracer.now.state.shape) tracer.now.touched }
+    requires runs { All (IsRun tracer.now.touched) runs.now }
+    requires most { length (flat_map (cells_of tracer.now.touched) runs.now) ≤ length tracer.now.touched }
+    ensures reads { IfOk result (λ lists. lists.0.items
+        ≡ filter (λ cell. is_read_first (status_at tracer.now.statuses cell.0))
+        (flat_map (cells_of tracer.now.touched) runs.now)) }
+    ensures writes { IfOk result (λ lists. lists.1.items
         ≡ map (λ cell. (cell.0, slice_index tracer.now.state.bytes cell.0))
-        (filter (λ cell. is_written (status_at tracer.now.statuses cell.0)) touched.now)) }
+        (filter (λ cell. is_written (status_at tracer.now.statuses cell.0))
+        (flat_map (cells_of tracer.now.touched) runs.now))) }
 {
-    let mut cells = Vec::new(alloc);
-    for &(place, _) in touched {
-        if is_written(tracer.status(place)) {
-            cells.push((place, tracer.state().get(place)))?;
+    let touched = tracer.touched();
+    let mut reads = Vec::with_capacity(alloc, touched.len())?;
+    let mut writes = Vec::with_capacity(alloc, touched.len())?;
+    for run in runs {
+        split_run(tracer, cells_of(touched, *run), &mut reads, &mut writes);
+    }
+    Ok((reads, writes))
+}
+
+/// Puts the cells of a run behind the lists, where there is room for them.
+#[inline]
+fn split_run(
+    tracer: &Tracer,
+    cells: &[(u32, u8)],
+    reads: &mut Vec<(u32, u8)>,
+    writes: &mut Vec<(u32, u8)>,
+)
+    requires places { All (λ cell. cell.0 < length_of tracer.now.state.shape) cells.now }
+    requires reads_room { vec_len reads.old + length cells.now ≤ vec_capacity reads.old }
+    requires writes_room { vec_len writes.old + length cells.now ≤ vec_capacity writes.old }
+    ensures reads { reads.new.items ≡ reads.old.items
+        ++ filter (λ cell. is_read_first (status_at tracer.now.statuses cell.0)) cells.now }
+    ensures writes { writes.new.items ≡ writes.old.items
+        ++ map (λ cell. (cell.0, slice_index tracer.now.state.bytes cell.0))
+        (filter (λ cell. is_written (status_at tracer.now.statuses cell.0)) cells.now) }
+    ensures reads_len { vec_len reads.new ≤ vec_len reads.old + length cells.now }
+    ensures writes_len { vec_len writes.new ≤ vec_len writes.old + length cells.now }
+    ensures reads_room { vec_capacity reads.new ≡ vec_capacity reads.old }
+    ensures writes_room { vec_capacity writes.new ≡ vec_capacity writes.old }
+{
+    for cell in cells {
+        match tracer.status(cell.0) {
+            Status::Untouched => {}
+            Status::Read => reads.push_reserved(*cell),
+            Status::Written => writes.push_reserved((cell.0, tracer.state().get(cell.0))),
+            Status::ReadWritten => {
+                reads.push_reserved(*cell);
+                writes.push_reserved((cell.0, tracer.state().get(cell.0)));
+            }
         }
     }
-    Ok(cells)
-}
-
-fn is_read_first(status: Status) -> bool
-    ensures { result ≡ is_read_first status }
-{
-    matches!(status, Status::Read | Status::ReadWritten)
-}
-
-fn is_written(status: Status) -> bool
-    ensures { result ≡ is_written status }
-{
-    matches!(status, Status::Written | Status::ReadWritten)
 }
 
 /// It does nothing. A caller's proof learns from it that the bytes of a list are below 256.
+#[inline]
 fn are_bytes(cells: &[(u32, u8)])
     ensures { All (λ cell. cell.1 < 2 ^ 8) cells.now }
 {
     for &(_, byte) in cells {
-        is_byte(byte);
+        let _ = byte as u32;
     }
 }
-
-#[inline]
-fn is_byte(_byte: u8)
-    ensures { _byte < 2 ^ 8 }
-{}

@@ -2,12 +2,18 @@
 #![tactic(auto)]
 
 mod entry;
+mod finder;
 mod halt;
+mod longest;
+mod noted;
 #[cfg(test)]
 mod tests;
 mod tracing;
 
 pub use asc_model::Why;
 pub use entry::Entry;
+pub use finder::{Finder, ListFinder, Nothing};
 pub use halt::{Halt, Never};
+pub use longest::{is_longer, jump_by, jump_longest, longest_match};
+pub use noted::Noted;
 pub use tracing::{Stop, Traced, trace};

@@ -1,7 +1,7 @@
 ghost use Rattle.std.specs.Prelude.{◌≡◌};
 ghost use Rattle.asc_traj.specs.Trace.{StandsFor};
 
-use crate::{Entry, Halt, Never, Stop, Traced, Why, trace};
+use crate::{Entry, Finder, Halt, ListFinder, Never, Noted, Nothing, Stop, Traced, Why, trace};
 use asc_depvec::Tracer;
 use asc_shape::{Shape, State, Status};
 use asc_step::{Fault, FaultKind, Stepped, try_step};
@@ -12,11 +12,12 @@ use std::sync::Arc;
 /// Bytes from a place on.
 type Run = (u32, &'static [u8]);
 
-/// It says no so often, and then yes.
+/// It says no so often, and then yes. It counts its yes answers, and how often it was asked.
 #[derive(Drop)]
 struct Patient {
     noes: u64,
     stops: u64,
+    asks: Option<u64>,
 }
 
 impl Halt for Patient {
@@ -24,9 +25,15 @@ impl Halt for Patient {
 
     ghost count = { λ halt. halt.stops };
 
+    ghost asks = { λ halt. halt.asks };
+
     ghost patience = { λ halt. Some halt.noes };
 
     fn asked(&mut self) -> bool {
+        self.asks = match self.asks {
+            Some(asks) => asks.checked_add(1),
+            None => None,
+        };
         if self.noes == 0 {
             self.stops = self.stops.saturating_add(1);
             true
@@ -34,6 +41,15 @@ impl Halt for Patient {
             self.noes -= 1;
             false
         }
+    }
+}
+
+/// One that says no so often, and was not asked yet.
+fn halt_after(noes: u64) -> Patient {
+    Patient {
+        noes,
+        stops: 0,
+        asks: Some(0),
     }
 }
 
@@ -419,11 +435,76 @@ fn laps(rt: HostRuntime) {
     assert!(rt; list.iter().all(|entry| !entry.matches(&state)));
 }
 
+// How a trace of the counting loop ends, how often its halt said yes, and how often it was asked: before each attempt
+// at a step, and not where a bound is met.
 #[test]
-fn stopped(rt: HostRuntime) {
+fn asked(rt: HostRuntime) {
+    let alloc = rt.alloc();
+    let loops = counting(&rt, alloc, 0x10008, 4);
+    let ends = counting(&rt, alloc, 0x10010, 4);
+    let calls = counting(&rt, alloc, 0x10018, 4);
+    for (state, cap, stop, noes, ended, stops, asks) in [
+        (&loops, 96, stop_at(1, 9), 9, end(2, Why::Lap), 0, 2),
+        (&loops, 96, stop_at(9, 3), 9, end(3, Why::Span), 0, 3),
+        (&loops, 32, stop_at(9, 9), 9, end(1, Why::Room), 0, 1),
+        (&loops, 96, stop_at(9, 9), 0, end(0, Why::Stopped), 1, 1),
+        (&loops, 96, stop_at(9, 9), 2, end(2, Why::Stopped), 1, 3),
+        (&loops, 96, stop_at(1, 9), 2, end(2, Why::Lap), 0, 2),
+        (&ends, 96, stop_at(9, 9), 9, end(2, Why::Call), 0, 3),
+        (&ends, 96, stop_at(9, 9), 2, end(2, Why::Stopped), 1, 3),
+        (&calls, 96, stop_at(9, 9), 9, end(0, Why::Call), 0, 1),
+    ] {
+        let mut halt = halt_after(noes);
+        let (traced, _) = traced(&rt, alloc, state, cap, stop, &mut halt);
+        assert_eq!(rt; (traced, halt.stops, halt.asks), (ended, stops, Some(asks)));
+    }
+}
+
+/// Asks a finder for a jump.
+fn ask<F: Finder, R: Abort>(rt: &R, finder: &mut F, state: &mut State, left: u64) -> Option<u64> {
+    assert!(rt; finder.asked() < 1 << 62 && finder.given() < 1 << 62 && left <= 1 << 40);
+    finder.jump(state, left)
+}
+
+#[test]
+fn finders(rt: HostRuntime) {
+    let alloc = rt.alloc();
+    let mut list: Vec<Arc<Entry>> = Vec::new(alloc);
+    for (laps, steps) in [(1, 2), (2, 4)] {
+        let state = counting(&rt, alloc, 0x10008, 4);
+        let entry = entry_of(&rt, alloc, &state, stop_at(laps, 100), end(steps, Why::Lap));
+        list.push(entry).expect(&rt, "memory");
+    }
+    let mut noted = Noted::new(alloc, ListFinder::new(list), 3).expect(&rt, "memory");
+    for (left, given, x5) in [(4, Some(4), 2), (3, Some(2), 1), (1, None, 0)] {
+        let mut state = counting(&rt, alloc, 0x10008, 4);
+        assert_eq!(rt; ask(&rt, &mut noted, &mut state, left), given);
+        assert_eq!(rt; (state.pc(), state.reg(5)), (0x10008, x5));
+    }
+    assert!(rt; noted.are_all());
+    assert_eq!(rt; (noted.asked(), noted.given(), noted.hits()), (3, 6, 2));
+    // One reply more than are told.
+    let mut state = counting(&rt, alloc, 0x10008, 5);
+    assert_eq!(rt; ask(&rt, &mut noted, &mut state, 4), None);
+    assert_eq!(rt; noted.replies(), [Some(4), Some(2), None].as_slice());
+    assert!(rt; !noted.are_all());
+    let mut nothing = Nothing::new();
+    assert_eq!(rt; ask(&rt, &mut nothing, &mut state, 4), None);
+    assert_eq!(rt;
+        (nothing.asked(), nothing.given(), nothing.hits()),
+        (1, 0, 0)
+    );
+}
+
+/// It does nothing. Its call shows that threads may share values of a type, and hand them on.
+fn is_shared<T: Send + Sync>(_value: &T) {}
+
+#[test]
+fn shared(rt: HostRuntime) {
     let alloc = rt.alloc();
     let state = counting(&rt, alloc, 0x10008, 4);
-    let mut halt = Patient { noes: 2, stops: 0 };
-    let (ended, _) = traced(&rt, alloc, &state, 96, stop_at(9, 9), &mut halt);
-    assert_eq!(rt; (ended, halt.stops), (end(2, Why::Stopped), 1));
+    let entry = entry_of(&rt, alloc, &state, stop_at(1, 100), end(2, Why::Lap));
+    is_shared(&entry);
+    let held: &Entry = &entry;
+    is_shared(held);
 }

@@ -1,16 +1,16 @@
 ghost use Rattle.std.specs.Prelude.{◌≡◌, ℕ, ◌≤◌, ◌-◌, ◌<◌, true, false, [], length, Some, None, IsSome, IsNone, nat_lt, ◌==◌, if◌then◌else◌};
 ghost use Rattle.asc_model.specs.declared.why.Why.TheVariants as whys;
 ghost use Rattle.asc_model.specs.Step.{next};
-ghost use Rattle.asc_model.specs.Reach.{IsReach, why_no_step};
+ghost use Rattle.asc_model.specs.Reach.{IsReach, step_room, why_no_step};
 ghost use Rattle.asc_step.specs.Step.{face_after};
-ghost use Rattle.asc_depvec.specs.Tracer.{IsTracing, face_of, room_of};
+ghost use Rattle.asc_depvec.specs.Tracer.{IsTracing, face_of};
 ghost use Rattle.asc_model.specs.State.{IsState};
-ghost use Rattle.asc_shape.specs.Face.{Told, FitPlaces};
-ghost use Rattle.asc_traj.specs.Trace.{CountsAnswer, MayStop, StandsFor, bounds_of, is_stopped, origin_of};
+ghost use Rattle.asc_shape.specs.Face.{FitPlaces, room_of};
+ghost use Rattle.asc_traj.specs.Trace.{Asked, CountsAnswer, MayStop, StandsFor, asks_of, bounds_of, is_stopped, origin_of};
 ghost use Rattle.asc_traj.specs.Inside.{why_of};
 
 use crate::{Halt, Why};
-use asc_depvec::Tracer;
+use asc_depvec::{LEAST_CAP, Tracer};
 use asc_shape::Bytes;
 use asc_step::{Stepped, try_step};
 
@@ -37,8 +37,8 @@ pub struct Traced {
 /// Takes steps of a tracer's state until one of these ends it: it made as many laps as `stop` says, or as many steps;
 /// fewer than 32 further places may be touched; `halt` says so; or the next step would be a guest call or a fault.
 ///
-/// They are tested in this order, before each step. An attempt that ends in a call or a fault leaves no trace. It takes
-/// no memory.
+/// They are tested in this order, before each step. An attempt that ends in a call or a fault leaves no trace. No
+/// allocator is handed in.
 pub fn trace<H: Halt>(tracer: &mut Tracer, stop: &Stop, halt: &mut H) -> Traced
     requires untouched { tracer.old.touched ≡ [] }
     requires own_shape { tracer.old.state.shape ≡ tracer.old.shape }
@@ -56,8 +56,9 @@ pub fn trace<H: Halt>(tracer: &mut Tracer, stop: &Stop, halt: &mut H) -> Traced
     ensures stopped { is_stopped result.why ≡ true
         → MayStop (bounds_of stop.now tracer.old.cap) tracer.old.state result.steps }
 
-    // It is stopped only where the halt said so, and then the halt's count rose.
+    // It is stopped only where the halt said so, and there at once. It asks once before each attempt at a step.
     ensures halt { CountsAnswer (H.count halt.old) (H.count halt.new) (is_stopped result.why) }
+    ensures asks { Asked (H.asks halt.old) (H.asks halt.new) (asks_of result.steps result.why) }
 
     // Where the halt says no at most so often, no more steps are taken.
     ensures patience { (n : ℕ) → H.patience halt.old ≡ Some n → result.steps ≤ n }
@@ -95,15 +96,16 @@ pub fn trace<H: Halt>(tracer: &mut Tracer, stop: &Stop, halt: &mut H) -> Traced
 /// The first bound that is met after so many steps and laps.
 #[inline]
 fn bound_met(tracer: &Tracer, stop: &Stop, steps: u64, laps: u64) -> Option<Why>
+    requires { tracer.now.state.shape ≡ tracer.now.shape }
     ensures { result ≡ (if laps == stop.now.laps then Some whys.Lap
         else (if steps == stop.now.span then Some whys.Span
-        else (if nat_lt (room_of tracer.now) 32 then Some whys.Room else None))) }
+        else (if nat_lt (room_of (face_of tracer.now).marks) step_room then Some whys.Room else None))) }
 {
     if laps == stop.laps {
         Some(Why::Lap)
     } else if steps == stop.span {
         Some(Why::Span)
-    } else if tracer.room() < 32 {
+    } else if tracer.left() < LEAST_CAP {
         Some(Why::Room)
     } else {
         None
@@ -113,7 +115,7 @@ fn bound_met(tracer: &Tracer, stop: &Stop, steps: u64, laps: u64) -> Option<Why>
 /// Tries one step. Where it calls or faults it answers that, and the reads of the attempt are taken back.
 #[inline]
 fn attempt(tracer: &mut Tracer) -> Option<Why>
-    requires room { 32 ≤ room_of tracer.old }
+    requires room { step_room ≤ room_of (face_of tracer.old).marks }
     ensures ends { result ≡ why_no_step (next tracer.old.state) }
     ensures goes { IsNone result → face_of tracer.new ≡ face_after (face_of tracer.old) }
     ensures back { IsSome result → tracer.new ≡ tracer.old }
@@ -147,7 +149,7 @@ fn why_of(stepped: Stepped) -> Option<Why>
 pub(crate) fn known(tracer: &Tracer)
     ensures tracer { IsTracing tracer.now }
     ensures state { IsState tracer.now.state }
-    ensures marks { FitPlaces (length tracer.now.state.bytes) (Told tracer.now.statuses tracer.now.touched) }
+    ensures marks { FitPlaces (length tracer.now.state.bytes) (face_of tracer.now).marks }
 {
     let _ = tracer.mark();
     let _ = Bytes::shape(tracer);

@@ -1,6 +1,9 @@
-use Rattle.std.proofs.Common.{[]}
 use Rattle.asc_depvec.proofs.Words.{none_of_word}
 use Rattle.asc_depvec.proofs.tracer.are_touched.Goals as goal
+use Rattle.std.proofs.Common.{ℕ, bit_and, ap, sym, ◌∙◌}
+use Rattle.std.proofs.lemmas.Bool.{eqb-true}
 
 pub returns : goal.returns
-returns c = none_of_word c.args.statuses.now [] c.args.place _ _ _ _ c.is_touched.ensures c.is_touched-2.ensures c.is_touched-3.ensures c.is_touched-4.ensures
+returns c h =
+    none_of_word c.args.marks.now c.args.place c.are_bytes.ensures c.requires
+    (sym (ap (λ (w : ℕ). bit_and w 16843009) c.word_of.ensures) ∙ eqb-true _ 0 h)

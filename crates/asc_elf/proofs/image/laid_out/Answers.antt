@@ -15,8 +15,8 @@ returns-in_default c =
     let past = laid_out-Err file _ _ _ c.in_default.field-0 c.lowest-lowest.ensures c.requires.size (sym c.in_default.is ∙ c.of.ensures) in
     sym (image_of-layout _ _ _ _ c.requires.whole (layout-TooLarge_memory file (shape_for file c.args.size c.args.version) past))
 
-pub returns-then-end-highest : goal.returns-then-end-highest
-returns-then-end-highest c =
+pub returns-then-stack-highest : goal.returns-then-stack-highest
+returns-then-stack-highest c =
     let file = c.args.file.now in
     let place = laid_out-Ok file _ _ _ c.in-Ok.shape c.lowest-lowest.ensures (sym c.in-Ok.is ∙ c.of.ensures) in
     let base = ap (λ (s : Shape). s.base) place.0 in

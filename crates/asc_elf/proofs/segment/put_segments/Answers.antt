@@ -1,31 +1,45 @@
-use Rattle.std.proofs.Common.{◌+◌, List, drop, sym, ap, subst, ◌∙◌}
-use Rattle.std.specs.List.{filter, flat_map}
+use Rattle.std.proofs.Common.{List, map-id, rules, tests, sym, ap, subst, ◌∙◌}
+use Rattle.std.specs.List.{flat_map}
+use Rattle.std.proofs.lemmas.Iterator.Consumers.{YieldsList-at, YieldsList-turn, YieldsList-end}
+use Rattle.std.proofs.lemmas.List.Elements.{All-get_or}
 use Rattle.asc_model.specs.Shape.{Shape}
 use Rattle.asc_model.specs.State.{State}
 use Rattle.asc_shape.specs.State.{state_after_all}
-use Rattle.asc_elf.specs.File.{Header, headers, is_segment}
+use Rattle.asc_elf.specs.File.{Header, segments}
 use Rattle.asc_elf.specs.Image.{segment_changes}
 use Rattle.asc_elf.specs.Checked.{HasPlace}
-use Rattle.asc_elf.proofs.Accepted.{HasPlace-rest}
-use Rattle.asc_elf.proofs.Starts.{shape-state_after_all, placed_segment, placed_other}
+use Rattle.asc_elf.proofs.Headers.{YieldsList-segments}
+use Rattle.asc_elf.proofs.Starts.{shape-state_after_all, placed_more}
 use Rattle.asc_elf.proofs.segment.put_segments.Goals as goal
-use Rattle.asc_elf.proofs.segment.put_segments.Goals.{then-is_segment, else-is_segment}
 
-pub loop-index-preserved : goal.loop-index-preserved
-loop-index-preserved c =
+-- the segment of this turn has a place
+pub put-requires : goal.put-requires
+put-requires c =
     let file = c.args.file.now in
-    let s = c.loop-index.s in
-    let h = c.nth-segment.result in
-    let rest = drop (c.loop-index.index + 1) (headers file) in
-    let place = HasPlace-rest file s.shape h rest (subst (HasPlace file s.shape) c.nth-segment.ensures c.loop-index.invariant.place) in
-    let before = sym (ap (λ (list : List Header). state_after_all s (flat_map (segment_changes file) (filter is_segment list))) c.nth-segment.ensures) ∙ c.loop-index.invariant.rest in
-    elim c.if-is_segment.branch [
-      | then-is_segment w ↦ record {
-        place = subst (λ (t : Shape). HasPlace file t rest) (sym (ap (λ (t : State). t.shape) (w.s-is ∙ w.put.ensures) ∙ shape-state_after_all s (segment_changes file h))) place;
-        rest = ap (λ (t : State). state_after_all t (flat_map (segment_changes file) (filter is_segment rest))) (w.s-is ∙ w.put.ensures) ∙ placed_segment file s h rest (sym c.is_segment.ensures ∙ w.if-is_segment.true) ∙ before;
-      }
-      | else-is_segment w ↦ record {
-        place = subst (λ (t : Shape). HasPlace file t rest) (sym (ap (λ (t : State). t.shape) w.s-is)) place;
-        rest = ap (λ (t : State). state_after_all t (flat_map (segment_changes file) (filter is_segment rest))) w.s-is ∙ placed_other file s h rest (sym c.is_segment.ensures ∙ w.if-is_segment.false) ∙ before;
-      }
-    ]
+    let turn = YieldsList-turn
+    (YieldsList-at c.into_iter-segment-iterator.ensures.into_iter_gives
+    (YieldsList-segments _ file (c.filter-segment-items.ensures.source ∙ c.headers.ensures) c.filter-segment-items.ensures.closure (λ x r q k. search (rules, tests))))
+    c.loop-segment.yielded _ c.loop-segment.yielded_by _ _ c.in-Some.segment c.in-Some.is c.next.ensures.steps in
+    let place = subst (HasPlace file c.args.s.now.shape) (sym turn.1) (All-get_or (HasPlace file c.args.s.now.shape) (segments file) _ c.in-Some.segment turn.0 c.requires.place) in
+    let same = ap (λ (t : State). t.shape) c.loop-segment.invariant.put ∙ shape-state_after_all c.args.s.now (flat_map (segment_changes file) c.loop-segment.yielded) in
+    subst (λ (t : Shape). HasPlace file t c.in-Some.segment) (sym same) place
+
+pub loop-segment-preserved : goal.loop-segment-preserved
+loop-segment-preserved c = record {
+  can = search rules;
+  finite = search rules;
+  put = c.put.ensures
+      ∙ ap (λ (t : State). state_after_all t (segment_changes c.args.file.now c.in-Some.segment)) c.loop-segment.invariant.put
+      ∙ placed_more c.args.file.now c.args.s.now c.loop-segment.yielded c.in-Some.segment;
+}
+
+-- all segments have been put
+pub returns : goal.returns
+returns c =
+    let file = c.args.file.now in
+    let all = YieldsList-end
+    (YieldsList-at c.into_iter-segment-iterator.ensures.into_iter_gives
+    (YieldsList-segments _ file (c.filter-segment-items.ensures.source ∙ c.headers.ensures) c.filter-segment-items.ensures.closure (λ x r q k. search (rules, tests))))
+    c.loop-segment.yielded _ c.loop-segment.yielded_by _ _ c.in-None.is c.next.ensures.steps in
+    c.loop-segment.invariant.put
+    ∙ ap (λ (list : List Header). state_after_all c.args.s.now (flat_map (segment_changes file) list)) (sym (map-id c.loop-segment.yielded) ∙ all.0)

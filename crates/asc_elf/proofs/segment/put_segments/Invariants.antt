@@ -1,13 +1,12 @@
-use Rattle.std.proofs.Common.{◌≡◌, drop}
-use Rattle.std.specs.List.{filter, flat_map}
+use Rattle.std.proofs.Common.{◌≡◌}
+use Rattle.std.specs.List.{flat_map}
 use Rattle.asc_shape.specs.State.{state_after_all}
-use Rattle.asc_elf.specs.File.{headers, segments, is_segment}
 use Rattle.asc_elf.specs.Image.{segment_changes}
-use Rattle.asc_elf.specs.Checked.{HasPlace}
 use Rattle.asc_elf.proofs.segment.put_segments.Given as goal
 
-abbrev pub invariant-loop-index : goal.invariant-loop-index
-invariant-loop-index l = record {
-  place : HasPlace l.file l.s.shape (drop l.index (headers l.file));
-  rest : state_after_all l.s (flat_map (segment_changes l.file) (filter is_segment (drop l.index (headers l.file)))) ≡ state_after_all l.initial.s (flat_map (segment_changes l.file) (segments l.file));
+abbrev pub invariant-loop-segment : goal.invariant-loop-segment
+invariant-loop-segment l = record {
+  can : (goal.iterator-loop-segment).can_next l.segment-iterator;
+  finite : (goal.iterator-loop-segment).is_finite l.segment-iterator;
+  put : l.s ≡ state_after_all l.initial.s (flat_map (segment_changes l.file) l.yielded);
 }

@@ -1,10 +1,18 @@
+use Rattle.std.proofs.Common.{arith}
 use Rattle.asc_step.proofs.Touches.{execute_face}
+use Rattle.asc_step.proofs.Rooms.{room_after_register}
 use Rattle.asc_step.proofs.Effects.{at_after_reads}
 use Rattle.asc_step.proofs.execute.execute.Goals as goal
 
 pub finish-requires-clause-at : goal.finish-requires-clause-at
 finish-requires-clause-at g c =
     at_after_reads _ _ _ _ c.register-b.ensures.face (at_after_reads _ _ _ _ c.register-a.ensures.face c.requires.at)
+
+pub register-b-requires-clause-room : goal.register-b-requires-clause-room
+register-b-requires-clause-room g c = omega (arith, room_after_register _ _ _ c.register-a.ensures.face)
+
+pub finish-requires-clause-room : goal.finish-requires-clause-room
+finish-requires-clause-room g c = omega (arith, room_after_register _ _ _ c.register-a.ensures.face, room_after_register _ _ _ c.register-b.ensures.face)
 
 pub returns-clause-face : goal.returns-clause-face
 returns-clause-face g c =
@@ -13,4 +21,4 @@ returns-clause-face g c =
     execute_face _ _ _ _ c.args.instruction _ p.op _ _ _ p.rd p.rs1 p.rs2 p.immediate
     (record { op = e.op; rd = e.rd; rs1 = e.rs1; rs2 = e.rs2; immediate = e.immediate })
     c.requires.at.pc c.register-a.ensures.value c.register-b.ensures.value c.register-a.ensures.face c.register-b.ensures.face
-    c.effect_of-effect.ensures c.finish.ensures.finish.face
+    c.effect_of-effect.ensures c.finish.ensures.face

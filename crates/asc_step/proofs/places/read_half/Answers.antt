@@ -1,13 +1,14 @@
 use Rattle.std.proofs.Common.{◌+◌, arith, ◌∙◌}
 use Rattle.asc_shape.proofs.Faces.{length-read, slice_index-read}
-use Rattle.asc_step.proofs.Touches.{state_after_reads, room_byte, number_at-two, reads_two}
+use Rattle.asc_step.proofs.Touches.{state_after_reads, number_at-two, reads_two}
+use Rattle.asc_step.proofs.Rooms.{room_after_read}
 use Rattle.asc_step.proofs.places.read_half.Goals as goal
 
 pub get-requires-2-clause-place : goal.get-requires-2-clause-place
 get-requires-2-clause-place g c = omega (arith, length-read _ _ _ c.get.ensures.face)
 
 pub get-requires-2-clause-room : goal.get-requires-2-clause-room
-get-requires-2-clause-room g c = omega (arith, room_byte _ _ _ _ c.get.ensures.room)
+get-requires-2-clause-room g c = omega (arith, room_after_read _ _ _ c.get.ensures.face)
 
 pub returns-clause-value : goal.returns-clause-value
 returns-clause-value g c =
@@ -20,6 +21,3 @@ returns-clause-state g c = state_after_reads _ _ _ (reads_two _ _ _ _ c.get.ensu
 
 pub returns-clause-face : goal.returns-clause-face
 returns-clause-face g c = reads_two _ _ _ _ c.get.ensures.face c.get-2.ensures.face
-
-pub returns-clause-room : goal.returns-clause-room
-returns-clause-room g c = omega (arith, room_byte _ _ _ _ c.get.ensures.room, room_byte _ _ _ _ c.get-2.ensures.room)

@@ -1,5 +1,4 @@
-use Rattle.std.proofs.Common.{arith}
-use Rattle.asc_step.proofs.Touches.{state_after_reads, room_byte, reads_one}
+use Rattle.asc_step.proofs.Touches.{state_after_reads, reads_one}
 use Rattle.asc_step.proofs.places.read_number.Goals as goal
 
 pub returns-in-Byte-clause-state : goal.returns-in-Byte-clause-state
@@ -7,6 +6,3 @@ returns-in-Byte-clause-state g c = state_after_reads _ _ _ (reads_one _ _ _ c.ge
 
 pub returns-in-Byte-clause-face : goal.returns-in-Byte-clause-face
 returns-in-Byte-clause-face g c = rw c.in-Byte.is (reads_one _ _ _ c.get.ensures.face)
-
-pub returns-in-Byte-clause-room : goal.returns-in-Byte-clause-room
-returns-in-Byte-clause-room g c = omega (arith, room_byte _ _ _ _ c.get.ensures.room)

@@ -1,7 +1,7 @@
 -- What a file that is not too long was run as.
 use Rattle.std.proofs.Common.{◌≡◌, ℕ, Some, None, IsNone, Ok, Err, refl, sym, ap, subst, ◌∙◌}
 use Rattle.asc_run.specs.declared.walk.Ended.{Ended}
-use Rattle.asc_run.specs.Plain.{exec, device_of}
+use Rattle.asc_run.specs.Execution.{exec, device_of}
 use Rattle.asc_run.specs.Walk.{Walk, new_walk, Follows, StopsAt, world_of}
 use Rattle.asc_words.specs.declared.answer.Answer.{Answer}
 use Rattle.asc_words.specs.Line.{Run as Line}
@@ -31,9 +31,9 @@ returns-clause-means g c = λ _ h.
     let loads = subst (λ (l : Line). load_of l c.args.file.now ≡ Ok c.in-Ok.image) c.line.view_is (sym c.read.ensures ∙ c.in-Ok.is) in
     let limit : walk.limit ≡ line.limit = ap (λ (w : Walk). w.limit) is ∙ ap (λ (l : Line). l.limit) c.line.view_is in
     let going : device_of ended ≡ None = sym (device_of_answer-answer_at ended count) ∙ ap (λ (a : Answer). device_of_answer a) (answered ended count _ _ c.answer_at.ensures c.counts.ensures.count) ∙ h in
-    let follows = subst (λ (n : ℕ). Follows n old new count ended) limit (c.go-ended.ensures.plain fresh going) in
+    let follows = subst (λ (n : ℕ). Follows n old new count ended) limit (c.go-ended.ensures.follows fresh going) in
     let means = means_walk line c.args.file.now c.in-Ok.image old new count ended c.requires.file loads
-    (λ left. ap (λ (w : Walk). exec line.limit w.kept.low w.kept.high w.state left) is) follows in
+    (λ left. ap (λ (w : Walk). exec line.limit w.calls.low w.calls.high w.state left) is) follows in
     let answer = answered ended count _ _ c.answer_at.ensures c.counts.ensures.count in
     subst (λ (a : Answer). Means old.outside new.outside a line c.args.file.now) answer means
 

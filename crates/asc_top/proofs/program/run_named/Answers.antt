@@ -1,6 +1,6 @@
 -- What holds of the answers of a file that was read, and of one that is too long.
 use Rattle.std.proofs.Common.{◌≡◌, ℕ, List, Ok, ap, subst, sym, arith, ◌∙◌}
-use Rattle.asc_shape.specs.Outside.{MayHold, MayHoldLonger}
+use Rattle.asc_shape.specs.Outside.{AsksFor, MayHold, MayHoldLonger}
 use Rattle.asc_words.specs.Line.{Run as Line}
 use Rattle.asc_top.specs.Program.{file_limit}
 use Rattle.asc_top.proofs.Headline.{answer_of_run, answer_of_long}
@@ -11,7 +11,8 @@ returns-in-Ok-Longer g c = λ words asked.
     let name : c.as_str.result.now ≡ c.args.line.now.image = c.as_str.ensures.value ∙ ap (λ (l : Line). l.image) c.line.view_is in
     let longer = subst (λ (n : List ℕ). MayHoldLonger (g.F.Store.files c.args.store.now) n file_limit) name
     (c.in-Ok-Longer.ensures.longer (ap (λ x. Ok x) c.in-Ok-Longer.field-0-is)) in
-    answer_of_long words _ _ _ c.args.line.now asked longer c.in-Ok-Longer.ensures.files c.in-Ok-Longer.ensures.cause.stays
+    let names = subst (λ (n : List ℕ). AsksFor n (g.F.Store.asked c.args.store.now) (g.F.Store.asked c.read.new.self)) name c.in-Ok-Longer.ensures.asked in
+    answer_of_long words _ _ _ _ c.args.line.now asked longer c.in-Ok-Longer.ensures.files names c.in-Ok-Longer.ensures.cause.stays
 
 pub returns : goal.returns
 returns g c = λ words asked.
@@ -29,6 +30,7 @@ returns g c = λ words asked.
       stopped = c.run_file.ensures.stopped;
       refused = c.run_file.ensures.refused;
       files = c.in-Ok-Whole.ensures.files;
+      names = subst (λ (n : List ℕ). AsksFor n (g.F.Store.asked c.args.store.now) (g.F.Store.asked c.read.new.self)) name c.in-Ok-Whole.ensures.asked;
       store_faults = c.in-Ok-Whole.ensures.cause.stays;
       read_fault = c.run_file.ensures.read_fault;
       write_fault = c.run_file.ensures.write_fault;

@@ -1,4 +1,4 @@
-use Rattle.std.proofs.Common.{◌^◌, ◌<◌, ℕ, [], ◌∷◌, take, get_or, sym, subst}
+use Rattle.std.proofs.Common.{◌^◌, ◌<◌, ℕ, [], ◌∷◌, take, get_or, sym, subst, arith}
 use Rattle.std.specs.Prelude.{All}
 use Rattle.std.proofs.lemmas.List.{take_more, take_all}
 use Rattle.std.proofs.lemmas.List.Elements.{All-nil, All-cons, All-append}
@@ -10,7 +10,7 @@ loop-byte-preserved c =
     let i = c.loop-byte.byte-index in
     let fits = λ (cell : ℕ × ℕ). cell.1 < 2 ^ 8 in
     subst (All fits) (sym (take_more cells i (0, 0) c.loop-byte-test.true))
-    (All-append fits (take i cells) (get_or cells i (0, 0) ∷ []) c.loop-byte.invariant (All-cons fits (get_or cells i (0, 0)) [] c.is_byte.ensures (All-nil fits)))
+    (All-append fits (take i cells) (get_or cells i (0, 0) ∷ []) c.loop-byte.invariant (All-cons fits (get_or cells i (0, 0)) [] (omega arith) (All-nil fits)))
 
 pub returns : goal.returns
 returns c = subst (All (λ cell. cell.1 < 2 ^ 8)) (take_all c.loop-byte.byte-index c.args.cells.now c.loop-byte-test.false) c.loop-byte.invariant

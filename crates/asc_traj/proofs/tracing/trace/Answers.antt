@@ -1,16 +1,21 @@
 -- The trace is on its way at each turn, and ends as its reach says.
 use Rattle.std.proofs.Common.{◌≡◌, ◌+◌, refl, sym, ap, subst, ◌∙◌}
 use Rattle.asc_model.specs.Machine.{view_of}
+use Rattle.asc_model.specs.State.{State}
 use Rattle.asc_traj.specs.Trace.{LosesPatience, bounds_of}
-use Rattle.asc_traj.proofs.Traces.{begins, met-bound, ends-bound, ends-step, ends-stopped, goes_on, lap-yes, lap-no, left-first, left-next, left-most}
+use Rattle.asc_traj.proofs.Traces.{begins, met-bound, ends-bound, ends-step, ends-stopped, goes_on, lap-yes, lap-no, left-first, left-next, left-most, asked-none, asked-next, asked-bound, asked-step}
 use Rattle.asc_traj.proofs.tracing.trace.Goals as goal
 
 pub loop-why-init : goal.loop-why-init
 loop-why-init g c = record {
   way = begins (bounds_of c.args.stop.now c.args.tracer.now.cap) c.args.tracer.now c.requires.untouched c.requires.own_shape refl c.known.ensures.state c.known.ensures.marks;
   count = refl;
+  asks = asked-none (g.H.Halt.asks c.args.halt.now);
   patience = left-first (g.H.Halt.patience c.args.halt.now);
 }
+
+pub bound_met-requires : goal.bound_met-requires
+bound_met-requires g c = ap (λ (s : State). s.shape) c.loop-why.invariant.way.began ∙ sym c.loop-why.invariant.way.own
 
 pub returns-in-Some-clause-reach : goal.returns-in-Some-clause-reach
 returns-in-Some-clause-reach g c = λ _.
@@ -52,6 +57,7 @@ loop-why-preserved-then-pc-stop g c =
           (sym c.attempt.ensures.ends ∙ c.in_default-attempt.is) (c.in_default-attempt.ensures.goes refl) c.attempt.ensures.shape c.attempt.ensures.cap
           (c.loop-why.laps + 1) (lap-yes _ c.args.stop.now.pc c.loop-why.laps pc);
       count = c.asked.ensures.count.stays c.if-asked.false ∙ c.loop-why.invariant.count;
+      asks = asked-next _ _ _ c.loop-why.steps c.loop-why.invariant.asks c.asked.ensures.asks;
       patience = λ n told.
           left-next (g.H.Halt.patience c.loop-why.halt) (g.H.Halt.patience c.asked.new.self) c.loop-why.steps n (c.loop-why.invariant.patience n told)
           (subst (LosesPatience (g.H.Halt.patience c.loop-why.halt) (g.H.Halt.patience c.asked.new.self)) c.if-asked.false c.asked.ensures.patience);
@@ -72,6 +78,7 @@ loop-why-preserved g c =
           (sym c.attempt.ensures.ends ∙ c.in_default-attempt.is) (c.in_default-attempt.ensures.goes refl) c.attempt.ensures.shape c.attempt.ensures.cap
           c.loop-why.laps (lap-no _ c.args.stop.now.pc c.loop-why.laps pc);
       count = c.asked.ensures.count.stays c.if-asked.false ∙ c.loop-why.invariant.count;
+      asks = asked-next _ _ _ c.loop-why.steps c.loop-why.invariant.asks c.asked.ensures.asks;
       patience = λ n told.
           left-next (g.H.Halt.patience c.loop-why.halt) (g.H.Halt.patience c.asked.new.self) c.loop-why.steps n (c.loop-why.invariant.patience n told)
           (subst (LosesPatience (g.H.Halt.patience c.loop-why.halt) (g.H.Halt.patience c.asked.new.self)) c.if-asked.false c.asked.ensures.patience);
@@ -85,3 +92,15 @@ returns-then-asked-clause-patience g c = λ n told. left-most _ _ n (c.loop-why.
 
 pub returns-in-Some-attempt-clause-patience : goal.returns-in-Some-attempt-clause-patience
 returns-in-Some-attempt-clause-patience g c = λ n told. left-most _ _ n (c.loop-why.invariant.patience n told)
+
+pub returns-in-Some-clause-asks : goal.returns-in-Some-clause-asks
+returns-in-Some-clause-asks g c =
+    asked-bound _ _ _ c.in-Some.why _ _ c.loop-why.steps c.loop-why.invariant.asks (sym c.bound_met.ensures ∙ c.in-Some.is)
+
+pub returns-then-asked-clause-asks : goal.returns-then-asked-clause-asks
+returns-then-asked-clause-asks g c = asked-next _ _ _ c.loop-why.steps c.loop-why.invariant.asks c.asked.ensures.asks
+
+pub returns-in-Some-attempt-clause-asks : goal.returns-in-Some-attempt-clause-asks
+returns-in-Some-attempt-clause-asks g c =
+    asked-step _ c.in-Some-attempt.why _ _ c.loop-why.steps (asked-next _ _ _ c.loop-why.steps c.loop-why.invariant.asks c.asked.ensures.asks)
+    (sym c.attempt.ensures.ends ∙ c.in-Some-attempt.is)

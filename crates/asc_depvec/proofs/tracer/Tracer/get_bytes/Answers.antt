@@ -1,5 +1,5 @@
 use Rattle.std.proofs.Common.{◌+◌, [], ◌∷◌, arith, ◌∙◌}
-use Rattle.asc_shape.proofs.Faces.{length-read, slice_index-read, word_at-reads, face_after_reads-span_4, room-span_4, untouched_count_after_read, untouched_count-le-length}
+use Rattle.asc_shape.proofs.Faces.{length-read, slice_index-read, word_at-reads, face_after_reads-span_4, room-read, untouched_count-le-length}
 use Rattle.asc_depvec.specs.Tracer.{face_of}
 use Rattle.asc_depvec.proofs.tracer.Tracer.get_bytes.Goals as goal
 
@@ -7,14 +7,16 @@ pub get-requires-2-clause-place : goal.get-requires-2-clause-place
 get-requires-2-clause-place c = omega (arith, length-read _ _ _ c.get.ensures.face)
 
 pub get-requires-2-clause-room : goal.get-requires-2-clause-room
-get-requires-2-clause-room c = omega (arith, untouched_count-le-length (face_of c.args.self.now).marks (c.args.place ∷ []))
+get-requires-2-clause-room c = omega (arith, room-read _ _ _ c.get.ensures.face, untouched_count-le-length (face_of c.args.self.now).marks (c.args.place ∷ []))
 
 pub get-requires-3-clause-place : goal.get-requires-3-clause-place
 get-requires-3-clause-place c = omega (arith, length-read _ _ _ c.get.ensures.face, length-read _ _ _ c.get-2.ensures.face)
 
 pub get-requires-3-clause-room : goal.get-requires-3-clause-room
 get-requires-3-clause-room c =
+    let room1 = room-read _ _ _ c.get.ensures.face in
     let one = untouched_count-le-length (face_of c.args.self.now).marks (c.args.place ∷ []) in
+    let room2 = room-read _ _ _ c.get-2.ensures.face in
     let two = untouched_count-le-length (face_of c.get.new.self).marks ((c.args.place + 1) ∷ []) in
     omega arith
 
@@ -24,8 +26,11 @@ get-requires-4-clause-place c =
 
 pub get-requires-4-clause-room : goal.get-requires-4-clause-room
 get-requires-4-clause-room c =
+    let room1 = room-read _ _ _ c.get.ensures.face in
     let one = untouched_count-le-length (face_of c.args.self.now).marks (c.args.place ∷ []) in
+    let room2 = room-read _ _ _ c.get-2.ensures.face in
     let two = untouched_count-le-length (face_of c.get.new.self).marks ((c.args.place + 1) ∷ []) in
+    let room3 = room-read _ _ _ c.get-3.ensures.face in
     let three = untouched_count-le-length (face_of c.get-2.new.self).marks ((c.args.place + 2) ∷ []) in
     omega arith
 
@@ -41,9 +46,3 @@ returns-clause-word c =
 pub returns-clause-face : goal.returns-clause-face
 returns-clause-face c =
     face_after_reads-span_4 _ _ _ _ _ c.args.place c.get.ensures.face c.get-2.ensures.face c.get-3.ensures.face c.get-4.ensures.face
-
-pub returns-clause-room : goal.returns-clause-room
-returns-clause-room c =
-    room-span_4 _ _ _ _ c.args.place _ _ _ _ _
-    (untouched_count_after_read _ _ _ c.get.ensures.face) (untouched_count_after_read _ _ _ c.get-2.ensures.face) (untouched_count_after_read _ _ _ c.get-3.ensures.face)
-    c.get.ensures.room c.get-2.ensures.room c.get-3.ensures.room c.get-4.ensures.room

@@ -1,13 +1,13 @@
 use Rattle.std.proofs.Common.{◌≡◌, ◌+◌, ◌-◌, ℕ, subst, sym, ap, ◌∙◌, arith}
-use Rattle.std.specs.List.{flat_map}
+use Rattle.std.specs.List.{All, flat_map}
 use Rattle.asc_model.specs.Shape.{Shape}
 use Rattle.asc_model.specs.State.{State}
 use Rattle.asc_model.specs.Machine.{Pc, Register}
 use Rattle.asc_shape.specs.State.{zero_state, state_after, state_after_all}
-use Rattle.asc_elf.specs.File.{headers, segments}
+use Rattle.asc_elf.specs.File.{segments}
 use Rattle.asc_elf.specs.Image.{Image, segment_changes, stack_of}
 use Rattle.asc_elf.specs.Checked.{HasPlace}
-use Rattle.asc_elf.proofs.Accepted.{IsWhole-cases, HasTable-IsWhole, HasPlace-cases}
+use Rattle.asc_elf.proofs.Accepted.{IsWhole-cases, HasTable-IsWhole, places-cases}
 use Rattle.asc_elf.proofs.Starts.{shape-start_state, start_state-steps}
 use Rattle.asc_elf.proofs.image.Image.put.Goals as goal
 
@@ -20,7 +20,7 @@ put_segments-requires-clause-place c =
     let shape = c.self.inside.shape in
     let same : c.fill.new.self.shape ≡ shape =
     ap (λ (s : State). s.shape) c.fill.ensures ∙ c.requires ∙ sym (ap (λ (i : Image). i.start.shape) c.self.view_is) ∙ shape-start_state file shape in
-    subst (λ (s : Shape). HasPlace file s (headers file)) (sym same) (HasPlace-cases file shape c.self.invariant.laid_out c.self.invariant.no_fault)
+    subst (λ (s : Shape). All (HasPlace file s) (segments file)) (sym same) (places-cases file shape c.self.invariant.laid_out c.self.invariant.no_fault)
 
 pub returns : goal.returns
 returns c =

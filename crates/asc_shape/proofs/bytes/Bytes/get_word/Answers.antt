@@ -1,19 +1,21 @@
 use Rattle.std.proofs.Common.{◌+◌, [], ◌∷◌, arith, ◌∙◌}
-use Rattle.asc_shape.proofs.Faces.{length-read, slice_index-read, word_at-reads, face_after_reads-span_4, room-span_4, untouched_count_after_read, untouched_count-le-length}
+use Rattle.asc_shape.proofs.Faces.{length-read, slice_index-read, word_at-reads, face_after_reads-span_4, room-read, untouched_count-le-length}
 use Rattle.asc_shape.proofs.bytes.Bytes.get_word.Goals as goal
 
 pub get-requires-2-clause-place : goal.get-requires-2-clause-place
 get-requires-2-clause-place g c = omega (arith, length-read _ _ _ c.get.ensures.face)
 
 pub get-requires-2-clause-room : goal.get-requires-2-clause-room
-get-requires-2-clause-room g c = omega (arith, untouched_count-le-length (g.Self.Bytes.face c.args.self.now).marks (c.args.place ∷ []))
+get-requires-2-clause-room g c = omega (arith, room-read _ _ _ c.get.ensures.face, untouched_count-le-length (g.Self.Bytes.face c.args.self.now).marks (c.args.place ∷ []))
 
 pub get-requires-3-clause-place : goal.get-requires-3-clause-place
 get-requires-3-clause-place g c = omega (arith, length-read _ _ _ c.get.ensures.face, length-read _ _ _ c.get-2.ensures.face)
 
 pub get-requires-3-clause-room : goal.get-requires-3-clause-room
 get-requires-3-clause-room g c =
+    let room1 = room-read _ _ _ c.get.ensures.face in
     let one = untouched_count-le-length (g.Self.Bytes.face c.args.self.now).marks (c.args.place ∷ []) in
+    let room2 = room-read _ _ _ c.get-2.ensures.face in
     let two = untouched_count-le-length (g.Self.Bytes.face c.get.new.self).marks ((c.args.place + 1) ∷ []) in
     omega arith
 
@@ -23,8 +25,11 @@ get-requires-4-clause-place g c =
 
 pub get-requires-4-clause-room : goal.get-requires-4-clause-room
 get-requires-4-clause-room g c =
+    let room1 = room-read _ _ _ c.get.ensures.face in
     let one = untouched_count-le-length (g.Self.Bytes.face c.args.self.now).marks (c.args.place ∷ []) in
+    let room2 = room-read _ _ _ c.get-2.ensures.face in
     let two = untouched_count-le-length (g.Self.Bytes.face c.get.new.self).marks ((c.args.place + 1) ∷ []) in
+    let room3 = room-read _ _ _ c.get-3.ensures.face in
     let three = untouched_count-le-length (g.Self.Bytes.face c.get-2.new.self).marks ((c.args.place + 2) ∷ []) in
     omega arith
 
@@ -40,9 +45,3 @@ returns-clause-word g c =
 pub returns-clause-face : goal.returns-clause-face
 returns-clause-face g c =
     face_after_reads-span_4 _ _ _ _ _ c.args.place c.get.ensures.face c.get-2.ensures.face c.get-3.ensures.face c.get-4.ensures.face
-
-pub returns-clause-room : goal.returns-clause-room
-returns-clause-room g c =
-    room-span_4 _ _ _ _ c.args.place _ _ _ _ _
-    (untouched_count_after_read _ _ _ c.get.ensures.face) (untouched_count_after_read _ _ _ c.get-2.ensures.face) (untouched_count_after_read _ _ _ c.get-3.ensures.face)
-    c.get.ensures.room c.get-2.ensures.room c.get-3.ensures.room c.get-4.ensures.room

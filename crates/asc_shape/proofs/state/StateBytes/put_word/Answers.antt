@@ -6,7 +6,7 @@ use Rattle.asc_shape.specs.Face.{Face, Untold}
 use Rattle.asc_shape.proofs.Faces.{puts_untold}
 use Rattle.asc_shape.proofs.state.StateBytes.put_word.Goals as goal
 
-pub returns-clause-face : goal.returns-clause-face
-returns-clause-face c =
+pub returns : goal.returns
+returns c =
     let face : State → Face = λ s. record { state = s; marks = Untold } in
-    ap face c.set_word.ensures ∙ sym (puts_untold (face c.args.self.now) (cells c.args.place (bytes_of 4 c.args.word)) refl)
+    record { face = ap face c.set_word.ensures ∙ sym (puts_untold (face c.args.self.now) (cells c.args.place (bytes_of 4 c.args.word)) refl) }

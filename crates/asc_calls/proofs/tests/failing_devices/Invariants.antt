@@ -1,8 +1,0 @@
--- The ledger of the steps is the one that is passed.
-use Rattle.asc_calls.proofs.tests.failing_devices.Given as goal
-
-abbrev pub ghosts-read_four : goal.ghosts-read_four
-ghosts-read_four g a = record { name = a.blank.name; parts = a.blank.parts }
-
-abbrev pub ghosts-says_hi : goal.ghosts-says_hi
-ghosts-says_hi g a = record { name = a.blank.name; parts = a.blank.parts }

@@ -1,0 +1,132 @@
+// Pages of bytes, and groups of pages.
+ghost use Rattle.std.specs.Prelude.{◌≡◌, ◌≢◌, ◌+◌, ◌*◌, ◌-◌, ◌/◌, ◌^◌, ◌%◌, ◌<◌, ◌≤◌, ℕ, List, [], min, true, length, slice_index};
+ghost use Rattle.asc_model.specs.Number.{AreBytes, word_at};
+ghost use Rattle.asc_shape.specs.Stride.{strided_byte, strided_word};
+ghost use Rattle.asc_shape.specs.Pages.{Fits, IsUnmarked};
+
+use crate::shape::PAGE_SIZE;
+
+// How many places a page has.
+pub(crate) const PAGE: usize = PAGE_SIZE as usize;
+
+// How many pages a group has.
+pub(crate) const GROUP: usize = 64;
+
+// The first place of page p, and the place behind its last one.
+#[inline]
+pub(crate) fn ends(p: usize, len: usize) -> (usize, usize)
+    requires len { len < 2 ^ 32 }
+    requires page { p < len / 4096 + 1 }
+    ensures from { result.0 ≡ 4096 * p }
+    ensures to { result.1 ≡ min (4096 * p + 4096) len }
+{
+    let from = p * PAGE;
+    (from, len.min(from + PAGE))
+}
+
+// The first page of group g, and the page behind its last one, of so many pages.
+#[inline]
+pub(crate) fn group_ends(g: usize, pages: usize) -> (usize, usize)
+    requires pages { pages < 2 ^ 32 }
+    requires group { 64 * g < pages }
+    ensures from { result.0 ≡ 64 * g }
+    ensures to { result.1 ≡ min (64 * g + 64) pages }
+{
+    let from = g * GROUP;
+    (from, pages.min(from + GROUP))
+}
+
+// Whether no page of group g is marked.
+#[inline]
+pub(crate) fn is_unmarked(changed: &[bool], g: usize) -> bool
+    requires pages { length changed.now < 2 ^ 32 }
+    requires group { 64 * g < length changed.now }
+    ensures { result ≡ true → IsUnmarked changed.now g }
+{
+    let (from, to) = group_ends(g, changed.len());
+    !changed[from..to].contains(&true)
+}
+
+// Writes a page over page p. It does nothing where both are known to be blank.
+pub(crate) fn put_page(bytes: &mut [u8], p: usize, page: &[u8], blank: bool)
+    requires len { length bytes.old < 2 ^ 32 }
+    requires page { p < length bytes.old / 4096 + 1 }
+    requires fits { Fits (length bytes.old) p page.now }
+    requires blank { blank ≡ true → (i : ℕ) → i / 4096 ≡ p → slice_index bytes.old i ≡ 0 }
+    ensures page { (i : ℕ) → i / 4096 ≡ p → slice_index bytes.new i ≡ slice_index page.now (i % 4096) }
+    ensures others { (i : ℕ) → i / 4096 ≢ p → slice_index bytes.new i ≡ slice_index bytes.old i }
+{
+    let (from, to) = ends(p, bytes.len());
+    if !page.is_empty() {
+        bytes[from..to].copy_from_slice(page);
+    } else if !blank {
+        bytes[from..to].fill(0);
+    }
+}
+
+// Strides the words of page p by those of another page.
+pub(crate) fn stride_page(bytes: &mut [u8], p: usize, prev: &[u8], ahead: u32)
+    requires len { length bytes.old < 2 ^ 32 }
+    requires whole { length bytes.old % 4 ≡ 0 }
+    requires page { p < length bytes.old / 4096 + 1 }
+    requires fits { Fits (length bytes.old) p prev.now }
+    ensures page { (target : List ℕ)
+        → ((i : ℕ) → i / 4096 ≡ p → slice_index target i ≡ slice_index prev.now (i % 4096))
+        → (i : ℕ) → i / 4096 ≡ p → i < length bytes.old
+        → slice_index bytes.new i ≡ strided_byte ahead bytes.old target i }
+    ensures others { (i : ℕ) → i / 4096 ≢ p → slice_index bytes.new i ≡ slice_index bytes.old i }
+{
+    let (from, to) = ends(p, bytes.len());
+    if prev.is_empty() {
+        stride_blank(&mut bytes[from..to], ahead);
+    } else {
+        stride(&mut bytes[from..to], prev, ahead);
+    }
+}
+
+// Strides words by those of another list.
+fn stride(words: &mut [u8], prev: &[u8], ahead: u32)
+    requires size { length prev.now ≡ length words.old }
+    requires whole { length words.old % 4 ≡ 0 }
+    requires most { length words.old ≤ 4096 }
+    ensures { (i : ℕ) → i < length words.old → slice_index words.new i ≡ strided_byte ahead words.old prev.now i }
+{
+    for k in 0..words.len() / 4 {
+        let word = strided(word_in(words, 4 * k), word_in(prev, 4 * k), ahead);
+        words[4 * k..4 * k + 4].copy_from_slice(&word.to_le_bytes());
+    }
+}
+
+// Strides words by zeros.
+fn stride_blank(words: &mut [u8], ahead: u32)
+    requires whole { length words.old % 4 ≡ 0 }
+    requires most { length words.old ≤ 4096 }
+    ensures { (i : ℕ) → i < length words.old → slice_index words.new i ≡ strided_byte ahead words.old [] i }
+{
+    for k in 0..words.len() / 4 {
+        let word = strided(word_in(words, 4 * k), 0, ahead);
+        words[4 * k..4 * k + 4].copy_from_slice(&word.to_le_bytes());
+    }
+}
+
+#[inline]
+fn strided(last: u32, prev: u32, ahead: u32) -> u32
+    ensures { result ≡ strided_word ahead last prev }
+{
+    last.wrapping_add(ahead.wrapping_mul(last.wrapping_sub(prev)))
+}
+
+// The word in the four bytes from a place on.
+#[inline]
+pub(crate) fn word_in(bytes: &[u8], at: usize) -> u32
+    requires { at + 4 ≤ length bytes.now }
+    ensures { result ≡ word_at bytes.now at }
+{
+    let part = &bytes[at..at + 4];
+    u32::from_le_bytes([part[0], part[1], part[2], part[3]])
+}
+
+// The elements of a slice of bytes are bytes.
+pub(crate) fn elements_are_bytes(_slice: &[u8])
+    ensures { AreBytes _slice.now }
+{}

@@ -1,0 +1,17 @@
+//! Tests that cross crates: whole runs, of `top` over an outside in memory and of `Walk` in either version, and single
+//! steps. Expected values are worked out by hand from the formats and the instruction set, or come from another
+//! implementation, and none from the program's own output.
+#![tactic(auto)]
+
+#[cfg(test)]
+mod images;
+#[cfg(test)]
+mod loading;
+#[cfg(test)]
+mod outside;
+#[cfg(test)]
+mod programs;
+#[cfg(test)]
+mod single_steps;
+#[cfg(test)]
+mod whole_runs;

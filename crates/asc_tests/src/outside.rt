@@ -1,0 +1,147 @@
+//! The program over an outside in memory, and what must come of it.
+ghost use Rattle.std.specs.Prelude.{◌≡◌, ◌<◌};
+
+use asc_shape::{ListSink, ListSource, ListStore, Open, Steps};
+use asc_top::{Answer, top};
+use std::alloc::{AllocError, Global};
+use std::marker::Brand;
+use std::process::Abort;
+use std::sync::ledger::{Blank, Ledger};
+
+/// What the input gives, how the devices move it, and which of their calls fail.
+#[derive(Clone, Copy)]
+pub(crate) struct Devices {
+    pub(crate) input: &'static str,
+    /// The most bytes that the input, out, err and the report move in one call.
+    pub(crate) most: usize,
+    /// The bytes for which out and err each have room.
+    pub(crate) room: usize,
+    /// The numbers of the calls that fail, of the store, the input, out, err and the report, from 1; 0 is none.
+    pub(crate) fails: [u64; 5],
+}
+
+/// Devices that never fail, and no input.
+pub(crate) const SOUND: Devices = Devices {
+    input: "",
+    most: 3,
+    room: 64,
+    fails: [0; 5],
+};
+
+/// What must come of the words of a command line.
+#[derive(Clone, Copy)]
+pub(crate) struct Want {
+    pub(crate) answer: Answer,
+    /// How often the store is asked.
+    pub(crate) asked: usize,
+    pub(crate) out: &'static str,
+    pub(crate) err: &'static str,
+    pub(crate) report: &'static str,
+}
+
+/// The program ends with 0, and puts nothing.
+pub(crate) const QUIET: Want = Want {
+    answer: Answer::Exit(0),
+    asked: 1,
+    out: "",
+    err: "",
+    report: "",
+};
+
+/// What came of them.
+#[derive(Drop)]
+struct Got {
+    answer: Answer,
+    store: ListStore,
+    out: ListSink,
+    err: ListSink,
+    report: ListSink,
+}
+
+/// Runs the words of a command line, with one space between two words, where the store has one file, `image`, and
+/// compares what came of them with what must.
+pub(crate) fn check<R: Abort>(
+    rt: &R,
+    alloc: Global,
+    line: &str,
+    file: Vec<u8>,
+    devices: &Devices,
+    want: &Want,
+) -> Result<(), AllocError> {
+    let mut words = Vec::new(alloc);
+    for word in line.split(' ') {
+        words.push(String::from_str(alloc, word)?)?;
+    }
+    let got = run_over::<Brand, _>(rt, alloc, &words, file, devices, Blank::new(1))?;
+    let put = (got.out.bytes(), got.err.bytes(), got.report.bytes());
+    let wanted = (
+        want.out.as_bytes(),
+        want.err.as_bytes(),
+        want.report.as_bytes(),
+    );
+    assert_eq!(rt; (got.answer, put), (want.answer, wanted), "at {line}");
+    let asked = got.store.asked().expect(rt, "memory for the names");
+    assert_eq!(rt; asked.len(), want.asked, "at {line}");
+    for name in asked {
+        assert!(rt;
+            line.split(' ').any(|word| word == name.as_str()),
+            "{name} at {line}"
+        );
+    }
+    Ok(())
+}
+
+fn run_over<L: Ledger, R: Abort>(
+    rt: &R,
+    alloc: Global,
+    words: &[String],
+    file: Vec<u8>,
+    devices: &Devices,
+    blank: Blank,
+) -> Result<Got, AllocError>
+    requires name { blank.name ≡ L.name }
+    requires parts { blank.parts ≡ L.parts }
+    requires some { 0 < L.parts }
+{
+    let mut files = Vec::new(alloc);
+    files.push((String::from_str(alloc, "image")?, file))?;
+    let most = devices.most.max(1);
+    let [store_fails, input_fails, out_fails, err_fails, report_fails] = devices.fails;
+    let mut store = ListStore::new(files, vec![in alloc; store_fails; 1]?);
+    let bytes = devices.input.as_bytes().to_vec(alloc)?;
+    let mut input = ListSource::new(bytes, most, vec![in alloc; input_fails; 1]?);
+    let mut out = sink(rt, alloc, devices.room, most, out_fails)?;
+    let mut err = sink(rt, alloc, devices.room, most, err_fails)?;
+    let mut report = sink(rt, alloc, 512, most, report_fails)?;
+    let answer = top(
+        alloc,
+        words,
+        &mut store,
+        &mut input,
+        &mut out,
+        &mut err,
+        &mut report,
+        &Open,
+        &mut Steps::<L>::new(blank),
+    );
+    Ok(Got {
+        answer,
+        store,
+        out,
+        err,
+        report,
+    })
+}
+
+fn sink<R: Abort>(
+    rt: &R,
+    alloc: Global,
+    room: usize,
+    most: usize,
+    fails: u64,
+) -> Result<ListSink, AllocError>
+    requires { 0 < most }
+{
+    let fails = vec![in alloc; fails; 1]?;
+    Ok(ListSink::new(alloc, room, most, fails).expect(rt, "memory"))
+}

@@ -1,0 +1,613 @@
+//! Whole runs: words, an image and devices, and the answer, what is put to out, to err and to the report.
+use crate::images::wrap;
+use crate::outside::{Devices, QUIET, SOUND, Want, check};
+use asc_step::{Fault, FaultKind};
+use asc_top::{Answer, Bad};
+use std::test::Fail;
+
+/// A run, and what must come of it.
+struct Row {
+    line: &'static str,
+    program: &'static [u32],
+    devices: Devices,
+    want: Want,
+}
+
+/// The program ends with 7: ADDI x17,x0,93; ADDI x10,x0,7; ECALL.
+const EXIT_SEVEN: Row = Row {
+    line: "asc run image",
+    program: &[0x05D0_0893, 0x0070_0513, 0x0000_0073],
+    devices: SOUND,
+    want: Want {
+        answer: Answer::Exit(7),
+        ..QUIET
+    },
+};
+
+const REACHES_LIMIT: Want = Want {
+    answer: Answer::Limit(2),
+    report: "asc: limit after 2\n",
+    ..QUIET
+};
+
+const USAGE: Want = Want {
+    answer: Answer::Usage(Bad::Words),
+    asked: 0,
+    report: "asc: usage\n",
+    ..QUIET
+};
+
+const NO_FILE: Want = Want {
+    answer: Answer::StoreFault,
+    report: "asc: store failed\n",
+    ..QUIET
+};
+
+const WRITE_FAULT: Want = Want {
+    answer: Answer::WriteFault,
+    report: "asc: output failed\n",
+    ..QUIET
+};
+
+const ERR_FAULT: Want = Want {
+    answer: Answer::ErrFault,
+    report: "asc: error output failed\n",
+    ..QUIET
+};
+
+const REPORT_FAULT: Want = Want {
+    answer: Answer::ReportFault,
+    ..QUIET
+};
+
+const BYTEWISE: Devices = Devices { most: 1, ..SOUND };
+
+/// LUI x10,0x20; LW x6,-3(x10), and then no instruction.
+const LOADS: &[u32] = &[0x0002_0537, 0xFFD5_2303];
+
+/// LUI x10,0x11; ADDI x6,x0,5; AMOADD.W x5,x6,(x10), twice; ADDI x10,x5,0; ADDI x17,x0,93; ECALL.
+const ADDS: &[u32] = &[
+    0x0001_1537,
+    0x0050_0313,
+    0x0065_22AF,
+    0x0065_22AF,
+    0x0002_8513,
+    0x05D0_0893,
+    0x0000_0073,
+];
+
+/// It writes three bytes at 0x10028, `Hi` and a line end, to file 1, and ends with 0.
+const SAYS_HI: &[u32] = &[
+    0x0400_0893, // ADDI x17,x0,64
+    0x0010_0513, // ADDI x10,x0,1
+    0x0001_05B7, // LUI x11,0x10
+    0x0285_8593, // ADDI x11,x11,40
+    0x0030_0613, // ADDI x12,x0,3
+    0x0000_0073, // ECALL
+    0x05D0_0893, // ADDI x17,x0,93
+    0x0000_0513, // ADDI x10,x0,0
+    0x0000_0073, // ECALL
+    0,
+    0x000A_6948,
+];
+
+/// The same to file 2.
+const COMPLAINS: &[u32] = &[
+    0x0400_0893,
+    0x0020_0513,
+    0x0001_05B7,
+    0x0285_8593,
+    0x0030_0613,
+    0x0000_0073,
+    0x05D0_0893,
+    0x0000_0513,
+    0x0000_0073,
+    0,
+    0x000A_6948,
+];
+
+/// It asks for its break to be at 0x20000, and ends with the number of the break's page: ADDI x17,x0,214; LUI x10,0x20;
+/// ECALL; SRLI x10,x10,12; ADDI x17,x0,93; ECALL.
+const BREAKS: &[u32] = &[
+    0x0D60_0893,
+    0x0002_0537,
+    0x0000_0073,
+    0x00C5_5513,
+    0x05D0_0893,
+    0x0000_0073,
+];
+
+static ROWS: [Row; 34] = [
+    EXIT_SEVEN,
+    // step_limits
+    Row {
+        line: "asc run image --steps 3",
+        ..EXIT_SEVEN
+    },
+    Row {
+        line: "asc run image --steps 2",
+        want: REACHES_LIMIT,
+        ..EXIT_SEVEN
+    },
+    Row {
+        line: "asc run image --steps 0",
+        want: Want {
+            answer: Answer::Limit(0),
+            report: "asc: limit after 0\n",
+            ..QUIET
+        },
+        ..EXIT_SEVEN
+    },
+    // the report fails at its first call, and at its second, when three bytes are put
+    Row {
+        line: "asc run image --steps 2",
+        devices: Devices {
+            fails: [0, 0, 0, 0, 1],
+            ..SOUND
+        },
+        want: REPORT_FAULT,
+        ..EXIT_SEVEN
+    },
+    Row {
+        line: "asc run image --steps 2",
+        devices: Devices {
+            fails: [0, 0, 0, 0, 2],
+            ..SOUND
+        },
+        want: Want {
+            report: "asc",
+            ..REPORT_FAULT
+        },
+        ..EXIT_SEVEN
+    },
+    Row {
+        devices: Devices {
+            fails: [0, 0, 0, 0, 1],
+            ..SOUND
+        },
+        ..EXIT_SEVEN
+    },
+    // load_outside: memory ends at 0x20000, and with one KiB more the load goes well
+    Row {
+        line: "asc run image --memory 64",
+        program: LOADS,
+        devices: SOUND,
+        want: Want {
+            answer: Answer::Fault(
+                Fault {
+                    kind: FaultKind::LoadOutside,
+                    pc: 0x10004,
+                    value: 0x1FFFD,
+                },
+                1,
+            ),
+            report: "asc: fault 4 at 00010004 value 0001fffd after 1\n",
+            ..QUIET
+        },
+    },
+    Row {
+        line: "asc run --memory=65 image",
+        program: LOADS,
+        devices: SOUND,
+        want: Want {
+            answer: Answer::Fault(
+                Fault {
+                    kind: FaultKind::Illegal,
+                    pc: 0x10008,
+                    value: 0,
+                },
+                2,
+            ),
+            report: "asc: fault 3 at 00010008 value 00000000 after 2\n",
+            ..QUIET
+        },
+    },
+    // AMOADD.W twice, in each version
+    Row {
+        line: "asc run image --machine 2",
+        program: ADDS,
+        devices: SOUND,
+        want: Want {
+            answer: Answer::Exit(5),
+            ..QUIET
+        },
+    },
+    Row {
+        line: "asc run image --machine 1",
+        program: ADDS,
+        devices: SOUND,
+        want: Want {
+            answer: Answer::Fault(
+                Fault {
+                    kind: FaultKind::Illegal,
+                    pc: 0x10008,
+                    value: 0x0065_22AF,
+                },
+                2,
+            ),
+            report: "asc: fault 3 at 00010008 value 006522af after 2\n",
+            ..QUIET
+        },
+    },
+    // illegal_and_break
+    Row {
+        program: &[0],
+        want: Want {
+            answer: Answer::Fault(
+                Fault {
+                    kind: FaultKind::Illegal,
+                    pc: 0x10000,
+                    value: 0,
+                },
+                0,
+            ),
+            report: "asc: fault 3 at 00010000 value 00000000 after 0\n",
+            ..QUIET
+        },
+        ..EXIT_SEVEN
+    },
+    Row {
+        program: &[0x0010_0073],
+        want: Want {
+            answer: Answer::Fault(
+                Fault {
+                    kind: FaultKind::Break,
+                    pc: 0x10000,
+                    value: 0,
+                },
+                0,
+            ),
+            report: "asc: fault 6 at 00010000 value 00000000 after 0\n",
+            ..QUIET
+        },
+        ..EXIT_SEVEN
+    },
+    // bad_words
+    Row {
+        line: "",
+        want: USAGE,
+        ..EXIT_SEVEN
+    },
+    Row {
+        line: "asc",
+        want: USAGE,
+        ..EXIT_SEVEN
+    },
+    Row {
+        line: "asc run",
+        want: USAGE,
+        ..EXIT_SEVEN
+    },
+    Row {
+        line: "asc fly x",
+        want: USAGE,
+        ..EXIT_SEVEN
+    },
+    Row {
+        line: "asc run image --workers 65",
+        want: USAGE,
+        ..EXIT_SEVEN
+    },
+    Row {
+        line: "asc run image --memory 65537",
+        want: USAGE,
+        ..EXIT_SEVEN
+    },
+    Row {
+        line: "asc run image --memory 65536",
+        ..EXIT_SEVEN
+    },
+    // a name that the store has not
+    Row {
+        line: "asc run imag",
+        want: NO_FILE,
+        ..EXIT_SEVEN
+    },
+    Row {
+        line: "asc run ",
+        want: NO_FILE,
+        ..EXIT_SEVEN
+    },
+    // says_hi, one byte a call: nine steps, and out and err that fail or have no room
+    Row {
+        line: "asc run image --steps 9",
+        program: SAYS_HI,
+        devices: BYTEWISE,
+        want: Want {
+            out: "Hi\n",
+            ..QUIET
+        },
+    },
+    Row {
+        line: "asc run image --steps 8",
+        program: SAYS_HI,
+        devices: BYTEWISE,
+        want: Want {
+            answer: Answer::Limit(8),
+            out: "Hi\n",
+            report: "asc: limit after 8\n",
+            ..QUIET
+        },
+    },
+    Row {
+        program: SAYS_HI,
+        devices: Devices {
+            room: 3,
+            ..BYTEWISE
+        },
+        want: Want {
+            out: "Hi\n",
+            ..QUIET
+        },
+        ..EXIT_SEVEN
+    },
+    Row {
+        program: SAYS_HI,
+        devices: Devices {
+            room: 2,
+            ..BYTEWISE
+        },
+        want: Want {
+            out: "Hi",
+            ..WRITE_FAULT
+        },
+        ..EXIT_SEVEN
+    },
+    Row {
+        program: SAYS_HI,
+        devices: Devices {
+            fails: [0, 0, 2, 0, 0],
+            ..BYTEWISE
+        },
+        want: Want {
+            out: "H",
+            ..WRITE_FAULT
+        },
+        ..EXIT_SEVEN
+    },
+    Row {
+        line: "asc run image --steps 9",
+        program: COMPLAINS,
+        devices: Devices {
+            room: 3,
+            ..BYTEWISE
+        },
+        want: Want {
+            err: "Hi\n",
+            ..QUIET
+        },
+    },
+    Row {
+        line: "asc run image --steps 8",
+        program: COMPLAINS,
+        want: Want {
+            answer: Answer::Limit(8),
+            err: "Hi\n",
+            report: "asc: limit after 8\n",
+            ..QUIET
+        },
+        ..EXIT_SEVEN
+    },
+    // The break may rise to 64 KiB below the end of memory, and stays where it is asked to pass that.
+    Row {
+        line: "asc run image --memory 128",
+        program: BREAKS,
+        want: Want {
+            answer: Answer::Exit(0x20),
+            ..QUIET
+        },
+        ..EXIT_SEVEN
+    },
+    Row {
+        line: "asc run image --memory 127",
+        program: BREAKS,
+        want: Want {
+            answer: Answer::Exit(0x10),
+            ..QUIET
+        },
+        ..EXIT_SEVEN
+    },
+    Row {
+        program: COMPLAINS,
+        devices: Devices {
+            fails: [0, 0, 0, 1, 0],
+            ..BYTEWISE
+        },
+        want: ERR_FAULT,
+        ..EXIT_SEVEN
+    },
+    Row {
+        program: COMPLAINS,
+        devices: Devices {
+            fails: [0, 0, 0, 3, 0],
+            ..BYTEWISE
+        },
+        want: Want {
+            err: "Hi",
+            ..ERR_FAULT
+        },
+        ..EXIT_SEVEN
+    },
+    // The report fails in place of the answer that blames err.
+    Row {
+        program: COMPLAINS,
+        devices: Devices {
+            fails: [0, 0, 0, 3, 6],
+            ..BYTEWISE
+        },
+        want: Want {
+            err: "Hi",
+            report: "asc: ",
+            ..REPORT_FAULT
+        },
+        ..EXIT_SEVEN
+    },
+];
+
+#[test]
+fn whole_runs(rt: HostRuntime) -> Result<(), Fail> {
+    let alloc = rt.alloc();
+    for row in &ROWS {
+        let file = wrap(alloc, row.program)?;
+        check(&rt, alloc, row.line, file, &row.devices, &row.want)?;
+    }
+    Ok(())
+}
+
+/// It reads at most four bytes to 0x10100, writes them to file 1, and begins again, until the input ends.
+const ECHO: &[u32] = &[
+    0x03F0_0893, // ADDI x17,x0,63
+    0x0000_0513, // ADDI x10,x0,0
+    0x0001_05B7, // LUI x11,0x10
+    0x1005_8593, // ADDI x11,x11,256
+    0x0040_0613, // ADDI x12,x0,4
+    0x0000_0073, // ECALL
+    0x0005_0C63, // BEQ x10,x0,24
+    0x0005_0613, // ADDI x12,x10,0
+    0x0400_0893, // ADDI x17,x0,64
+    0x0010_0513, // ADDI x10,x0,1
+    0x0000_0073, // ECALL
+    0xFD5F_F06F, // JAL x0,-44
+    0x05D0_0893, // ADDI x17,x0,93
+    0x0000_0513, // ADDI x10,x0,0
+    0x0000_0073, // ECALL
+];
+
+// The line, the calls of the store, the input, out, err and the report that fail, and then the answer, out and the
+// report. The program does 34 steps, and asks the input four times and out three times, for at most three bytes.
+static ECHOES: [(&str, [u64; 5], Answer, &str, &str); 17] = [
+    ("asc run image", [0; 5], Answer::Exit(0), "abcdefg", ""),
+    (
+        "asc run image",
+        [2, 5, 4, 1, 1],
+        Answer::Exit(0),
+        "abcdefg",
+        "",
+    ),
+    (
+        "asc run image --steps 34",
+        [0; 5],
+        Answer::Exit(0),
+        "abcdefg",
+        "",
+    ),
+    (
+        "asc run image --steps 33",
+        [0; 5],
+        Answer::Limit(33),
+        "abcdefg",
+        "asc: limit after 33\n",
+    ),
+    (
+        "asc run image --steps 33",
+        [0, 0, 0, 0, 1],
+        Answer::ReportFault,
+        "abcdefg",
+        "",
+    ),
+    (
+        "asc run image --steps 33",
+        [0, 0, 0, 0, 7],
+        Answer::ReportFault,
+        "abcdefg",
+        "asc: limit after 3",
+    ),
+    (
+        "asc run image --steps 33",
+        [0, 0, 0, 0, 8],
+        Answer::Limit(33),
+        "abcdefg",
+        "asc: limit after 33\n",
+    ),
+    (
+        "asc run image",
+        [1, 0, 0, 0, 0],
+        Answer::StoreFault,
+        "",
+        "asc: store failed\n",
+    ),
+    (
+        "asc run image",
+        [1, 0, 0, 0, 1],
+        Answer::ReportFault,
+        "",
+        "",
+    ),
+    (
+        "asc run image",
+        [0, 1, 0, 0, 0],
+        Answer::ReadFault,
+        "",
+        "asc: input failed\n",
+    ),
+    (
+        "asc run image",
+        [0, 2, 0, 0, 0],
+        Answer::ReadFault,
+        "",
+        "asc: input failed\n",
+    ),
+    (
+        "asc run image",
+        [0, 3, 0, 0, 0],
+        Answer::ReadFault,
+        "abcd",
+        "asc: input failed\n",
+    ),
+    (
+        "asc run image",
+        [0, 4, 0, 0, 0],
+        Answer::ReadFault,
+        "abcd",
+        "asc: input failed\n",
+    ),
+    (
+        "asc run image",
+        [0, 0, 1, 0, 0],
+        Answer::WriteFault,
+        "",
+        "asc: output failed\n",
+    ),
+    (
+        "asc run image",
+        [0, 0, 2, 0, 0],
+        Answer::WriteFault,
+        "abc",
+        "asc: output failed\n",
+    ),
+    (
+        "asc run image",
+        [0, 0, 3, 0, 0],
+        Answer::WriteFault,
+        "abcd",
+        "asc: output failed\n",
+    ),
+    (
+        "asc run image",
+        [0, 0, 3, 0, 1],
+        Answer::ReportFault,
+        "abcd",
+        "",
+    ),
+];
+
+#[test]
+fn echo_failing_once(rt: HostRuntime) -> Result<(), Fail> {
+    let alloc = rt.alloc();
+    for (line, fails, answer, out, report) in &ECHOES {
+        let devices = Devices {
+            input: "abcdefg",
+            fails: *fails,
+            ..SOUND
+        };
+        let want = Want {
+            answer: *answer,
+            out,
+            err: "",
+            asked: 1,
+            report,
+        };
+        check(&rt, alloc, line, wrap(alloc, ECHO)?, &devices, &want)?;
+    }
+    Ok(())
+}

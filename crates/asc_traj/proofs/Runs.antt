@@ -1,0 +1,189 @@
+-- Cells put together run by run, in whatever order of the runs.
+use Rattle.std.proofs.Common.{◌≡◌, ℕ, zero, suc, ◌+◌, ◌-◌, ◌<◌, ◌≤◌, ◌==◌, Bool, cond, List, [], ◌∷◌, ◌++◌, length, take, drop, get_or, refl, sym, ap, subst, ◌∙◌, inl, inr, arith}
+use Rattle.std.specs.Prelude.{All, Contains, count_by}
+use Rattle.std.specs.List.{flat_map, sum_by}
+use Rattle.std.specs.List.Sorted.{IsPermutation, IsNonDecreasingBy}
+use Rattle.std.proofs.lemmas.Bool.{cases_eq, cases_lt, eq-eqb}
+use Rattle.std.proofs.lemmas.List.{append-nil, drop-take, get_or-drop, map-append, take-append-drop, take-take, take_more, length-drop}
+use Rattle.std.proofs.lemmas.List.Concat.{flat_map-append, length-flat_map}
+use Rattle.std.proofs.lemmas.List.Elements.{All-append, All-contains, All-contains_itself, All-drop, All-head, All-nil, All-push, All-tail, All-take}
+use Rattle.std.proofs.lemmas.List.Sorted.{sum_by-IsPermutation}
+use Rattle.std.proofs.lemmas.List.Sums.{sum_by-append, sum_by-cons}
+use Rattle.asc_model.specs.Places.{places_from}
+use Rattle.asc_model.proofs.Listings.{RisesFrom, RisesFrom-lower}
+use Rattle.asc_traj.specs.declared.entry.Run.{Run}
+use Rattle.asc_traj.specs.Inside.{IsRun, cells_of}
+use Rattle.asc_traj.proofs.Places.{places_of, times-places}
+
+-- cells of a list, where each place stands as often as in the list
+pub record HasSame (cells others : List (ℕ × ℕ)) : Type 0 where
+  pub times : (place : ℕ) → count_by (λ cell. cell.0 == place) others ≡ count_by (λ cell. cell.0 == place) cells
+  pub listed : All (λ cell. Contains cells cell) others
+
+-- a sum over all cells of runs is a sum over the runs
+sum_by-flat : (w : ℕ × ℕ → ℕ) (g : Run → List (ℕ × ℕ)) (runs : List Run) → sum_by w (flat_map g runs) ≡ sum_by (λ run. sum_by w (g run)) runs
+sum_by-flat w g [] = refl
+sum_by-flat w g (run ∷ runs) =
+    sum_by-append w (g run) (flat_map g runs) ∙ ap (λ (n : ℕ). sum_by w (g run) + n) (sum_by-flat w g runs) ∙ sym (sum_by-cons (λ r. sum_by w (g r)) run runs)
+
+-- what holds of the cells of each run holds of all cells of runs
+All-flat : (P : ℕ × ℕ → Type 0) (g : Run → List (ℕ × ℕ)) → ((run : Run) → All P (g run)) → (runs : List Run) → All P (flat_map g runs)
+All-flat P g each [] = All-nil P
+All-flat P g each (run ∷ runs) = All-append P (g run) (flat_map g runs) (each run) (All-flat P g each runs)
+
+-- runs that are whole have the same cells in any order
+pub HasSame-runs : (cells : List (ℕ × ℕ)) (runs moved : List Run) → flat_map (cells_of cells) runs ≡ cells → IsPermutation runs moved → HasSame cells (flat_map (cells_of cells) moved)
+HasSame-runs cells runs moved whole by = record {
+  times = λ place.
+      let w : ℕ × ℕ → ℕ = λ cell. cond (cell.0 == place) 1 0 in
+      sum_by-flat w (cells_of cells) moved
+      ∙ sum_by-IsPermutation (λ run. sum_by w (cells_of cells run)) runs moved by
+      ∙ sym (sum_by-flat w (cells_of cells) runs)
+      ∙ ap (sum_by w) whole;
+  listed = All-flat (λ cell. Contains cells cell) (cells_of cells)
+      (λ run. All-take (λ cell. Contains cells cell) (run.to - run.from) (drop run.from cells) (All-drop (λ cell. Contains cells cell) run.from cells (All-contains_itself cells)))
+      moved;
+}
+
+-- and they are as many
+pub length-runs : (cells : List (ℕ × ℕ)) (runs moved : List Run) → flat_map (cells_of cells) runs ≡ cells → IsPermutation runs moved → length (flat_map (cells_of cells) moved) ≡ length cells
+length-runs cells runs moved whole by =
+    length-flat_map (cells_of cells) moved
+    ∙ sum_by-IsPermutation (λ (run : Run). length (cells_of cells run)) runs moved by
+    ∙ sym (length-flat_map (cells_of cells) runs)
+    ∙ ap (λ (list : List (ℕ × ℕ)). length list) whole
+
+-- what each cell has each of the same cells has
+pub All-same_cells : (P : ℕ × ℕ → Type 0) (cells others : List (ℕ × ℕ)) → HasSame cells others → All P cells → All P others
+All-same_cells P cells others same h = λ k d l. All-contains P cells _ h (same.listed k d l)
+
+-- ---- runs one after another
+
+-- the runs of the first cells
+pub record AreRuns (cells : List (ℕ × ℕ)) (from : ℕ) (runs : List Run) : Type 0 where
+  pub most : from ≤ length cells
+  pub each : All (IsRun cells) runs
+  pub whole : flat_map (cells_of cells) runs ≡ take from cells
+
+take-further : (from to : ℕ) (cells : List (ℕ × ℕ)) → from ≤ to → take from cells ++ take (to - from) (drop from cells) ≡ take to cells
+take-further from to cells le =
+    let e : from + (to - from) ≡ to = omega arith in
+    ap (λ (list : List (ℕ × ℕ)). take from cells ++ list) (sym (drop-take from (to - from) cells) ∙ ap (λ (n : ℕ). drop from (take n cells)) e)
+    ∙ ap (λ (list : List (ℕ × ℕ)). list ++ drop from (take to cells)) (sym (take-take from to cells le))
+    ∙ take-append-drop from (take to cells)
+
+-- one run more
+pub AreRuns-more : (cells : List (ℕ × ℕ)) (from : ℕ) (runs : List Run) (run : Run) → AreRuns cells from runs → run.from ≡ from → IsRun cells run → AreRuns cells run.to (runs ++ run ∷ [])
+AreRuns-more cells from runs run are is one = record {
+  most = one.most;
+  each = All-push (IsRun cells) runs run are.each one;
+  whole =
+      flat_map-append (cells_of cells) runs (run ∷ [])
+      ∙ ap (λ (list : List (ℕ × ℕ)). flat_map (cells_of cells) runs ++ list) (append-nil (cells_of cells run))
+      ∙ ap (λ (list : List (ℕ × ℕ)). list ++ cells_of cells run) are.whole
+      ∙ ap (λ (n : ℕ). take from cells ++ take (run.to - n) (drop n cells)) is
+      ∙ take-further from run.to cells (omega (arith, is, one.some));
+}
+
+-- ---- a run that grows
+
+-- places in a row, and one more
+places_from-last : (place n : ℕ) → places_from place (suc n) ≡ places_from place n ++ (place + n) ∷ []
+places_from-last place zero = let same : place ≡ place + 0 = omega arith in ap (λ (p : ℕ). p ∷ []) same
+places_from-last place (suc n) =
+    let last : place + 1 + n ≡ place + suc n = omega arith in
+    ap (λ (list : List ℕ). place ∷ list) (places_from-last (place + 1) n) ∙ ap (λ (p : ℕ). place ∷ (places_from (place + 1) n ++ p ∷ [])) last
+
+-- a cell at the place behind a row makes the row longer
+pub row-more : (cells : List (ℕ × ℕ)) (place from to : ℕ) → from ≤ to → to < length cells → places_of (take (to - from) (drop from cells)) ≡ places_from place (to - from)
+    → (get_or cells to (0, 0)).0 ≡ place + (to - from) → places_of (take (to + 1 - from) (drop from cells)) ≡ places_from place (to + 1 - from)
+row-more cells place from to le lt row is =
+    let n = to - from in
+    let more : to + 1 - from ≡ suc n = omega arith in
+    let within : n < length (drop from cells) = omega (arith, length-drop from cells) in
+    let there : from + n ≡ to = omega arith in
+    let behind : suc n ≡ n + 1 = omega arith in
+    let at : get_or (drop from cells) n (0, 0) ≡ get_or cells to (0, 0) = get_or-drop from cells n (0, 0) ∙ ap (λ (k : ℕ). get_or cells k (0, 0)) there in
+    let longer : take (suc n) (drop from cells) ≡ take n (drop from cells) ++ get_or cells to (0, 0) ∷ [] =
+    ap (λ (k : ℕ). take k (drop from cells)) behind ∙ take_more (drop from cells) n (0, 0) within ∙ ap (λ (cell : ℕ × ℕ). take n (drop from cells) ++ cell ∷ []) at in
+    ap (λ (k : ℕ). places_of (take k (drop from cells))) more
+    ∙ ap places_of longer
+    ∙ map-append (λ (cell : ℕ × ℕ). cell.0) (take n (drop from cells)) (get_or cells to (0, 0) ∷ [])
+    ∙ ap (λ (list : List ℕ). list ++ (get_or cells to (0, 0)).0 ∷ []) row
+    ∙ ap (λ (p : ℕ). places_from place n ++ p ∷ []) is
+    ∙ sym (places_from-last place n)
+    ∙ ap (places_from place) (sym more)
+
+-- ---- runs by rising place
+
+-- places in a row, and behind them what rises from there on
+RisesFrom-row : (low place n : ℕ) (rest : List ℕ) → low ≤ place → RisesFrom (place + n) rest → RisesFrom low (places_from place n ++ rest)
+RisesFrom-row low place zero rest le rise = RisesFrom-lower low (place + 0) rest (omega arith) rise
+RisesFrom-row low place (suc n) rest le rise =
+    let high : place + suc n ≡ place + 1 + n = omega arith in
+    (le, RisesFrom-row (place + 1) (place + 1) n rest (omega arith) (subst (λ (high : ℕ). RisesFrom high rest) high rise))
+
+-- each place of a row is in it
+times-row : (p place n : ℕ) → place ≤ p → p < place + n → 1 ≤ count_by (λ k. k == p) (places_from place n)
+times-row p place zero le lt = absurd (omega arith)
+times-row p place (suc n) le lt =
+    let counted = sum_by-cons (λ k. cond (k == p) 1 0) place (places_from (place + 1) n) in
+    elim (cases_eq place p) [
+      | inl e ↦ let one = ap (λ (t : Bool). cond {A = ℕ} t 1 0) (eq-eqb place p e) in omega (arith, counted, one)
+      | inr ne ↦ let later = times-row p (place + 1) n (omega (arith, le, ne)) (omega arith) in omega (arith, counted, later)
+    ]
+
+module _ (cells : List (ℕ × ℕ)) where
+  abbrev times : ℕ → List (ℕ × ℕ) → ℕ
+  times p list = count_by (λ cell. cell.0 == p) list
+
+  times-run : (run : Run) (p : ℕ) → IsRun cells run → run.place ≤ p → p < run.place + (run.to - run.from) → 1 ≤ times p (cells_of cells run)
+  times-run run p is le lt =
+      let same = sym (times-places p (cells_of cells run)) ∙ ap (count_by (λ (k : ℕ). k == p)) is.row in
+      omega (arith, same, times-row p run.place (run.to - run.from) le lt)
+
+  times-first : (run : Run) (runs : List Run) (p : ℕ) → times p (flat_map (cells_of cells) (run ∷ runs)) ≡ times p (cells_of cells run) + times p (flat_map (cells_of cells) runs)
+  times-first run runs p = sum_by-append (λ cell. cond (cell.0 == p) 1 0) (cells_of cells run) (flat_map (cells_of cells) runs)
+
+  -- the next of two runs begins behind the first one, where no place is in both
+  next_run : (run other : Run) (runs : List Run) → IsRun cells run → IsRun cells other → run.place ≤ other.place
+      → times other.place (flat_map (cells_of cells) (run ∷ other ∷ runs)) ≤ 1 → run.place + (run.to - run.from) ≤ other.place
+  next_run run other runs is is_other le once = elim (cases_lt other.place (run.place + (run.to - run.from))) [
+    | inl lt ↦
+        let here = times-run run other.place is le lt in
+        let there = times-run other other.place is_other (omega arith) (omega (arith, is_other.some)) in
+        absurd (omega (arith, here, there, once, times-first run (other ∷ runs) other.place, times-first other runs other.place))
+    | inr ge ↦ ge
+  ]
+
+  abbrev BeginsAt : ℕ → List Run → Type 0
+  BeginsAt low [] = Unit {0}
+  BeginsAt low (run ∷ runs) = low ≤ run.place
+
+  -- so the cells of runs by rising place rise, where no place is listed twice
+  RisesFrom-runs : (low : ℕ) (runs : List Run) → All (IsRun cells) runs → IsNonDecreasingBy (λ run. run.place) runs
+      → ((p : ℕ) → times p (flat_map (cells_of cells) runs) ≤ 1) → BeginsAt low runs → RisesFrom low (places_of (flat_map (cells_of cells) runs))
+  RisesFrom-runs low [] are sorted once begins = tt
+  RisesFrom-runs low (run ∷ runs) are sorted once begins =
+      let is = All-head (IsRun cells) run runs are in
+      let high = run.place + (run.to - run.from) in
+      let rest = places_of (flat_map (cells_of cells) runs) in
+      let parts : places_of (flat_map (cells_of cells) (run ∷ runs)) ≡ places_from run.place (run.to - run.from) ++ rest =
+      map-append (λ (cell : ℕ × ℕ). cell.0) (cells_of cells run) (flat_map (cells_of cells) runs) ∙ ap (λ (list : List ℕ). list ++ rest) is.row in
+      subst (RisesFrom low) (sym parts) (RisesFrom-row low run.place (run.to - run.from) rest begins
+      (RisesFrom-runs high runs (All-tail (IsRun cells) run runs are) (λ i j d le lt. sorted (suc i) (suc j) d (omega arith) (omega arith))
+      (λ p. omega (arith, once p, times-first run runs p)) (begins_next runs is (All-tail (IsRun cells) run runs are) sorted once)))
+    where
+      begins_next : (runs : List Run) → IsRun cells run → All (IsRun cells) runs → IsNonDecreasingBy (λ run. run.place) (run ∷ runs)
+          → ((p : ℕ) → times p (flat_map (cells_of cells) (run ∷ runs)) ≤ 1) → BeginsAt (run.place + (run.to - run.from)) runs
+      begins_next [] is are sorted once = tt
+      begins_next (other ∷ runs) is are sorted once =
+          next_run run other runs is (All-head (IsRun cells) other runs are) (sorted 0 1 run (omega arith) (omega arith)) (once other.place)
+
+  pub rising : (runs : List Run) → All (IsRun cells) runs → IsNonDecreasingBy (λ run. run.place) runs → ((p : ℕ) → times p (flat_map (cells_of cells) runs) ≤ 1)
+      → RisesFrom 0 (places_of (flat_map (cells_of cells) runs))
+  rising runs are sorted once = RisesFrom-runs 0 runs are sorted once (begins runs)
+    where
+      begins : (runs : List Run) → BeginsAt 0 runs
+      begins [] = tt
+      begins (run ∷ runs) = omega arith

@@ -1,0 +1,191 @@
+ghost use Rattle.std.specs.Prelude.{◌≡◌, ◌<◌, ◌≤◌, ◌^◌, ℕ, List, [], ◌∷◌, Option, Some, IfOk, length, map};
+ghost use Rattle.std.specs.Arc.{arc_value};
+ghost use Rattle.asc_traj.specs.Content.{longest};
+ghost use Rattle.asc_traj.specs.Serial.{Serial, serial_reply};
+ghost use Rattle.asc_traj.specs.Finder.{IsJump, Tally, tally_after, Tells, Plan};
+
+use crate::{Entry, jump_longest};
+use asc_shape::State;
+use std::marker::Model;
+use std::sync::Arc;
+
+/// Finds jumps of states, which are plain runs.
+pub trait Finder {
+    /// How often it was asked, how many steps it gave, and how often it found a jump.
+    ghost tally: { Self → Tally };
+
+    /// Its replies so far, where it tells them.
+    ghost replies: { Self → Option (List (Option ℕ)) };
+
+    /// What was made for it.
+    ghost plan: { Self → Plan };
+
+    /// The machine that it is, where it tells that.
+    ghost machine: { Self → Option Serial };
+
+    /// Jumps ahead by at most `left` steps, and answers by how many; where it finds no jump the state stays.
+    fn jump(&mut self, state: &mut State, left: u64) -> Option<u64>
+        requires left { left ≤ 2 ^ 40 }
+        requires asked { (tally self.old).asked < 2 ^ 62 }
+        requires given { (tally self.old).given < 2 ^ 62 }
+        ensures jump { IsJump result left state.old state.new }
+        ensures tally { tally self.new ≡ tally_after (tally self.old) result }
+        ensures replies { Tells (result ∷ []) (replies self.old) (replies self.new) }
+        ensures plan { plan self.new ≡ plan self.old }
+        ensures machine { machine self.new ≡ machine self.old }
+        ensures longest { (m : Serial) → machine self.old ≡ Some m → result ≡ serial_reply m state.old left };
+
+    /// How often it was asked.
+    fn asked(&self) -> u64
+        ensures { result ≡ (tally self.now).asked };
+
+    /// How many steps it gave.
+    fn given(&self) -> u64
+        ensures { result ≡ (tally self.now).given };
+
+    /// How often it found a jump.
+    fn hits(&self) -> u64
+        ensures hits { result ≡ (tally self.now).hits }
+        ensures few { result ≤ (tally self.now).asked };
+}
+
+/// It finds no jump.
+///
+/// Contracts see it as the number of times that it was asked.
+#[derive(Drop)]
+pub struct Nothing {
+    asked: u64,
+}
+
+impl Model for Nothing {
+    ghost use Rattle.std.specs.Prelude.{ℕ};
+
+    ghost Value = { ℕ };
+
+    ghost view = { λ s. s.asked };
+}
+
+impl Nothing {
+    /// It was not asked yet.
+    pub fn new() -> Nothing
+        ensures { result ≡ 0 }
+    {
+        Nothing { asked: 0 }
+    }
+}
+
+impl Finder for Nothing {
+    ghost use Rattle.std.specs.Prelude.{None};
+
+    ghost tally = { λ asked. record { asked = asked; given = 0; hits = 0 } };
+
+    ghost replies = { λ _. None };
+
+    ghost plan = { λ _. record { made = 0; refused = 0; full = 0; seen = None } };
+
+    ghost machine = { λ _. None };
+
+    fn jump(&mut self, _state: &mut State, _left: u64) -> Option<u64> {
+        self.asked += 1;
+        None
+    }
+
+    fn asked(&self) -> u64 {
+        self.asked
+    }
+
+    fn given(&self) -> u64 {
+        0
+    }
+
+    fn hits(&self) -> u64 {
+        0
+    }
+}
+
+/// It finds the longest jump of a list of shared entries.
+#[derive(Drop)]
+pub struct ListFinder {
+    entries: Vec<Arc<Entry>>,
+    asked: u64,
+    given: u64,
+    hits: u64,
+}
+
+impl Model for ListFinder {
+    ghost use Rattle.std.specs.Prelude.{◌≤◌, map};
+    ghost use Rattle.std.specs.Arc.{arc_value};
+    ghost use Rattle.asc_traj.specs.Finders.{Listed};
+
+    ghost Value = { Listed };
+
+    ghost view = { λ s. record {
+      entries = map arc_value s.entries.items;
+      tally = record { asked = s.asked; given = s.given; hits = s.hits };
+    } };
+
+    ghost invariant = { λ s. s.hits ≤ s.asked };
+}
+
+impl ListFinder {
+    /// A finder over these entries, which was not asked yet.
+    pub fn new(entries: Vec<Arc<Entry>>) -> ListFinder
+        ensures { result ≡ record {
+          entries = map arc_value entries.items;
+          tally = record { asked = 0; given = 0; hits = 0 };
+        } }
+    {
+        ListFinder {
+            entries,
+            asked: 0,
+            given: 0,
+            hits: 0,
+        }
+    }
+}
+
+impl Finder for ListFinder {
+    ghost use Rattle.std.specs.Prelude.{None};
+
+    ghost tally = { λ s. s.tally };
+
+    ghost replies = { λ _. None };
+
+    ghost plan = { λ _. record { made = 0; refused = 0; full = 0; seen = None } };
+
+    ghost machine = { λ _. None };
+
+    fn jump(&mut self, state: &mut State, left: u64) -> Option<u64>
+        requires left { left ≤ 2 ^ 40 }
+        requires asked { self.old.tally.asked < 2 ^ 62 }
+        requires given { self.old.tally.given < 2 ^ 62 }
+        ensures entries { self.new.entries ≡ self.old.entries }
+        ensures found { result ≡ longest self.old.entries state.old left }
+        ensures jump { IsJump result left state.old state.new }
+        ensures tally { self.new.tally ≡ tally_after self.old.tally result }
+        ensures replies { Tells (result ∷ []) None None }
+        ensures plan { Unit {0} }
+        ensures machine { Unit {0} }
+        ensures longest { (m : Serial) → None ≡ Some m → result ≡ serial_reply m state.old left }
+    {
+        self.asked += 1;
+        let found = jump_longest(&self.entries, state, left);
+        if let Some(steps) = found {
+            self.given += steps;
+            self.hits += 1;
+        }
+        found
+    }
+
+    fn asked(&self) -> u64 {
+        self.asked
+    }
+
+    fn given(&self) -> u64 {
+        self.given
+    }
+
+    fn hits(&self) -> u64 {
+        self.hits
+    }
+}
