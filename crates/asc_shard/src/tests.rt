@@ -1,0 +1,204 @@
+ghost use Rattle.std.specs.Prelude.{◌≡◌, ◌<◌, ◌≤◌, ◌+◌};
+ghost use Rattle.asc_traj.specs.Trace.{StandsFor};
+
+use crate::find::Probes;
+use crate::{Inserted, Shard};
+use asc_depvec::Tracer;
+use asc_shape::{Shape, State, Steps};
+use asc_traj::{Entry, Never, Stop, Traced, trace};
+use std::alloc::Global;
+use std::marker::Brand;
+use std::process::Abort;
+use std::sync::Arc;
+use std::sync::ledger::{Blank, Ledger};
+
+/// It counts probes up to 2^64 - 1.
+#[derive(Drop)]
+struct Counter {
+    count: u64,
+}
+
+impl Probes for Counter {
+    ghost count = { λ counter. counter.count };
+
+    fn tick(&mut self) {
+        self.count = self.count.saturating_add(1);
+    }
+}
+
+/// A state of `size` bytes of memory from 0x10000 on, with these words there.
+fn state_of<R: Abort>(rt: &R, alloc: Global, size: u32, words: &[u32]) -> State {
+    let shape = Shape::new(0x10000, size).expect(rt, "a shape");
+    let mut state = State::new(alloc, shape).expect(rt, "memory");
+    state.set_pc(0x10000);
+    let mut at = 0x10000;
+    for word in words {
+        assert!(rt; state.holds(at, 4));
+        state.write(at, &word.to_le_bytes());
+        at = at.wrapping_add(4);
+    }
+    state
+}
+
+/// A loop from 0x10008 on that counts x5 up to x6, two steps a lap.
+fn counting<R: Abort>(rt: &R, alloc: Global, size: u32, x5: u32, x6: u32) -> State {
+    let words = [0x0000_0293, 0x0040_0313, 0x0012_8293, 0xFE62_9EE3];
+    let mut state = state_of(rt, alloc, size, &words);
+    state.set_pc(0x10008);
+    state.set_reg(5, x5);
+    state.set_reg(6, x6);
+    state
+}
+
+/// A load of the word at x10.
+fn loading<R: Abort>(rt: &R, alloc: Global, x10: u32) -> State {
+    let mut state = state_of(rt, alloc, 65_536, &[0x0005_2303]);
+    state.set_reg(10, x10);
+    state
+}
+
+/// A trace of a state, until so many laps at 0x10008 or so many steps.
+fn traced<R: Abort>(rt: &R, alloc: Global, from: &State, laps: u64, span: u64) -> (Traced, Tracer)
+    ensures { StandsFor result.0.steps result.1 }
+{
+    assert!(rt; laps >= 1 && span >= 1);
+    let mut tracer = Tracer::new(alloc, from.shape(), 96).expect(rt, "memory");
+    tracer.start(from);
+    let stop = Stop {
+        pc: 0x10008,
+        laps,
+        span,
+    };
+    let traced = trace(&mut tracer, &stop, &mut Never);
+    (traced, tracer)
+}
+
+/// The entry of such a trace.
+fn entry_of<R: Abort>(rt: &R, alloc: Global, from: &State, laps: u64, span: u64) -> Arc<Entry> {
+    let (traced, tracer) = traced(rt, alloc, from, laps, span);
+    assert!(rt; traced.steps >= 1);
+    Entry::of(alloc, &tracer, traced.steps).expect(rt, "memory")
+}
+
+/// The entry of so many laps of the counting loop.
+fn laps_from<R: Abort>(rt: &R, alloc: Global, x5: u32, x6: u32, laps: u64) -> Arc<Entry> {
+    let state = counting(rt, alloc, 65_536, x5, x6);
+    entry_of(rt, alloc, &state, laps, 100)
+}
+
+/// A shard for so many entries.
+fn shard_of<R: Abort>(rt: &R, alloc: Global, capacity: usize) -> Shard {
+    assert!(rt; (1..=4096).contains(&capacity));
+    Shard::new(alloc, capacity).expect(rt, "memory")
+}
+
+/// The entry at a position has the reads of this one.
+fn has<R: Abort>(rt: &R, shard: &Shard, i: usize, entry: &Entry) {
+    assert!(rt; i < shard.len());
+    assert_eq!(rt; shard.entry(i).reads(), entry.reads());
+}
+
+#[test]
+fn bounded(rt: HostRuntime) {
+    let alloc = rt.alloc();
+    let mut shard = shard_of(&rt, alloc, 2);
+    for x5 in 0..3 {
+        let inserted = shard.insert(laps_from(&rt, alloc, x5, 100, 1));
+        assert_eq!(rt; inserted, Inserted::Stored);
+    }
+    let first = laps_from(&rt, alloc, 0, 100, 1);
+    let second = laps_from(&rt, alloc, 1, 100, 1);
+    let third = laps_from(&rt, alloc, 2, 100, 1);
+    assert_eq!(rt; (shard.len(), shard.capacity()), (2, 2));
+    has(&rt, &shard, 0, &second);
+    has(&rt, &shard, 1, &third);
+    assert_eq!(rt;
+        shard.insert(laps_from(&rt, alloc, 2, 100, 1)),
+        Inserted::Known
+    );
+    has(&rt, &shard, 0, &second);
+    assert_eq!(rt;
+        shard.insert(laps_from(&rt, alloc, 0, 100, 1)),
+        Inserted::Stored
+    );
+    assert_eq!(rt; shard.len(), 2);
+    has(&rt, &shard, 0, &third);
+    has(&rt, &shard, 1, &first);
+}
+
+#[test]
+fn jumps(rt: HostRuntime) {
+    let alloc = rt.alloc();
+    let mut shard = shard_of(&rt, alloc, 8);
+    for laps in 1..3 {
+        shard.insert(laps_from(&rt, alloc, 0, 4, laps));
+    }
+    for (left, size, given, x5) in [
+        (4, 65_536, Some(4), 2),
+        (3, 65_536, Some(2), 1),
+        (1, 65_536, None, 0),
+        (4, 65_540, None, 0),
+    ] {
+        let mut state = counting(&rt, alloc, size, 0, 4);
+        assert_eq!(rt; shard.jump(&mut state, left), given);
+        assert_eq!(rt; (state.pc(), state.reg(5)), (0x10008, x5));
+    }
+}
+
+#[test]
+fn grouped(rt: HostRuntime) {
+    let alloc = rt.alloc();
+    let mut shard = shard_of(&rt, alloc, 8);
+    for x5 in 0..8 {
+        shard.insert(laps_from(&rt, alloc, x5, 100, 1));
+    }
+    let state = counting(&rt, alloc, 65_536, 5, 100);
+    let mut probes = Counter { count: 0 };
+    assert_eq!(rt; shard.find_by(&state, 2, &mut probes), Some(5));
+    assert!(rt; probes.count <= 5, "{} probes", probes.count);
+    assert_eq!(rt; shard.find_by(&state, 1, &mut probes), None);
+}
+
+#[test]
+fn apart(rt: HostRuntime) {
+    let alloc = rt.alloc();
+    let mut shard = shard_of(&rt, alloc, 64);
+    for k in 0..64 {
+        let state = loading(&rt, alloc, 0x10100 + 8 * k);
+        shard.insert(entry_of(&rt, alloc, &state, 9, 1));
+    }
+    let mut probes = Counter { count: 0 };
+    let state = loading(&rt, alloc, 0x10100 + 8 * 21);
+    assert_eq!(rt; shard.find_by(&state, 1, &mut probes), Some(21));
+    assert!(rt; probes.count <= 3, "{} probes", probes.count);
+    let mut probes = Counter { count: 0 };
+    let state = loading(&rt, alloc, 0x10104);
+    assert_eq!(rt; shard.find_by(&state, 1, &mut probes), None);
+    assert_eq!(rt; probes.count, 0);
+}
+
+/// Finds an entry of two steps, counting probes by a ledger.
+fn find<L: Ledger, R: Abort>(rt: &R, alloc: Global, blank: Blank) -> Option<usize>
+    requires name { blank.name ≡ L.name }
+    requires parts { blank.parts ≡ L.parts }
+    requires some { 0 < L.parts }
+{
+    let mut shard = shard_of(rt, alloc, 1);
+    shard.insert(laps_from(rt, alloc, 0, 4, 1));
+    let mut steps = Steps::<L>::new(blank);
+    shard.find(&counting(rt, alloc, 65_536, 0, 4), 2, &mut steps)
+}
+
+#[test]
+fn finds(rt: HostRuntime) {
+    let found = find::<Brand, _>(&rt, rt.alloc(), Blank::new(1));
+    assert_eq!(rt; found, Some(0));
+}
+
+/// It does nothing. Its call shows that threads may share values of a type, and hand them on.
+fn is_shared<T: Send + Sync>(_value: &T) {}
+
+#[test]
+fn shared(rt: HostRuntime) {
+    is_shared(&shard_of(&rt, rt.alloc(), 1));
+}
