@@ -14,8 +14,9 @@ For each loop it prints the processor's time, the least of five runs: for a step
 trace of all steps, and for `start` of a tracer of a state of 1 MiB.
 
 With --count it prints the processor's instructions, as `valgrind --tool=callgrind` counts them and independent of load,
-and STEPS is 200,000 where it is not given: for a step of a `State` by `step`, and of a trace; and with traces of 1000 steps how
-many places they touch, and what they cost more a touched place for the first touch with `reset`, and for `Entry::of`.
+and STEPS is 200,000 where it is not given: for a step of a `State` by `step`, and of a trace; and with traces of 1000
+steps how many places they touch, and what they cost more a touched place for the first touch with `reset`, and for
+`Entry::of`.
 """
 
 import os

@@ -1,0 +1,221 @@
+#!/usr/bin/env python3
+"""Times look-ups in a shard beside a scan of a list of entries, outside the gate.
+
+    python3 bench/shards.py
+
+A program over `asc_shard` is added to a copy of the crates under it in a temporary folder, proved and built there with
+`rt run`, and run. It makes 1,024 entries of a loop over 272 bytes of memory, and looks for the longest that matches a
+state: with `longest_match`, which compares entry after entry, and with `Shard::find`. For each kind of entries and of
+answer it prints the processor's nanoseconds of a look-up, the least of three runs, and their ratio:
+
+    one   all entries read the same places, and differ in a register
+    own   all read different places of memory
+    hit   one of the entries matches the state
+    miss  none does
+"""
+
+import resource
+import shutil
+import subprocess
+import sys
+import tempfile
+from pathlib import Path
+
+ROOT = Path(__file__).resolve().parent.parent
+
+# ---------------------------------------------------------------------------------------------------------------------
+# The program
+
+NEEDED = "asc_model asc_shape asc_depvec asc_isa asc_step asc_traj asc_shard"
+
+LINE = "asc_looks: asc_shard asc_traj asc_depvec asc_shape asc_model\n"
+
+MAIN = """\
+//! Look-ups, timed from outside.
+#![tactic(auto)]
+
+ghost use Rattle.std.specs.Prelude.{◌≡◌, ◌<◌, ◌≤◌, IfSome};
+ghost use Rattle.asc_traj.specs.Trace.{StandsFor};
+
+use asc_depvec::Tracer;
+use asc_shape::{Shape, State, Steps};
+use asc_shard::Shard;
+use asc_traj::{Entry, Never, Stop, Traced, longest_match, trace};
+use std::alloc::Global;
+use std::env;
+use std::marker::Brand;
+use std::process::ExitCode;
+use std::sync::Arc;
+use std::sync::ledger::{Blank, Ledger};
+
+/// A loop of 68 turns: a load of a word, two additions, a counter and a branch.
+const WORDS: [u32; 5] = [
+    0x0005_2383,
+    0x0045_0513,
+    0x0014_8493,
+    0xFFF2_8293,
+    0xFE02_98E3,
+];
+
+fn state_of(alloc: Global, x9: u32, x10: u32) -> Option<State> {
+    let shape = Shape::new(0x10000, 65_536).ok()?;
+    let mut state = State::new(alloc, shape).ok()?;
+    state.set_pc(0x10000);
+    let mut at: u32 = 0x10000;
+    for word in &WORDS {
+        if state.holds(at, 4) {
+            state.write(at, &word.to_le_bytes());
+        }
+        at = at.wrapping_add(4);
+    }
+    state.set_reg(5, 68);
+    state.set_reg(9, x9);
+    state.set_reg(10, x10);
+    Some(state)
+}
+
+fn traced(alloc: Global, from: &State) -> Option<(Traced, Tracer)>
+    ensures { IfSome result (λ t. StandsFor t.0.steps t.1) }
+{
+    let mut tracer = Tracer::new(alloc, from.shape(), 4096).ok()?;
+    tracer.start(from);
+    let stop = Stop { pc: 0x10014, laps: 1, span: 1000 };
+    let traced = trace(&mut tracer, &stop, &mut Never);
+    Some((traced, tracer))
+}
+
+fn entry_of(alloc: Global, from: &State) -> Option<Arc<Entry>> {
+    let (traced, tracer) = traced(alloc, from)?;
+    if traced.steps == 0 {
+        return None;
+    }
+    Entry::of(alloc, &tracer, traced.steps).ok()
+}
+
+fn start(alloc: Global, mode: u64, k: u32) -> Option<State> {
+    if mode == 0 {
+        state_of(alloc, k, 0x11000)
+    } else {
+        state_of(alloc, 0, u32::wrapping_add(0x11000, u32::wrapping_mul(4, k)))
+    }
+}
+
+fn fill(alloc: Global, mode: u64, shard: &mut Shard, list: &mut Vec<Arc<Entry>>) -> Option<usize> {
+    let mut reads = 0;
+    for k in 0..1024u32 {
+        let state = start(alloc, mode, k)?;
+        let entry = entry_of(alloc, &state)?;
+        reads = entry.reads().len();
+        list.push(Arc::try_clone(&entry).ok()?).ok()?;
+        shard.insert(entry);
+    }
+    Some(reads)
+}
+
+fn measured<L: Ledger>(alloc: Global, blank: Blank, given: [u64; 4]) -> Option<(u64, usize)>
+    requires name { blank.name ≡ L.name }
+    requires parts { blank.parts ≡ L.parts }
+    requires some { 0 < L.parts }
+{
+    let mut steps = Steps::<L>::new(blank);
+    let mut shard = Shard::new(alloc, 1024).ok()?;
+    let mut list: Vec<Arc<Entry>> = Vec::new(alloc);
+    let reads = fill(alloc, given[0], &mut shard, &mut list)?;
+    let k = if given[2] == 1 { 1000 } else { 3000 };
+    let mut state = start(alloc, given[0], k)?;
+    let mut total: u64 = 0;
+    for round in 0..given[3] {
+        state.set_reg(7, (round % 1024) as u32);
+        let found = if given[1] == 0 {
+            longest_match(&list, &state, 100_000).is_some()
+        } else {
+            shard.find(&state, 100_000, &mut steps).is_some()
+        };
+        total = total.wrapping_add(u64::from(found));
+    }
+    Some((total, reads))
+}
+
+fn numbers(rt: &HostRuntime) -> Option<[u64; 4]> {
+    let mut found = [0; 4];
+    let mut words = env::args(rt).ok()?;
+    let _ = words.next();
+    for number in &mut found {
+        *number = words.next()?.parse().ok()?;
+    }
+    Some(found)
+}
+
+fn main(rt: HostRuntime) -> ExitCode {
+    let Some(given) = numbers(&rt) else {
+        return ExitCode::FAILURE;
+    };
+    let Some(got) = measured::<Brand>(rt.alloc(), Blank::new(1), given) else {
+        return ExitCode::FAILURE;
+    };
+    match println!(rt; "{} {}", got.0, got.1) {
+        Ok(()) => ExitCode::SUCCESS,
+        Err(_) => ExitCode::FAILURE,
+    }
+}
+"""
+
+INVARIANTS = """\
+use Rattle.asc_looks.proofs.main.Given as goal
+
+abbrev pub ghosts-measured : goal.ghosts-measured
+ghosts-measured a = record { name = a.blank.name; parts = a.blank.parts }
+"""
+
+def build(folder):
+    """Builds the program in a copy of the crates that it stands on, and answers its path."""
+    lines = (ROOT / "crates.txt").read_text().splitlines(True)
+    needed = [line for line in lines if line.split(":")[0] in NEEDED.split()]
+    Path(folder, "crates.txt").write_text("".join(needed) + LINE)
+    shutil.copy(ROOT / "HANDLES", folder)
+    for crate in NEEDED.split():
+        shutil.copytree(ROOT / "crates" / crate, Path(folder, "crates", crate))
+    crate = Path(folder, "crates", "asc_looks")
+    (crate / "src").mkdir(parents=True)
+    (crate / "src/main.rt").write_text(MAIN)
+    (crate / "proofs/main").mkdir(parents=True)
+    (crate / "proofs/main/Invariants.antt").write_text(INVARIANTS)
+    command = ["rt", "run", "--", "0", "0", "0", "0"]
+    done = subprocess.run(command, cwd=crate, stdout=subprocess.PIPE, stderr=subprocess.STDOUT, text=True)
+    if done.returncode != 0:
+        sys.exit(done.stdout)
+    return crate / "out/asc_looks"
+
+# ---------------------------------------------------------------------------------------------------------------------
+# Measuring
+
+SCAN, FIND = range(2)
+
+def seconds(command):
+    """The processor's seconds of a run, the least of three."""
+    least = None
+    for _ in range(3):
+        before = resource.getrusage(resource.RUSAGE_CHILDREN)
+        subprocess.run(command, capture_output=True, check=True)
+        after = resource.getrusage(resource.RUSAGE_CHILDREN)
+        taken = after.ru_utime - before.ru_utime + after.ru_stime - before.ru_stime
+        least = taken if least is None else min(least, taken)
+    return least
+
+def nanoseconds(path, kind, what, hits, rounds):
+    """What a look-up costs beyond the program's beginning."""
+    words = lambda count: [str(path), *map(str, (kind, what, hits, count))]
+    return (seconds(words(rounds)) - seconds(words(0))) / rounds * 1e9
+
+def main():
+    with tempfile.TemporaryDirectory() as folder:
+        path = build(folder)
+        print("              scan    find  ratio")
+        for kind, places in enumerate(("one", "own")):
+            for hits, answer in ((1, "hit"), (0, "miss")):
+                scan = nanoseconds(path, kind, SCAN, hits, 5000)
+                find = nanoseconds(path, kind, FIND, hits, 50000)
+                print(f"{places}  {answer:6}{scan:8.0f}{find:8.0f}{scan / find:7.1f}", flush=True)
+
+if __name__ == "__main__":
+    main()
