@@ -17,6 +17,7 @@ use Rattle.asc_model.specs.Entry.{Entry}
 use Rattle.asc_traj.specs.Content.{matches}
 use Rattle.asc_shard.specs.declared.mark.Mask.{Mask}
 use Rattle.asc_shard.specs.declared.mark.Mark.{Mark}
+use Rattle.asc_shard.specs.Content.{raised}
 use Rattle.asc_shard.specs.Marks.{mixed, has_place, byte_in, bits_of, print_of, mask_of, print_by, mark_of, may_match}
 
 -- ---- one place more
@@ -189,7 +190,7 @@ unmatched s e h = elim (cases_Bool (matches s e)) [
 pub not-longer : (matched within longer : Bool) → matched ≡ false → false ≡ (matched && within && longer)
 not-longer matched within longer h = ap (λ b. b && within && longer) (sym h)
 
-pub one-where : (b : Bool) → b ≡ true → (let n : ℕ = (if b then 1 else 0) in n) ≡ 1
+one-where : (b : Bool) → b ≡ true → (let n : ℕ = (if b then 1 else 0) in n) ≡ 1
 one-where true h = refl
 one-where false h = absurd (false≢true h)
 
@@ -257,3 +258,13 @@ marks-without xs marks are = ap (λ list. remove list 0) are ∙ without xs
     without : (list : List (Arc Entry Global)) → remove (map mark_of (map arc_value list)) 0 ≡ map mark_of (map arc_value (remove list 0))
     without [] = refl
     without (y ∷ list) = refl
+
+-- one probe more, where an entry may match
+pub raised-more : (more : ℕ → ℕ) (b : Bool) (times count : ℕ) → (if b then more (raised more times count) else raised more times count) ≡ raised more (times + (if b then 1 else 0)) count
+raised-more more true times count = ap (λ n. raised more n count) (sym (add-one times))
+raised-more more false times count = ap (λ n. raised more n count) (sym (add-zero times))
+
+-- a count that rises by one each time
+pub raised-by-one : (times count : ℕ) → raised (λ n. n + 1) times count ≡ count + times
+raised-by-one zero count = sym (add-zero count)
+raised-by-one (suc times) count = let before = raised-by-one times count in omega (arith, before)

@@ -1,7 +1,7 @@
 ghost use Rattle.std.specs.Prelude.{◌≡◌, ℕ, ◌+◌, ◌<◌, ◌≤◌, ◌&&◌, nat_le, nat_lt, All, length, map, count_by, slice_index, None, IfSome, IfNone, if◌then◌else◌};
 ghost use Rattle.std.specs.Arc.{arc_value};
 ghost use Rattle.asc_traj.specs.Content.{longest, matches};
-ghost use Rattle.asc_shard.specs.Content.{IsFound};
+ghost use Rattle.asc_shard.specs.Content.{IsFound, raised};
 ghost use Rattle.asc_shard.specs.Marks.{mark_of, may_match, IsPrint};
 
 use crate::mark::{Mark, PLACES, blank, has_print, put_first};
@@ -12,16 +12,21 @@ use std::sync::ledger::Ledger;
 
 /// What counts probes.
 pub trait Probes {
-    /// How many were counted, or fewer.
+    /// The count.
     ghost count: { Self → ℕ };
+
+    /// A count after one probe more.
+    ghost more: { ℕ → ℕ };
 
     /// One probe more.
     fn tick(&mut self)
-        ensures { count self.new ≤ count self.old + 1 };
+        ensures { count self.new ≡ more (count self.old) };
 }
 
 impl<L: Ledger> Probes for Steps<L> {
     ghost count = { λ steps. steps };
+
+    ghost more = { λ count. count + 1 };
 
     fn tick(&mut self) {
         Steps::tick(self);
@@ -34,6 +39,8 @@ pub struct Uncounted;
 
 impl Probes for Uncounted {
     ghost count = { λ _. 0 };
+
+    ghost more = { λ count. count };
 
     fn tick(&mut self) {}
 }
@@ -52,7 +59,7 @@ pub fn search<P: Probes>(
     ensures none { IfNone result (longest (map arc_value entries.now) state.now left ≡ None) }
     ensures some { IfSome result (IsFound (map arc_value entries.now) state.now left) }
     ensures probes { P.count probes.new
-        ≤ P.count probes.old + count_by (may_match state.now) (map arc_value entries.now) }
+        ≡ raised P.more (count_by (may_match state.now) (map arc_value entries.now)) (P.count probes.old) }
 {
     let mut bytes = [0; PLACES];
     put_first(state, &mut bytes);
@@ -79,7 +86,7 @@ fn look<P: Probes>(
     ensures none { IfNone result (longest (map arc_value entries.now) state.now left ≡ None) }
     ensures some { IfSome result (IsFound (map arc_value entries.now) state.now left) }
     ensures probes { P.count probes.new
-        ≤ P.count probes.old + count_by (may_match state.now) (map arc_value entries.now) }
+        ≡ raised P.more (count_by (may_match state.now) (map arc_value entries.now)) (P.count probes.old) }
 {
     let mut best = None;
     let mut most = 0;
@@ -114,7 +121,7 @@ fn probe<P: Probes>(
     ensures least { 1 ≤ entry.now.steps }
     ensures right { All (IsPrint (slice_index bytes.now)) made.new }
     ensures probes { P.count probes.new
-        ≤ P.count probes.old + (if may_match state.now entry.now then 1 else 0) }
+        ≡ (if may_match state.now entry.now then P.more (P.count probes.old) else P.count probes.old) }
 {
     entry.truth();
     if has_print(mark, bytes, made) {

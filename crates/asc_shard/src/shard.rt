@@ -6,7 +6,7 @@ ghost use Rattle.asc_model.specs.Entry.{IsTrueEntry};
 ghost use Rattle.asc_traj.specs.Finder.{IsJump};
 ghost use Rattle.asc_traj.specs.Content.{longest};
 ghost use Rattle.asc_shard.specs.Marks.{may_match};
-ghost use Rattle.asc_shard.specs.Content.{add, outcome_of, is_same_entry, IsContent, IsFound};
+ghost use Rattle.asc_shard.specs.Content.{add, outcome_of, is_same_entry, IsContent, IsFound, raised};
 
 use crate::find::{Probes, Uncounted, search};
 use crate::mark::{Mark, mark_of};
@@ -103,7 +103,7 @@ impl Shard {
     pub fn find<L: Ledger>(&self, state: &State, left: u64, probes: &mut Steps<L>) -> Option<usize>
         ensures none { IfNone result (longest self.now.held state.now left ≡ None) }
         ensures some { IfSome result (IsFound self.now.held state.now left) }
-        ensures probes { probes.new ≤ probes.old + count_by (may_match state.now) self.now.held }
+        ensures probes { probes.new ≡ probes.old + count_by (may_match state.now) self.now.held }
     {
         self.find_by(state, left, probes)
     }
@@ -118,7 +118,7 @@ impl Shard {
         ensures none { IfNone result (longest self.now.held state.now left ≡ None) }
         ensures some { IfSome result (IsFound self.now.held state.now left) }
         ensures probes { P.count probes.new
-            ≤ P.count probes.old + count_by (may_match state.now) self.now.held }
+            ≡ raised P.more (count_by (may_match state.now) self.now.held) (P.count probes.old) }
     {
         search(&self.entries, &self.marks, state, left, probes)
     }

@@ -1,4 +1,5 @@
 ghost use Rattle.std.specs.Prelude.{◌≡◌, ◌<◌, ◌≤◌, ◌+◌};
+ghost use Rattle.asc_shape.specs.Outside.{one_more};
 ghost use Rattle.asc_traj.specs.Trace.{StandsFor};
 
 use crate::find::Probes;
@@ -20,6 +21,8 @@ struct Counter {
 
 impl Probes for Counter {
     ghost count = { λ counter. counter.count };
+
+    ghost more = { one_more };
 
     fn tick(&mut self) {
         self.count = self.count.saturating_add(1);
@@ -155,7 +158,7 @@ fn grouped(rt: HostRuntime) {
     let state = counting(&rt, alloc, 65_536, 5, 100);
     let mut probes = Counter { count: 0 };
     assert_eq!(rt; shard.find_by(&state, 2, &mut probes), Some(5));
-    assert!(rt; probes.count <= 5, "{} probes", probes.count);
+    assert_eq!(rt; probes.count, 1);
     assert_eq!(rt; shard.find_by(&state, 1, &mut probes), None);
 }
 
@@ -170,7 +173,7 @@ fn apart(rt: HostRuntime) {
     let mut probes = Counter { count: 0 };
     let state = loading(&rt, alloc, 0x10100 + 8 * 21);
     assert_eq!(rt; shard.find_by(&state, 1, &mut probes), Some(21));
-    assert!(rt; probes.count <= 3, "{} probes", probes.count);
+    assert_eq!(rt; probes.count, 1);
     let mut probes = Counter { count: 0 };
     let state = loading(&rt, alloc, 0x10104);
     assert_eq!(rt; shard.find_by(&state, 1, &mut probes), None);
