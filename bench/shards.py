@@ -5,13 +5,17 @@
 
 A program over `asc_shard` is added to a copy of the crates under it in a temporary folder, proved and built there with
 `rt run`, and run. It makes 1,024 entries of a loop over 272 bytes of memory, and looks for the longest that matches a
-state: with `longest_match`, which compares entry after entry, and with `Shard::find`. For each kind of entries and of
-answer it prints the processor's nanoseconds of a look-up, the least of three runs, and their ratio:
+state: with `longest_match`, which compares entry after entry, and with `Shard::find`. All entries read the same
+registers. For each kind of entries and of answer it prints the processor's nanoseconds of a look-up, the least of three
+runs, and their ratio:
 
-    one   all entries read the same places, and differ in a register
-    own   all read different places of memory
+    one   all read the same memory, and differ in a register
+    own   each reads memory from another word on, and they differ in the register that points there
+    same  all read the same memory, and differ in its first word alone, so that no fingerprint tells them apart
     hit   one of the entries matches the state
     miss  none does
+
+It ends with an error where an answer is not the one that it must be, or an entry does not read 308 places.
 """
 
 import resource
@@ -57,7 +61,7 @@ const WORDS: [u32; 5] = [
     0xFE02_98E3,
 ];
 
-fn state_of(alloc: Global, x9: u32, x10: u32) -> Option<State> {
+fn state_of(alloc: Global, x9: u32, x10: u32, first: u32) -> Option<State> {
     let shape = Shape::new(0x10000, 65_536).ok()?;
     let mut state = State::new(alloc, shape).ok()?;
     state.set_pc(0x10000);
@@ -67,6 +71,9 @@ fn state_of(alloc: Global, x9: u32, x10: u32) -> Option<State> {
             state.write(at, &word.to_le_bytes());
         }
         at = at.wrapping_add(4);
+    }
+    if state.holds(x10, 4) {
+        state.write(x10, &first.to_le_bytes());
     }
     state.set_reg(5, 68);
     state.set_reg(9, x9);
@@ -93,10 +100,10 @@ fn entry_of(alloc: Global, from: &State) -> Option<Arc<Entry>> {
 }
 
 fn start(alloc: Global, mode: u64, k: u32) -> Option<State> {
-    if mode == 0 {
-        state_of(alloc, k, 0x11000)
-    } else {
-        state_of(alloc, 0, u32::wrapping_add(0x11000, u32::wrapping_mul(4, k)))
+    match mode {
+        0 => state_of(alloc, k, 0x11000, 0),
+        1 => state_of(alloc, 0, u32::wrapping_add(0x11000, u32::wrapping_mul(4, k)), 0),
+        _ => state_of(alloc, 0, 0x11000, k),
     }
 }
 
@@ -191,13 +198,17 @@ def build(folder):
 
 SCAN, FIND = range(2)
 
-def seconds(command):
-    """The processor's seconds of a run, the least of three."""
+READS = 308
+
+def seconds(command, answer):
+    """The processor's seconds of a run that must write this answer, the least of three."""
     least = None
     for _ in range(3):
         before = resource.getrusage(resource.RUSAGE_CHILDREN)
-        subprocess.run(command, capture_output=True, check=True)
+        written = subprocess.run(command, capture_output=True, check=True, text=True).stdout
         after = resource.getrusage(resource.RUSAGE_CHILDREN)
+        if written.split() != answer.split():
+            sys.exit(f"{' '.join(command[1:])}: {written.strip()}, and not {answer}")
         taken = after.ru_utime - before.ru_utime + after.ru_stime - before.ru_stime
         least = taken if least is None else min(least, taken)
     return least
@@ -205,17 +216,18 @@ def seconds(command):
 def nanoseconds(path, kind, what, hits, rounds):
     """What a look-up costs beyond the program's beginning."""
     words = lambda count: [str(path), *map(str, (kind, what, hits, count))]
-    return (seconds(words(rounds)) - seconds(words(0))) / rounds * 1e9
+    answer = lambda count: f"{count * hits} {READS}"
+    return (seconds(words(rounds), answer(rounds)) - seconds(words(0), answer(0))) / rounds * 1e9
 
 def main():
     with tempfile.TemporaryDirectory() as folder:
         path = build(folder)
-        print("              scan    find  ratio")
-        for kind, places in enumerate(("one", "own")):
+        print("               scan    find  ratio")
+        for kind, name in enumerate(("one", "own", "same")):
             for hits, answer in ((1, "hit"), (0, "miss")):
                 scan = nanoseconds(path, kind, SCAN, hits, 5000)
                 find = nanoseconds(path, kind, FIND, hits, 50000)
-                print(f"{places}  {answer:6}{scan:8.0f}{find:8.0f}{scan / find:7.1f}", flush=True)
+                print(f"{name:4}  {answer:6}{scan:8.0f}{find:8.0f}{scan / find:7.1f}", flush=True)
 
 if __name__ == "__main__":
     main()
