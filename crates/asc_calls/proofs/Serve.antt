@@ -6,10 +6,10 @@ use Rattle.std.proofs.lemmas.Bool.{false≢true}
 use Rattle.std.specs.Prelude.{◌==◌, ◌||◌}
 use Rattle.asc_model.specs.State.{State}
 use Rattle.asc_model.specs.Machine.{register, view_of, Register, Memory}
-use Rattle.asc_shape.specs.Outside.{Given, given_after}
+use Rattle.asc_outside.specs.Outside.{Given, given_after}
 use Rattle.asc_shape.specs.State.{state_after, memory_at}
 use Rattle.asc_shape.proofs.States.{shape-state_after}
-use Rattle.asc_shape.proofs.Streams.{given_after-nil, Takes-nil}
+use Rattle.asc_outside.proofs.Streams.{given_after-nil, Takes-nil}
 use Rattle.asc_calls.specs.declared.calls.Served.{Served}
 use Rattle.asc_calls.specs.declared.calls.Served.TheVariants as served
 use Rattle.asc_calls.specs.GuestCall.{nothing, Device, Input, Out, Err, io_of, Went, Exit, early_answer, answered, break_after, result_of, result_of_read, guest_call, negative_answer, no_such_call, state_after_answer}

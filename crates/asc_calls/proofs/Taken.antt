@@ -13,11 +13,11 @@ use Rattle.asc_model.proofs.Numbers.{bytes_after-cells, AreBytes-take, AreBytes-
 use Rattle.asc_model.proofs.Changes.{holds-parts, length-splice, IsMachine-view_of, IsMachine-after_change, view_of-state_of}
 use Rattle.asc_model.proofs.Views.{view_of-memory}
 use Rattle.asc_shape.specs.State.{state_after, memory_at, with_memory}
-use Rattle.asc_shape.specs.declared.outside.Failed.{Failed}
+use Rattle.asc_outside.specs.declared.outside.Failed.{Failed}
 use Rattle.asc_shape.specs.TakesIn.{TakesIn}
-use Rattle.asc_shape.specs.Outside.{Given, given_after}
+use Rattle.asc_outside.specs.Outside.{Given, given_after}
 use Rattle.asc_shape.proofs.States.{changed_is, shape-state_after}
-use Rattle.asc_shape.proofs.Streams.{Takes-nil, Takes-append, given_after-given_after}
+use Rattle.asc_outside.proofs.Streams.{Takes-nil, Takes-append, given_after-given_after}
 use Rattle.asc_calls.specs.World.{CallState}
 use Rattle.asc_calls.specs.Filling.{Fills, TakesInto, Reads}
 

@@ -4,7 +4,7 @@ use Rattle.asc_model.specs.Number.{AreBytes}
 use Rattle.asc_model.specs.State.{State}
 use Rattle.asc_model.specs.Machine.{Memory}
 use Rattle.asc_shape.specs.State.{state_after}
-use Rattle.asc_shape.specs.Outside.{Takes, IsAtEnd, Given, given_after}
+use Rattle.asc_outside.specs.Outside.{Takes, IsAtEnd, Given, given_after}
 use Rattle.asc_calls.specs.World.{CallState}
 
 -- from one state to another these bytes were taken into memory, where a buffer of n bytes begins

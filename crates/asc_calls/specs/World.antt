@@ -1,7 +1,7 @@
 -- All that a run changes: the state, what the calls keep, the devices, and the count of steps.
 use Rattle.std.specs.Prelude.{◌≡◌, ℕ, Bool, IsTrue, MatchBool, List, [], Option, Some, None}
 use Rattle.asc_model.specs.State.{State}
-use Rattle.asc_shape.specs.Outside.{one_more, Takes, IsAtEnd, Given, given_after}
+use Rattle.asc_outside.specs.Outside.{one_more, Takes, IsAtEnd, Given, given_after}
 use Rattle.asc_calls.specs.GuestCall.{Io}
 
 -- What the calls of one run keep: the bounds of the program's break, the break, and whether the end of the input was

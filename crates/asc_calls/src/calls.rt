@@ -1,7 +1,7 @@
 ghost use Rattle.std.specs.Prelude.{◌≡◌, ◌+◌, ◌==◌, ◌||◌, ℕ, List, Option, IsTrue, IfOk, OnErr, length, false};
 ghost use Rattle.asc_model.specs.Shape.{holds};
 ghost use Rattle.asc_model.specs.Machine.{register, view_of};
-ghost use Rattle.asc_shape.specs.Outside.{Given, HasCause};
+ghost use Rattle.asc_outside.specs.Outside.{Given, HasCause};
 ghost use Rattle.asc_calls.specs.GuestCall.{early_answer, state_after_answer, negative_answer};
 ghost use Rattle.asc_calls.specs.World.{CallState, Blames, world};
 ghost use Rattle.asc_calls.specs.Serving.{Serves};

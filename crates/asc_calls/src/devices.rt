@@ -3,7 +3,7 @@
 
 ghost use Rattle.std.specs.Prelude.{◌≡◌, ◌<◌, IsTrue, IfOk, OnOk, OnErr, length};
 ghost use Rattle.asc_model.specs.Shape.{holds};
-ghost use Rattle.asc_shape.specs.Outside.{HasCause, IsAtEnd, given_after};
+ghost use Rattle.asc_outside.specs.Outside.{HasCause, IsAtEnd, given_after};
 ghost use Rattle.asc_calls.specs.Filling.{Fills, FillsPart, PutsPart};
 
 use asc_shape::{Failed, Sink, Source, State};

@@ -1,6 +1,6 @@
 -- What the exit status of the program says.
 use Rattle.std.specs.Prelude.{◌≡◌, ◌≢◌, ℕ, List}
-use Rattle.asc_shape.specs.Outside.{Given, given_after}
+use Rattle.asc_outside.specs.Outside.{Given, given_after}
 use Rattle.asc_calls.specs.World.{Blames}
 use Rattle.asc_calls.specs.Filling.{PutsPart}
 use Rattle.asc_words.specs.Report.{report_text}

@@ -9,7 +9,7 @@ ghost use Rattle.asc_depvec.specs.contracts.tracer.Tracer.{the_row};
 ghost use Rattle.asc_depvec.specs.Tracer.{IsTracing, least_cap, most_cap, face_of, fresh, undone, untouch};
 ghost use Rattle.asc_depvec.specs.Inside.{AreWritten, HaveStatus, status_of, statuses_of, with_statuses};
 
-use asc_shape::{Bytes, Memory, Shape, State, Status};
+use asc_shape::{Bytes, Memory, Shape, State, Status, Words, get_by_bytes, put_by_bytes};
 use std::alloc::Global;
 use std::marker::Model;
 
@@ -174,12 +174,12 @@ impl Tracer {
         // That its state is one, and its marks fit it.
         let _ = Bytes::shape(self);
         if have_mark(&self.marks, place, UNTOUCHED) {
-            let word = Bytes::get_word(&mut self.state, place);
+            let word = Words::get_word(&mut self.state, place);
             note_word(&mut self.touched, place, word);
             mark_word(&mut self.marks, place, READ);
             word
         } else {
-            self.get_bytes(place)
+            get_by_bytes(self, place)
         }
     }
 
@@ -194,52 +194,16 @@ impl Tracer {
         // That its state is one, and its marks fit it.
         let _ = Bytes::shape(self);
         if have_mark(&self.marks, place, UNTOUCHED) {
-            let before = Bytes::get_word(&mut self.state, place);
+            let before = Words::get_word(&mut self.state, place);
             note_word(&mut self.touched, place, before);
             mark_word(&mut self.marks, place, WRITTEN);
-            Bytes::put_word(&mut self.state, place, word);
+            Words::put_word(&mut self.state, place, word);
         } else if have_mark(&self.marks, place, READ) {
             mark_word(&mut self.marks, place, READ_WRITTEN);
-            Bytes::put_word(&mut self.state, place, word);
+            Words::put_word(&mut self.state, place, word);
         } else {
-            self.put_bytes(place, word);
+            put_by_bytes(self, place, word);
         }
-    }
-
-    // The word in the four bytes from a place on, read one after another.
-    #[cold]
-    #[inline(never)]
-    fn get_bytes(&mut self, place: u32) -> u32
-        requires place { place + 4 ≤ length self.old.state.bytes }
-        requires room { 4 ≤ room_of (face_of self.old).marks }
-        ensures word { result ≡ word_at self.old.state.bytes place }
-        ensures face { face_of self.new ≡ face_after_reads (face_of self.old) (places_from place 4) }
-    {
-        // Its shape bounds the places of a state, so that the sums below fit.
-        let _ = Bytes::shape(self);
-        u32::from_le_bytes([
-            self.get(place),
-            self.get(place + 1),
-            self.get(place + 2),
-            self.get(place + 3),
-        ])
-    }
-
-    // Puts a word in the four bytes from a place on, one after another.
-    #[cold]
-    #[inline(never)]
-    fn put_bytes(&mut self, place: u32, word: u32)
-        requires place { place + 4 ≤ length self.old.state.bytes }
-        requires room { 4 ≤ room_of (face_of self.old).marks }
-        ensures face { face_of self.new ≡ face_after_puts (face_of self.old) (cells place (bytes_of 4 word)) }
-    {
-        // Its shape bounds the places of a state, so that the sums below fit.
-        let _ = Bytes::shape(self);
-        let [first, second, third, fourth] = word.to_le_bytes();
-        self.put(place, first);
-        self.put(place + 1, second);
-        self.put(place + 2, third);
-        self.put(place + 3, fourth);
     }
 }
 
@@ -278,14 +242,17 @@ impl Bytes for Tracer {
         self.marks[place as usize] = mark_of(after_write(status));
         self.state.set(place, byte);
     }
+}
 
+/// A word whose four places were touched alike is read and put at once, and any other byte by byte.
+impl Words for Tracer {
     /// Where the four places are touched, a read changes nothing, and the state's own word is read.
     #[inline]
     fn get_word(&mut self, place: u32) -> u32 {
         // That its state is one, and its marks fit it.
         let _ = Bytes::shape(self);
         if are_touched(&self.marks, place) {
-            Bytes::get_word(&mut self.state, place)
+            Words::get_word(&mut self.state, place)
         } else {
             self.get_new(place)
         }
@@ -297,7 +264,7 @@ impl Bytes for Tracer {
         // That its state is one, and its marks fit it.
         let _ = Bytes::shape(self);
         if are_written(&self.marks, place) {
-            Bytes::put_word(&mut self.state, place, word);
+            Words::put_word(&mut self.state, place, word);
         } else {
             self.put_new(place, word);
         }

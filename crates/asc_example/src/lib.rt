@@ -12,7 +12,7 @@ ghost use Rattle.asc_step.specs.Step.{stepped_of};
 ghost use Rattle.asc_step.specs.declared.stepped.Stepped.TheVariants.{Went};
 
 use asc_depvec::Tracer;
-use asc_shape::{Bytes, Memory, Shape, State, Steps};
+use asc_shape::{Bytes, Memory, Shape, State, Steps, Words};
 use asc_step::{Stepped, step};
 use asc_traj::{Entry, Never, Stop, trace};
 use std::alloc::Global;
@@ -118,3 +118,6 @@ impl Bytes for Counted {
         self.puts = self.puts.saturating_add(1);
     }
 }
+
+/// Its words are put byte by byte, and so are counted.
+impl Words for Counted {}

@@ -2,8 +2,8 @@
 use Rattle.std.proofs.Common.{◌≡◌, ℕ, zero, suc, ◌+◌, ◌-◌, ◌<◌, ◌≤◌, List, ◌++◌, Option, Some, None, false, refl, sym, ap, ◌∙◌, subst, arith, add-one, zero-add, suc-add}
 use Rattle.std.proofs.lemmas.List.{append_assoc}
 use Rattle.asc_model.specs.State.{State}
-use Rattle.asc_shape.specs.Outside.{given_after}
-use Rattle.asc_shape.proofs.Streams.{given_after-nil, given_after-given_after, Takes-nil, Takes-append}
+use Rattle.asc_outside.specs.Outside.{given_after}
+use Rattle.asc_outside.proofs.Streams.{given_after-nil, given_after-given_after, Takes-nil, Takes-append}
 use Rattle.asc_calls.specs.GuestCall.{Io, nothing, then_io, Device, guest_call}
 use Rattle.asc_calls.specs.World.{Outside, World, DoesIo, MayCome, KnowsEnd}
 use Rattle.asc_calls.specs.Serving.{IsCutShort}

@@ -5,7 +5,7 @@ use Rattle.std.proofs.lemmas.List.{drop_at}
 use Rattle.asc_model.specs.declared.fault.Fault.{Fault}
 use Rattle.asc_model.specs.State.{State}
 use Rattle.asc_model.specs.Step.{At, Call, Bad, next}
-use Rattle.asc_shape.specs.Outside.{Given, Takes, IsAtEnd}
+use Rattle.asc_outside.specs.Outside.{Given, Takes, IsAtEnd}
 use Rattle.asc_calls.specs.declared.calls.Served.{Served}
 use Rattle.asc_calls.specs.declared.calls.Served.TheVariants as served
 use Rattle.asc_calls.specs.GuestCall.{Io, nothing, then_io, Device, Input, Out, Err, CallResult}

@@ -1,7 +1,7 @@
 -- What a walk does to the world.
 use Rattle.std.specs.Prelude.{◌≡◌, ℕ, ◌+◌, ◌<◌, List, ◌++◌, Option, None, false}
 use Rattle.asc_model.specs.State.{State}
-use Rattle.asc_shape.specs.Outside.{Given}
+use Rattle.asc_outside.specs.Outside.{Given}
 use Rattle.asc_elf.specs.Image.{Image, high_of}
 use Rattle.asc_calls.specs.GuestCall.{Io, then_io, IsBeginning, Device}
 use Rattle.asc_calls.specs.World.{CallState, World, world, DoesIo, MayCome, KnowsEnd}

@@ -1,7 +1,5 @@
 pub mod Faces
 pub mod States
-pub mod Streams
-pub mod Lists
 pub mod Made
 pub mod Pages
 pub mod Copies

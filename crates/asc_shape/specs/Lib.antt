@@ -1,9 +1,6 @@
 pub mod Shape
 pub mod State
 pub mod Face
-pub mod Outside
-pub mod Lists
-pub mod Course
 pub mod Pages
 pub mod Inside
 pub mod Stride

@@ -1,8 +1,8 @@
 -- What taking bytes of a source into memory does.
 use Rattle.std.specs.Prelude.{◌≡◌, ℕ, ◌≤◌, List, length, take, drop, Option, Result, IfOk, OnErr}
 use Rattle.asc_model.specs.State.{State}
-use Rattle.asc_shape.specs.declared.outside.Failed.{Failed}
-use Rattle.asc_shape.specs.Outside.{Takes}
+use Rattle.asc_outside.specs.declared.outside.Failed.{Failed}
+use Rattle.asc_outside.specs.Outside.{Takes}
 use Rattle.asc_shape.specs.State.{memory_at, with_memory}
 
 -- one call of a source took bytes into the n bytes from an address on, which are `held` afterwards

@@ -1,8 +1,6 @@
-ghost use Rattle.std.specs.Prelude.{◌≡◌, ◌+◌, ◌<◌, ◌≤◌, length, slice_index};
-ghost use Rattle.asc_model.specs.Number.{bytes_of, word_at};
+ghost use Rattle.std.specs.Prelude.{◌≡◌, ◌<◌, ◌≤◌, length, slice_index};
 ghost use Rattle.asc_model.specs.State.{IsState};
-ghost use Rattle.asc_model.specs.Places.{places_from, cells};
-ghost use Rattle.asc_shape.specs.Face.{Face, FitPlaces, face_after_read, face_after_put, face_after_reads, face_after_puts, room_of};
+ghost use Rattle.asc_shape.specs.Face.{Face, FitPlaces, face_after_read, face_after_put, room_of};
 
 use crate::Shape;
 
@@ -36,36 +34,4 @@ pub trait Bytes {
         requires place { place < length (face self.old).state.bytes }
         requires room { 1 ≤ room_of (face self.old).marks }
         ensures face { face self.new ≡ face_after_put (face self.old) place byte };
-
-    /// The word in the four bytes from a place on, the lowest byte first.
-    fn get_word(&mut self, place: u32) -> u32
-        requires place { place + 4 ≤ length (face self.old).state.bytes }
-        requires room { 4 ≤ room_of (face self.old).marks }
-        ensures word { result ≡ word_at (face self.old).state.bytes place }
-        ensures face { face self.new ≡ face_after_reads (face self.old) (places_from place 4) }
-    {
-        // Its shape bounds the places of a state, so that the sums below fit.
-        let _ = self.shape();
-        u32::from_le_bytes([
-            self.get(place),
-            self.get(place + 1),
-            self.get(place + 2),
-            self.get(place + 3),
-        ])
-    }
-
-    /// Puts a word in the four bytes from a place on, the lowest byte first.
-    fn put_word(&mut self, place: u32, word: u32)
-        requires place { place + 4 ≤ length (face self.old).state.bytes }
-        requires room { 4 ≤ room_of (face self.old).marks }
-        ensures face { face self.new ≡ face_after_puts (face self.old) (cells place (bytes_of 4 word)) }
-    {
-        // Its shape bounds the places of a state, so that the sums below fit.
-        let _ = self.shape();
-        let [first, second, third, fourth] = word.to_le_bytes();
-        self.put(place, first);
-        self.put(place + 1, second);
-        self.put(place + 2, third);
-        self.put(place + 3, fourth);
-    }
 }

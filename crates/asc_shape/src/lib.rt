@@ -1,39 +1,28 @@
-//! The state of a machine, how code reads and writes it, and the traits of the outside with their objects in memory.
+//! The state of a machine, its snapshots, and how code reads and writes it.
 #![tactic(auto)]
 
 mod bytes;
-mod count_sink;
-mod failures;
-mod gate;
 mod laws;
-mod list_sink;
-mod list_source;
-mod list_store;
-mod outside;
-#[cfg(test)]
-mod outside_tests;
 mod page;
 mod pair;
 mod shape;
 mod snapshot;
 mod state;
 mod steps;
-mod sure_source;
 #[cfg(test)]
 mod tests;
+mod words;
 
 pub use asc_model::{Status, Version};
+pub use asc_outside::{
+    CountSink, Failed, Gate, ListSink, ListSource, ListStore, Loaded, Memory, Open, Point, Sink,
+    Source, Store, StoreFault, SureSource,
+};
 pub use bytes::Bytes;
-pub use count_sink::CountSink;
-pub use gate::{Gate, Open, Point};
 pub use laws::good_shapes_are_made;
-pub use list_sink::ListSink;
-pub use list_source::ListSource;
-pub use list_store::ListStore;
-pub use outside::{Failed, Loaded, Memory, Sink, Source, Store, StoreFault};
 pub use pair::Pair;
 pub use shape::{LEAST_SIZE, MOST_SIZE, PAGE_SIZE, Shape, ShapeFault};
 pub use snapshot::Snapshot;
 pub use state::State;
 pub use steps::Steps;
-pub use sure_source::SureSource;
+pub use words::{Words, get_by_bytes, put_by_bytes};

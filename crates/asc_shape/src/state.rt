@@ -10,14 +10,14 @@ ghost use Rattle.std.specs.Borrow.{Lends, Array, sem, u8 as byte};
 ghost use Rattle.asc_shape.specs.contracts.state.State.{the_row};
 ghost use Rattle.asc_shape.specs.Pages.{IsMarked, IsBaseOf, IsBlank, IsBlankGroup, IsUnmarked, IsRestored, base_bytes};
 ghost use Rattle.asc_shape.specs.Stride.{strided};
-ghost use Rattle.asc_shape.specs.Outside.{HasCause, IsAtEnd};
+ghost use Rattle.asc_outside.specs.Outside.{HasCause, IsAtEnd};
 ghost use Rattle.asc_shape.specs.TakesIn.{TakesIn};
 ghost use Rattle.asc_shape.specs.State.{with_memory, zero_state, state_after, memory_at};
 
 use crate::page::{
     GROUP, PAGE, elements_are_bytes, group_ends, is_unmarked, put_page, stride_page,
 };
-use crate::{Bytes, Failed, Memory, Pair, Shape, Snapshot, Source};
+use crate::{Bytes, Failed, Memory, Pair, Shape, Snapshot, Source, Words};
 use std::alloc::Global;
 use std::marker::Model;
 use std::sync::Arc;
@@ -373,7 +373,10 @@ impl Bytes for State {
         let _ = State::shape(self);
         self.set(place, byte);
     }
+}
 
+/// It reads and writes a word at once.
+impl Words for State {
     #[inline]
     fn get_word(&mut self, place: u32) -> u32 {
         let _ = State::shape(self);

@@ -1,5 +1,5 @@
 ghost use Rattle.std.specs.Prelude.{◌≡◌, ◌<◌, ◌≤◌, ◌+◌};
-ghost use Rattle.asc_shape.specs.Outside.{one_more};
+ghost use Rattle.asc_outside.specs.Outside.{one_more};
 ghost use Rattle.asc_traj.specs.Trace.{StandsFor};
 
 use crate::find::Probes;

@@ -17,11 +17,11 @@ use crate::places::{
     is_reserved, put_number, read_number, read_word, release, reserve, set_pc, set_register,
 };
 use crate::{FaultKind, Stepped};
-use asc_shape::{Bytes, Shape};
+use asc_shape::{Shape, Words};
 
 /// Carries out the effect of the instruction at this pc.
 #[inline(always)]
-pub(crate) fn finish<B: Bytes>(bytes: &mut B, pc: u32, rd: u8, effect: Effect) -> Stepped
+pub(crate) fn finish<B: Words>(bytes: &mut B, pc: u32, rd: u8, effect: Effect) -> Stepped
     requires rd { rd < 32 }
     requires at { AtInstruction (B.face bytes.old) pc }
     requires version { IsOfVersion (B.face bytes.old).state.shape.version (model_effect effect) }
@@ -57,7 +57,7 @@ pub(crate) fn finish<B: Bytes>(bytes: &mut B, pc: u32, rd: u8, effect: Effect) -
 
 /// Goes on behind the instruction, with a value in its destination.
 #[inline(always)]
-fn go_on<B: Bytes>(bytes: &mut B, pc: u32, rd: u8, value: u32)
+fn go_on<B: Words>(bytes: &mut B, pc: u32, rd: u8, value: u32)
     requires rd { rd < 32 }
     requires length { 128 ≤ length (B.face bytes.old).state.bytes }
     requires touched { untouched_count (B.face bytes.old).marks (places_from 0 4) ≡ 0 }
@@ -69,7 +69,7 @@ fn go_on<B: Bytes>(bytes: &mut B, pc: u32, rd: u8, value: u32)
 }
 
 #[inline(always)]
-fn set<B: Bytes>(bytes: &mut B, pc: u32, rd: u8, value: u32) -> Stepped
+fn set<B: Words>(bytes: &mut B, pc: u32, rd: u8, value: u32) -> Stepped
     requires rd { rd < 32 }
     requires at { AtInstruction (B.face bytes.old) pc }
     requires room { 14 ≤ room_of (B.face bytes.old).marks }
@@ -80,7 +80,7 @@ fn set<B: Bytes>(bytes: &mut B, pc: u32, rd: u8, value: u32) -> Stepped
 }
 
 #[inline(always)]
-fn load<B: Bytes>(bytes: &mut B, pc: u32, rd: u8, size: Size, signed: bool, address: u32) -> Stepped
+fn load<B: Words>(bytes: &mut B, pc: u32, rd: u8, size: Size, signed: bool, address: u32) -> Stepped
     requires rd { rd < 32 }
     requires at { AtInstruction (B.face bytes.old) pc }
     requires room { 14 ≤ room_of (B.face bytes.old).marks }
@@ -97,7 +97,7 @@ fn load<B: Bytes>(bytes: &mut B, pc: u32, rd: u8, size: Size, signed: bool, addr
 }
 
 #[inline(always)]
-fn store<B: Bytes>(bytes: &mut B, pc: u32, size: Size, address: u32, value: u32) -> Stepped
+fn store<B: Words>(bytes: &mut B, pc: u32, size: Size, address: u32, value: u32) -> Stepped
     requires at { AtInstruction (B.face bytes.old) pc }
     requires room { 14 ≤ room_of (B.face bytes.old).marks }
     ensures { (rd : ℕ) → Finishes (B.face bytes.old) (B.face bytes.new) rd
@@ -113,7 +113,7 @@ fn store<B: Bytes>(bytes: &mut B, pc: u32, size: Size, address: u32, value: u32)
 }
 
 #[inline(always)]
-fn jump<B: Bytes>(bytes: &mut B, pc: u32, rd: u8, target: u32) -> Stepped
+fn jump<B: Words>(bytes: &mut B, pc: u32, rd: u8, target: u32) -> Stepped
     requires rd { rd < 32 }
     requires at { AtInstruction (B.face bytes.old) pc }
     requires room { 14 ≤ room_of (B.face bytes.old).marks }
@@ -136,7 +136,7 @@ fn atomic_fault(shape: Shape, address: u32, outside: FaultKind) -> Option<FaultK
 }
 
 #[inline(always)]
-fn load_reserved<B: Bytes>(bytes: &mut B, pc: u32, rd: u8, address: u32) -> Stepped
+fn load_reserved<B: Words>(bytes: &mut B, pc: u32, rd: u8, address: u32) -> Stepped
     requires rd { rd < 32 }
     requires at { AtInstruction (B.face bytes.old) pc }
     requires room { 14 ≤ room_of (B.face bytes.old).marks }
@@ -153,7 +153,7 @@ fn load_reserved<B: Bytes>(bytes: &mut B, pc: u32, rd: u8, address: u32) -> Step
 }
 
 #[inline(always)]
-fn store_conditional<B: Bytes>(bytes: &mut B, pc: u32, rd: u8, address: u32, value: u32) -> Stepped
+fn store_conditional<B: Words>(bytes: &mut B, pc: u32, rd: u8, address: u32, value: u32) -> Stepped
     requires rd { rd < 32 }
     requires at { AtInstruction (B.face bytes.old) pc }
     requires version { (B.face bytes.old).state.shape.version ≡ Two }
@@ -175,7 +175,7 @@ fn store_conditional<B: Bytes>(bytes: &mut B, pc: u32, rd: u8, address: u32, val
 }
 
 #[inline(always)]
-fn modify<B: Bytes>(bytes: &mut B, pc: u32, rd: u8, amo: Amo, address: u32, value: u32) -> Stepped
+fn modify<B: Words>(bytes: &mut B, pc: u32, rd: u8, amo: Amo, address: u32, value: u32) -> Stepped
     requires rd { rd < 32 }
     requires at { AtInstruction (B.face bytes.old) pc }
     requires room { 14 ≤ room_of (B.face bytes.old).marks }

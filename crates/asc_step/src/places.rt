@@ -10,7 +10,7 @@ ghost use Rattle.asc_step.specs.Effect.{bytes_in};
 ghost use Rattle.asc_step.specs.Execute.{Puts};
 
 use crate::effect::Size;
-use asc_shape::Bytes;
+use asc_shape::Words;
 
 /// The place of the reserved address.
 const RESERVED: u32 = 128;
@@ -20,7 +20,7 @@ const VALID: u32 = 132;
 
 /// The word in the four bytes from a place on.
 #[inline(always)]
-pub(crate) fn read_word<B: Bytes>(bytes: &mut B, place: u32) -> u32
+pub(crate) fn read_word<B: Words>(bytes: &mut B, place: u32) -> u32
     requires place { place + 4 ≤ length (B.face bytes.old).state.bytes }
     requires room { 4 ≤ room_of (B.face bytes.old).marks }
     ensures value { result ≡ word_at (B.face bytes.old).state.bytes place }
@@ -32,7 +32,7 @@ pub(crate) fn read_word<B: Bytes>(bytes: &mut B, place: u32) -> u32
 
 /// The number in as many bytes from a place on as the size says.
 #[inline(always)]
-pub(crate) fn read_number<B: Bytes>(bytes: &mut B, place: u32, size: Size) -> u32
+pub(crate) fn read_number<B: Words>(bytes: &mut B, place: u32, size: Size) -> u32
     requires place { place + bytes_in size ≤ length (B.face bytes.old).state.bytes }
     requires room { 4 ≤ room_of (B.face bytes.old).marks }
     ensures value { result ≡ number_at (bytes_in size) (B.face bytes.old).state.bytes place }
@@ -50,7 +50,7 @@ pub(crate) fn read_number<B: Bytes>(bytes: &mut B, place: u32, size: Size) -> u3
 
 /// The number in two bytes from a place on.
 #[inline(always)]
-fn read_half<B: Bytes>(bytes: &mut B, place: u32) -> u32
+fn read_half<B: Words>(bytes: &mut B, place: u32) -> u32
     requires place { place + 2 ≤ length (B.face bytes.old).state.bytes }
     requires room { 4 ≤ room_of (B.face bytes.old).marks }
     ensures value { result ≡ number_at 2 (B.face bytes.old).state.bytes place }
@@ -65,7 +65,7 @@ fn read_half<B: Bytes>(bytes: &mut B, place: u32) -> u32
 
 /// Puts the lowest bytes of a number from a place on, as many as the size says.
 #[inline(always)]
-pub(crate) fn put_number<B: Bytes>(bytes: &mut B, place: u32, size: Size, value: u32)
+pub(crate) fn put_number<B: Words>(bytes: &mut B, place: u32, size: Size, value: u32)
     requires place { place + bytes_in size ≤ length (B.face bytes.old).state.bytes }
     requires room { 4 ≤ room_of (B.face bytes.old).marks }
     ensures { B.face bytes.new ≡ face_after_puts (B.face bytes.old)
@@ -80,7 +80,7 @@ pub(crate) fn put_number<B: Bytes>(bytes: &mut B, place: u32, size: Size, value:
 
 /// Puts the lowest two bytes of a number from a place on.
 #[inline(always)]
-fn put_half<B: Bytes>(bytes: &mut B, place: u32, value: u32)
+fn put_half<B: Words>(bytes: &mut B, place: u32, value: u32)
     requires place { place + 2 ≤ length (B.face bytes.old).state.bytes }
     requires room { 4 ≤ room_of (B.face bytes.old).marks }
     ensures { B.face bytes.new ≡ face_after_puts (B.face bytes.old) (cells place (bytes_of 2 value)) }
@@ -95,7 +95,7 @@ fn put_half<B: Bytes>(bytes: &mut B, place: u32, value: u32)
 /// x\[k\]. Register 0 is 0, and no place is read for it.
 #[inline(always)]
 #[tactic(auto, using(crate::proofs::Touches::reads_none, crate::proofs::Touches::register_read))]
-pub(crate) fn register<B: Bytes>(bytes: &mut B, k: u8) -> u32
+pub(crate) fn register<B: Words>(bytes: &mut B, k: u8) -> u32
     requires k { k < 32 }
     requires length { 128 ≤ length (B.face bytes.old).state.bytes }
     requires room { 4 ≤ room_of (B.face bytes.old).marks }
@@ -109,7 +109,7 @@ pub(crate) fn register<B: Bytes>(bytes: &mut B, k: u8) -> u32
 
 /// Sets the pc.
 #[inline(always)]
-pub(crate) fn set_pc<B: Bytes>(bytes: &mut B, value: u32)
+pub(crate) fn set_pc<B: Words>(bytes: &mut B, value: u32)
     requires length { 128 ≤ length (B.face bytes.old).state.bytes }
     requires room { 4 ≤ room_of (B.face bytes.old).marks }
     ensures { Puts (B.face bytes.old) (B.face bytes.new) (Pc value ∷ []) }
@@ -120,7 +120,7 @@ pub(crate) fn set_pc<B: Bytes>(bytes: &mut B, value: u32)
 /// Sets x\[k\]. Setting register 0 changes nothing.
 #[inline(always)]
 #[tactic(auto, using(crate::proofs::Touches::puts_none))]
-pub(crate) fn set_register<B: Bytes>(bytes: &mut B, k: u8, value: u32)
+pub(crate) fn set_register<B: Words>(bytes: &mut B, k: u8, value: u32)
     requires k { k < 32 }
     requires length { 128 ≤ length (B.face bytes.old).state.bytes }
     requires room { 4 ≤ room_of (B.face bytes.old).marks }
@@ -133,7 +133,7 @@ pub(crate) fn set_register<B: Bytes>(bytes: &mut B, k: u8, value: u32)
 
 /// Whether an address is reserved, in version Two.
 #[inline(always)]
-pub(crate) fn is_reserved<B: Bytes>(bytes: &mut B, address: u32) -> bool
+pub(crate) fn is_reserved<B: Words>(bytes: &mut B, address: u32) -> bool
     requires version { (B.face bytes.old).state.shape.version ≡ Two }
     requires length { 136 ≤ length (B.face bytes.old).state.bytes }
     requires room { 5 ≤ room_of (B.face bytes.old).marks }
@@ -148,7 +148,7 @@ pub(crate) fn is_reserved<B: Bytes>(bytes: &mut B, address: u32) -> bool
 
 /// Reserves an address.
 #[inline(always)]
-pub(crate) fn reserve<B: Bytes>(bytes: &mut B, address: u32)
+pub(crate) fn reserve<B: Words>(bytes: &mut B, address: u32)
     requires length { 136 ≤ length (B.face bytes.old).state.bytes }
     requires room { 5 ≤ room_of (B.face bytes.old).marks }
     ensures { Puts (B.face bytes.old) (B.face bytes.new) (reserve address ∷ []) }
@@ -159,7 +159,7 @@ pub(crate) fn reserve<B: Bytes>(bytes: &mut B, address: u32)
 
 /// Gives up what is reserved.
 #[inline(always)]
-pub(crate) fn release<B: Bytes>(bytes: &mut B)
+pub(crate) fn release<B: Words>(bytes: &mut B)
     requires length { 136 ≤ length (B.face bytes.old).state.bytes }
     requires room { 1 ≤ room_of (B.face bytes.old).marks }
     ensures { Puts (B.face bytes.old) (B.face bytes.new) (release ∷ []) }

@@ -19,11 +19,11 @@ use crate::places::read_word;
 use crate::version::has_atomics;
 use crate::{FaultKind, Stepped};
 use asc_isa::{Instr, Op, decode_specialized};
-use asc_shape::Bytes;
+use asc_shape::Words;
 
 /// Takes one step as `try_step` does, with code of its own for each operation.
 #[inline]
-pub(crate) fn step_specialized<B: Bytes>(bytes: &mut B) -> Stepped
+pub(crate) fn step_specialized<B: Words>(bytes: &mut B) -> Stepped
     requires room { step_room ≤ room_of (B.face bytes.old).marks }
     ensures { Attempts (B.face bytes.old) (B.face bytes.new) result }
 {
@@ -43,7 +43,7 @@ pub(crate) fn step_specialized<B: Bytes>(bytes: &mut B) -> Stepped
 ///
 /// Each arm does the same: so the compiler makes code of its own for each operation, to which decoding leads at once.
 #[inline]
-fn execute_specialized<B: Bytes>(bytes: &mut B, pc: u32, instruction: Instr) -> Stepped
+fn execute_specialized<B: Words>(bytes: &mut B, pc: u32, instruction: Instr) -> Stepped
     requires registers { HasRegisters instruction }
     requires at { AtInstruction (B.face bytes.old) pc }
     requires version { let s = (B.face bytes.old).state in
@@ -126,7 +126,7 @@ fn execute_specialized<B: Bytes>(bytes: &mut B, pc: u32, instruction: Instr) -> 
 /// Each arm does the same, as in `execute_specialized`. With many more arms the compiler no longer takes this into the
 /// loop of a trace, which then is slower.
 #[inline(always)]
-pub(crate) fn execute_likely<B: Bytes>(bytes: &mut B, pc: u32, instruction: Instr) -> Stepped
+pub(crate) fn execute_likely<B: Words>(bytes: &mut B, pc: u32, instruction: Instr) -> Stepped
     requires registers { HasRegisters instruction }
     requires at { AtInstruction (B.face bytes.old) pc }
     requires version { let s = (B.face bytes.old).state in

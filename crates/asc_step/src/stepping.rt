@@ -10,7 +10,7 @@ use crate::specialized::{execute_likely, step_specialized};
 use crate::version::has_atomics;
 use crate::{FaultKind, Stepped};
 use asc_isa::decode;
-use asc_shape::{Bytes, Steps};
+use asc_shape::{Steps, Words};
 use std::sync::ledger::Ledger;
 
 /// Takes one step, where the program goes on: the instruction at the pc is fetched, decoded and carried out.
@@ -20,7 +20,7 @@ use std::sync::ledger::Ledger;
 /// Decoding is compact, and only the operations that programs do most have code of their own, which is quicker for a
 /// tracer. `step` has code of its own for each operation, which makes a plain step cheaper.
 #[inline(always)]
-pub fn try_step<B: Bytes>(bytes: &mut B) -> Stepped
+pub fn try_step<B: Words>(bytes: &mut B) -> Stepped
     requires room { step_room ≤ room_of (B.face bytes.old).marks }
     ensures { Attempts (B.face bytes.old) (B.face bytes.new) result }
 {
@@ -38,7 +38,7 @@ pub fn try_step<B: Bytes>(bytes: &mut B) -> Stepped
 
 /// Takes one step as `try_step` does, and counts it where the program went on.
 #[inline]
-pub fn step<B: Bytes, L: Ledger>(bytes: &mut B, steps: &mut Steps<L>) -> Stepped
+pub fn step<B: Words, L: Ledger>(bytes: &mut B, steps: &mut Steps<L>) -> Stepped
     requires room { step_room ≤ room_of (B.face bytes.old).marks }
     ensures step { Attempts (B.face bytes.old) (B.face bytes.new) result }
     ensures counter { steps.new ≡ steps.old + counted_steps result }

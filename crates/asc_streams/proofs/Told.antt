@@ -3,7 +3,7 @@ use lib.Seq.{take-append_seam}
 use Rattle.std.proofs.Common.{◌≡◌, ℕ, ◌+◌, ◌-◌, ◌^◌, ◌<◌, ◌≤◌, min, List, [], ◌++◌, length, take, Option, Some, None, is_some, IfSome, IfOk, OnOk, Result, Ok, Err, refl, ap, sym, ◌∙◌, subst, arith, length-append, length-take, option_map}
 use Rattle.std.proofs.lemmas.List.{append-nil, take-append-le, take_all}
 use Rattle.std.specs.Io.KnownBytes.{Keeps, Appends, Consumes}
-use Rattle.asc_shape.specs.Outside.{given_after, Takes}
+use Rattle.asc_outside.specs.Outside.{given_after, Takes}
 use Rattle.asc_streams.specs.Told.{given_of, Remains}
 
 -- what is kept is the same

@@ -2,9 +2,9 @@
 use Rattle.std.specs.Prelude.{◌≡◌, ◌≢◌, ℕ, ◌-◌, ◌^◌, ◌<◌, min, List, length, take, Option, Some, None, option_map}
 use Rattle.std.specs.declared.io.ErrorKind.{ErrorKind}
 use Rattle.std.specs.declared.io.ErrorKind.TheVariants.{OutOfMemory}
-use Rattle.asc_shape.specs.Outside.{Given}
-use Rattle.asc_shape.specs.declared.outside.StoreFault.{StoreFault}
-use Rattle.asc_shape.specs.declared.outside.StoreFault.TheVariants.{Failed, Memory}
+use Rattle.asc_outside.specs.Outside.{Given}
+use Rattle.asc_outside.specs.declared.outside.StoreFault.{StoreFault}
+use Rattle.asc_outside.specs.declared.outside.StoreFault.TheVariants.{Failed, Memory}
 
 -- All bytes that the writer holds but for the last ones, which it took and did not flush, and their number, which
 -- stops at 2 ^ 64 - 1.

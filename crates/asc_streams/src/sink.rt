@@ -1,8 +1,8 @@
 ghost use Rattle.std.specs.Prelude.{◌≡◌};
-ghost use Rattle.asc_shape.specs.Outside.{one_more};
+ghost use Rattle.asc_outside.specs.Outside.{one_more};
 
 use crate::SteadyWrite;
-use asc_shape::{Failed, Sink};
+use asc_outside::{Failed, Sink};
 
 /// A writer as a sink. It was given what the writer tells that it holds, where it tells that.
 ///

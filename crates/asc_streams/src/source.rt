@@ -1,7 +1,7 @@
 ghost use Rattle.std.specs.Prelude.{◌≡◌};
 
 use crate::SteadyRead;
-use asc_shape::{Failed, Source};
+use asc_outside::{Failed, Source};
 
 /// The most bytes that one call takes.
 const PIECE: usize = 4096;

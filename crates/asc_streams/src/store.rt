@@ -1,9 +1,9 @@
 ghost use Rattle.std.specs.Prelude.{◌≡◌, ◌≤◌, ◌<◌, [], vec_len, IfOk, IfErr, IsOkAnd, IsErrAnd, OnErr};
 ghost use Rattle.std.specs.IoError.{error_kind};
-ghost use Rattle.asc_shape.specs.Outside.{HasStoreCause, one_more};
+ghost use Rattle.asc_outside.specs.Outside.{HasStoreCause, one_more};
 ghost use Rattle.asc_streams.specs.Told.{Remains, MoreRemains, IsFaultOf};
 
-use asc_shape::{Loaded, Store, StoreFault};
+use asc_outside::{Loaded, Store, StoreFault};
 use std::fs::File;
 use std::io;
 use std::io::{ErrorKind, Read};

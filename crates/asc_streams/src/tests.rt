@@ -1,7 +1,7 @@
 ghost use Rattle.std.specs.Prelude.{refl};
 
 use crate::{FileStore, SteadyRead, SteadyWrite, StreamSink, StreamSource};
-use asc_shape::{Failed, Loaded, Sink, Source, Store, StoreFault};
+use asc_outside::{Failed, Loaded, Sink, Source, Store, StoreFault};
 use std::fs::File;
 use std::io::{ErrorKind, Read, Write};
 use std::test::Fail;

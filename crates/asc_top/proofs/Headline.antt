@@ -1,7 +1,7 @@
 -- What holds of the answers of a file that was read, and of one that is too long.
 use Rattle.std.proofs.Common.{◌≡◌, ◌≢◌, ℕ, ◌+◌, ◌<◌, ◌≤◌, Option, Some, None, List, length, replicate, refl, sym, ap, subst, arith, inl}
 use Rattle.std.proofs.lemmas.List.{length-replicate}
-use Rattle.asc_shape.specs.Outside.{File, MayHold, MayHoldLonger, AsksFor}
+use Rattle.asc_outside.specs.Outside.{File, MayHold, MayHoldLonger, AsksFor}
 use Rattle.asc_calls.specs.GuestCall.{Device}
 use Rattle.asc_calls.specs.World.{Outside, Agrees, Blames}
 use Rattle.asc_words.specs.Line as command

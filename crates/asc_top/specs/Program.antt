@@ -1,7 +1,7 @@
 -- What a file means as a program, and what `top` does with it.
 use Rattle.std.specs.Prelude.{◌≡◌, ◌≢◌, ◌⊎◌, ℕ, ◌+◌, ◌*◌, ◌<◌, ◌≤◌, List, length, Option, Some, None, Result, Ok, Err, nat_lt, if◌then◌else◌}
 use Rattle.asc_model.specs.declared.fault.Fault.{Fault}
-use Rattle.asc_shape.specs.Outside.{File, MayHold, AsksFor, content_of}
+use Rattle.asc_outside.specs.Outside.{File, MayHold, AsksFor, content_of}
 use Rattle.asc_elf.specs.declared.fault.ElfFault.{ElfFault}
 use Rattle.asc_elf.specs.Image as loader
 use Rattle.asc_calls.specs.GuestCall.{Io, nothing, then_io, IsBeginning, Device, Input, Out, Err as ErrorOut}

@@ -2,7 +2,7 @@ ghost use Rattle.std.specs.Prelude.{◌≡◌, ◌≢◌, ◌<◌, ◌≤◌, �
 ghost use Rattle.std.specs.String.{string_bytes};
 ghost use Rattle.asc_model.specs.declared.fault.Fault.{Fault};
 ghost use Rattle.asc_elf.specs.declared.fault.ElfFault.{ElfFault};
-ghost use Rattle.asc_shape.specs.Outside.{HasCause, given_after};
+ghost use Rattle.asc_outside.specs.Outside.{HasCause, given_after};
 ghost use Rattle.asc_calls.specs.GuestCall.{Device};
 ghost use Rattle.asc_calls.specs.World.{Blames, outside};
 ghost use Rattle.asc_calls.specs.Filling.{PutsPart};

@@ -7,7 +7,7 @@ use Rattle.asc_model.specs.Step.{At}
 use Rattle.asc_model.specs.Plain.{plain}
 use Rattle.asc_model.specs.Reach.{Bounds, GoesOn, bound_met}
 use Rattle.asc_shape.specs.Face.{FitPlaces}
-use Rattle.asc_shape.specs.Outside.{one_more}
+use Rattle.asc_outside.specs.Outside.{one_more}
 use Rattle.asc_depvec.specs.Tracer.{Tracing, face_of, start_of_face}
 use Rattle.asc_depvec.specs.Laws.{HasStatusesOf}
 use Rattle.asc_traj.specs.declared.tracing.Stop.{Stop}

@@ -1,6 +1,6 @@
 -- What holds of the answers of a file that was read, and of one that is too long.
 use Rattle.std.proofs.Common.{◌≡◌, ℕ, List, Ok, ap, subst, sym, arith, ◌∙◌}
-use Rattle.asc_shape.specs.Outside.{AsksFor, MayHold, MayHoldLonger}
+use Rattle.asc_outside.specs.Outside.{AsksFor, MayHold, MayHoldLonger}
 use Rattle.asc_words.specs.Line.{Run as Line}
 use Rattle.asc_top.specs.Program.{file_limit}
 use Rattle.asc_top.proofs.Headline.{answer_of_run, answer_of_long}

@@ -1,5 +1,5 @@
 use Rattle.std.proofs.Common.{◌≡◌, ◌≤◌, take, length, arith, ap, sym, ◌∙◌, length-take}
-use Rattle.asc_shape.specs.Outside.{given_after}
+use Rattle.asc_outside.specs.Outside.{given_after}
 use Rattle.std.proofs.KnownBytes.{Appends-kept}
 use Rattle.asc_streams.specs.Told.{given_of}
 use Rattle.asc_streams.proofs.Told.{kept, kept_none, given_more, given_same}

@@ -1,5 +1,5 @@
 use Rattle.std.proofs.Common.{drop, sym, subst}
-use Rattle.asc_shape.specs.Outside.{Takes}
+use Rattle.asc_outside.specs.Outside.{Takes}
 use Rattle.asc_streams.proofs.Told.{kept, taken, take_copied}
 use Rattle.asc_streams.proofs.source.StreamSourceSource.take.Goals as goal
 

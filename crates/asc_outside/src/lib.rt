@@ -1,0 +1,21 @@
+//! The outside: the traits of sources, sinks, stores and gates, and their objects in memory.
+#![tactic(auto)]
+
+mod count_sink;
+mod failures;
+mod gate;
+mod list_sink;
+mod list_source;
+mod list_store;
+mod outside;
+mod sure_source;
+#[cfg(test)]
+mod tests;
+
+pub use count_sink::CountSink;
+pub use gate::{Gate, Open, Point};
+pub use list_sink::ListSink;
+pub use list_source::ListSource;
+pub use list_store::ListStore;
+pub use outside::{Failed, Loaded, Memory, Sink, Source, Store, StoreFault};
+pub use sure_source::SureSource;

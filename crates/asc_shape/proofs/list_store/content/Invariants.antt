@@ -1,8 +1,0 @@
-use Rattle.std.proofs.Common.{◌≡◌, drop}
-use Rattle.asc_shape.specs.Outside.{content_of}
-use Rattle.asc_shape.specs.Lists.{files_of}
-use Rattle.asc_shape.proofs.list_store.content.Given as goal
-
--- the files from here on give the content that all of them give
-abbrev pub invariant-loop-file : goal.invariant-loop-file
-invariant-loop-file l = content_of (files_of (drop l.file-index l.files)) l.name ≡ content_of (files_of l.files) l.name
