@@ -140,8 +140,8 @@ impl Calls {
         input: &mut I,
     ) -> Result<u32, Failed>
         requires { IsTrue (holds state.old.shape buffer n) }
-        ensures reads { IfOk result
-            (λ count. Reads (I.left input.old) (I.left input.new) state.old state.new buffer n self.old self.new count) }
+        ensures reads { IfOk result (λ count.
+            Reads (I.left input.old) (I.left input.new) state.old state.new buffer n self.old self.new count) }
         ensures part { OnErr result
             (ReadsPart (I.left input.old) (I.left input.new) state.old state.new buffer n self.old self.new) }
         ensures unasked { IsTrue self.old.ended → input.new ≡ input.old }

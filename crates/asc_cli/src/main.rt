@@ -87,9 +87,11 @@ fn status<F: Store, I: Source, O: Sink, E: Sink, R: Sink, G: Gate, L: Ledger>(
 ) -> ExitCode
     // All that holds of the program's answer holds of the one whose code is the status.
     ensures { IsStatus (map string_bytes words.now)
-        (devices (F.files store.old) (F.asked store.old) (outside (I.left input.old) (O.given out.old) (E.given err.old) steps.old)
+        (devices (F.files store.old) (F.asked store.old)
+        (outside (I.left input.old) (O.given out.old) (E.given err.old) steps.old)
         (F.faults store.old) (I.faults input.old) (O.faults out.old) (E.faults err.old))
-        (devices (F.files store.new) (F.asked store.new) (outside (I.left input.new) (O.given out.new) (E.given err.new) steps.new)
+        (devices (F.files store.new) (F.asked store.new)
+        (outside (I.left input.new) (O.given out.new) (E.given err.new) steps.new)
         (F.faults store.new) (I.faults input.new) (O.faults out.new) (E.faults err.new))
         (record { given = R.given report.old; faults = R.faults report.old })
         (record { given = R.given report.new; faults = R.faults report.new }) (exit_status result) }

@@ -6,13 +6,13 @@ ghost use Rattle.asc_shape.specs.Pages.{Fits, IsUnmarked};
 
 use crate::shape::PAGE_SIZE;
 
-// How many places a page has.
+/// How many places a page has.
 pub(crate) const PAGE: usize = PAGE_SIZE as usize;
 
-// How many pages a group has.
+/// How many pages a group has.
 pub(crate) const GROUP: usize = 64;
 
-// The first place of page p, and the place behind its last one.
+/// The first place of page p, and the place behind its last one.
 #[inline]
 pub(crate) fn ends(p: usize, len: usize) -> (usize, usize)
     requires len { len < 2 ^ 32 }
@@ -24,7 +24,7 @@ pub(crate) fn ends(p: usize, len: usize) -> (usize, usize)
     (from, len.min(from + PAGE))
 }
 
-// The first page of group g, and the page behind its last one, of so many pages.
+/// The first page of group g, and the page behind its last one, of so many pages.
 #[inline]
 pub(crate) fn group_ends(g: usize, pages: usize) -> (usize, usize)
     requires pages { pages < 2 ^ 32 }
@@ -36,7 +36,7 @@ pub(crate) fn group_ends(g: usize, pages: usize) -> (usize, usize)
     (from, pages.min(from + GROUP))
 }
 
-// Whether no page of group g is marked.
+/// Whether no page of group g is marked.
 #[inline]
 pub(crate) fn is_unmarked(changed: &[bool], g: usize) -> bool
     requires pages { length changed.now < 2 ^ 32 }
@@ -47,7 +47,7 @@ pub(crate) fn is_unmarked(changed: &[bool], g: usize) -> bool
     !changed[from..to].contains(&true)
 }
 
-// Writes a page over page p. It does nothing where both are known to be blank.
+/// Writes a page over page p. It does nothing where both are known to be blank.
 pub(crate) fn put_page(bytes: &mut [u8], p: usize, page: &[u8], blank: bool)
     requires len { length bytes.old < 2 ^ 32 }
     requires page { p < length bytes.old / 4096 + 1 }
@@ -64,7 +64,7 @@ pub(crate) fn put_page(bytes: &mut [u8], p: usize, page: &[u8], blank: bool)
     }
 }
 
-// Strides the words of page p by those of another page.
+/// Strides the words of page p by those of another page.
 pub(crate) fn stride_page(bytes: &mut [u8], p: usize, prev: &[u8], ahead: u32)
     requires len { length bytes.old < 2 ^ 32 }
     requires whole { length bytes.old % 4 ≡ 0 }
@@ -116,7 +116,7 @@ fn strided(last: u32, prev: u32, ahead: u32) -> u32
     last.wrapping_add(ahead.wrapping_mul(last.wrapping_sub(prev)))
 }
 
-// The word in the four bytes from a place on.
+/// The word in the four bytes from a place on.
 #[inline]
 pub(crate) fn word_in(bytes: &[u8], at: usize) -> u32
     requires { at + 4 ≤ length bytes.now }
@@ -126,7 +126,7 @@ pub(crate) fn word_in(bytes: &[u8], at: usize) -> u32
     u32::from_le_bytes([part[0], part[1], part[2], part[3]])
 }
 
-// The elements of a slice of bytes are bytes.
+/// The elements of a slice of bytes are bytes.
 pub(crate) fn elements_are_bytes(_slice: &[u8])
     ensures { AreBytes _slice.now }
 {}

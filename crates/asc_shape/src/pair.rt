@@ -54,7 +54,7 @@ impl Pair {
         &self.last
     }
 
-    // The pages in which they may differ.
+    /// The pages in which they may differ.
     pub(crate) fn differ(&self) -> &[usize]
         ensures same { self.now.prev.shape ≡ self.now.last.shape }
         ensures last { IsState self.now.last }

@@ -10,10 +10,10 @@ use std::alloc::Global;
 use std::marker::Model;
 use std::sync::Arc;
 
-// A page that is left out is blank.
+/// A page that is left out is blank.
 pub(crate) type Page = Option<Arc<Vec<u8>>>;
 
-// A group of pages that is left out is blank.
+/// A group of pages that is left out is blank.
 pub(crate) type Group = Option<Arc<Vec<Page>>>;
 
 /// A copy of a state that does not change. It can be shared, also by threads, and shares what it has in common with
@@ -51,7 +51,7 @@ impl Snapshot {
         state.snapshot(alloc)
     }
 
-    // The state of these bytes. Pages that are not changed are shared with the base.
+    /// The state of these bytes. Pages that are not changed are shared with the base.
     pub(crate) fn made(
         alloc: Global,
         shape: Shape,
@@ -96,7 +96,7 @@ impl Snapshot {
         }
     }
 
-    // Page p, or nothing where it is left out.
+    /// Page p, or nothing where it is left out.
     pub(crate) fn page(&self, p: usize) -> &[u8]
         requires { p < length_of self.now.shape / 4096 + 1 }
         ensures { IsPage self.now.bytes p result.now }
@@ -110,7 +110,7 @@ impl Snapshot {
         }
     }
 
-    // Whether group g is left out, so that it is blank.
+    /// Whether group g is left out, so that it is blank.
     pub(crate) fn is_blank_group(&self, g: usize) -> bool
         requires { 64 * g < length_of self.now.shape / 4096 + 1 }
         ensures { result ≡ true → IsBlankGroup self.now.bytes g }

@@ -170,8 +170,8 @@ impl State {
         &self.bytes[from..from + n as usize]
     }
 
-    /// The n bytes of memory from an address on, for writing. All pages from there to the end of memory count as changed;
-    /// `write` and `take_in` mark theirs alone.
+    /// The n bytes of memory from an address on, for writing. All pages from there to the end of memory count as
+    /// changed; `write` and `take_in` mark theirs alone.
     pub fn mem_mut(&mut self, at: u32, n: u32) -> &mut [u8]
         requires { IsTrue (holds self.old.shape at n) }
         ensures* writes_back { sem 𝓛 (Lends the_row (Array byte 0) self.entry result (with_memory self.old at)) }
@@ -250,7 +250,7 @@ impl State {
         self.base = None;
     }
 
-    // A copy of this state, which costs what changed since the base.
+    /// A copy of this state, which costs what changed since the base.
     pub(crate) fn snapshot(&self, alloc: Global) -> Result<Arc<Snapshot>, Memory>
         ensures { IfOk result (λ s. s.value ≡ self.now) }
     {
