@@ -34,7 +34,7 @@ pub fn is_longer(entry: &Entry, state: &State, left: u64, most: u64) -> bool
     ensures least { 1 ≤ entry.now.steps }
 {
     entry.truth();
-    entry.matches(state) && entry.steps() <= left && most < entry.steps()
+    most < entry.steps() && entry.steps() <= left && entry.matches(state)
 }
 
 /// Puts an entry that matches, and answers its steps.
