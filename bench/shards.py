@@ -30,7 +30,7 @@ ROOT = Path(__file__).resolve().parent.parent
 # ---------------------------------------------------------------------------------------------------------------------
 # The program
 
-NEEDED = "asc_model asc_shape asc_depvec asc_isa asc_step asc_traj asc_shard"
+NEEDED = "asc_model asc_outside asc_shape asc_depvec asc_isa asc_step asc_traj asc_shard"
 
 LINE = "asc_looks: asc_shard asc_traj asc_depvec asc_shape asc_model\n"
 

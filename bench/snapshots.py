@@ -22,7 +22,7 @@ ROOT = Path(__file__).resolve().parent.parent
 # ---------------------------------------------------------------------------------------------------------------------
 # The program
 
-NEEDED = "asc_model asc_shape"
+NEEDED = "asc_model asc_outside asc_shape"
 
 LINE = "asc_copies: asc_shape\n"
 

@@ -35,7 +35,7 @@ from loops import ROOT, addi, counted, loops, lui, lw, op, sw
 # ---------------------------------------------------------------------------------------------------------------------
 # The program
 
-NEEDED = "asc_model asc_shape asc_depvec asc_isa asc_step asc_traj"
+NEEDED = "asc_model asc_outside asc_shape asc_depvec asc_isa asc_step asc_traj"
 
 LINE = "asc_tracing: asc_traj asc_depvec asc_step asc_shape\n"
 
