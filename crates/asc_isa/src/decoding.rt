@@ -1,6 +1,6 @@
 //! Which instruction a word is (RISC-V unprivileged manual 20191213, chapter 24).
 ghost use Rattle.std.specs.Prelude.{◌≡◌, IfSome};
-ghost use Rattle.asc_model.specs.Instruction.{decode, opcode, funct3, find, base_table, atomic_table};
+ghost use Rattle.asc_model.specs.Instruction.{decode, opcode, find, base_table, atomic_table};
 ghost use Rattle.asc_isa.specs.Decode.{version_of, HasRegisters};
 ghost use Rattle.asc_isa.specs.Rows.{rows_of};
 
@@ -21,35 +21,29 @@ pub fn decode(word: u32, atomics: bool) -> Option<Instr>
 }
 
 /// The instruction of a word, by its opcode. It is not in `decode`, so that what is said of registers is shown once.
-///
-/// The functions for an opcode take funct3 as `minor`, so that a caller that knows it leads to one instruction at once.
 #[inline(always)]
-pub(crate) fn instruction(word: u32, atomics: bool) -> Option<Instr>
+fn instruction(word: u32, atomics: bool) -> Option<Instr>
     ensures { result ≡ decode (version_of atomics) word }
 {
     match opcode(word) {
         0b0110111 => lui(word),
         0b0010111 => auipc(word),
         0b1101111 => jal(word),
-        0b1100111 => jalr(word, funct3(word)),
-        0b1100011 => branch(word, funct3(word)),
-        0b0000011 => load(word, funct3(word)),
-        0b0100011 => store(word, funct3(word)),
-        0b0010011 => op_imm(word, funct3(word)),
-        0b0110011 => op(word, funct3(word)),
-        0b0001111 => misc_mem(word, funct3(word)),
+        0b1100111 => jalr(word),
+        0b1100011 => branch(word),
+        0b0000011 => load(word),
+        0b0100011 => store(word),
+        0b0010011 => op_imm(word),
+        0b0110011 => op(word),
+        0b0001111 => misc_mem(word),
         0b1110011 => system(word),
-        0b0101111 => if atomics {
-            amo(word, funct3(word))
-        } else {
-            None
-        },
+        0b0101111 => if atomics { amo(word) } else { None },
         _ => None,
     }
 }
 
 /// LUI.
-#[inline(always)]
+#[inline]
 pub(crate) fn lui(word: u32) -> Option<Instr>
     requires { opcode word ≡ 0b0110111 }
     ensures { result ≡ find (rows_of 0b0110111 base_table) word }
@@ -58,7 +52,7 @@ pub(crate) fn lui(word: u32) -> Option<Instr>
 }
 
 /// AUIPC.
-#[inline(always)]
+#[inline]
 pub(crate) fn auipc(word: u32) -> Option<Instr>
     requires { opcode word ≡ 0b0010111 }
     ensures { result ≡ find (rows_of 0b0010111 base_table) word }
@@ -67,7 +61,7 @@ pub(crate) fn auipc(word: u32) -> Option<Instr>
 }
 
 /// JAL.
-#[inline(always)]
+#[inline]
 pub(crate) fn jal(word: u32) -> Option<Instr>
     requires { opcode word ≡ 0b1101111 }
     ensures { result ≡ find (rows_of 0b1101111 base_table) word }
@@ -76,26 +70,24 @@ pub(crate) fn jal(word: u32) -> Option<Instr>
 }
 
 /// JALR.
-#[inline(always)]
-pub(crate) fn jalr(word: u32, minor: u32) -> Option<Instr>
-    requires opcode { opcode word ≡ 0b1100111 }
-    requires minor { funct3 word ≡ minor }
+#[inline]
+pub(crate) fn jalr(word: u32) -> Option<Instr>
+    requires { opcode word ≡ 0b1100111 }
     ensures { result ≡ find (rows_of 0b1100111 base_table) word }
 {
-    match minor {
+    match funct3(word) {
         0b000 => Some(i_type(Op::Jalr, word)),
         _ => None,
     }
 }
 
 /// BRANCH: the conditional branches.
-#[inline(always)]
-pub(crate) fn branch(word: u32, minor: u32) -> Option<Instr>
-    requires opcode { opcode word ≡ 0b1100011 }
-    requires minor { funct3 word ≡ minor }
+#[inline]
+fn branch(word: u32) -> Option<Instr>
+    requires { opcode word ≡ 0b1100011 }
     ensures { result ≡ find (rows_of 0b1100011 base_table) word }
 {
-    let op = match minor {
+    let op = match funct3(word) {
         0b000 => Op::Beq,
         0b001 => Op::Bne,
         0b100 => Op::Blt,
@@ -108,13 +100,12 @@ pub(crate) fn branch(word: u32, minor: u32) -> Option<Instr>
 }
 
 /// LOAD.
-#[inline(always)]
-pub(crate) fn load(word: u32, minor: u32) -> Option<Instr>
-    requires opcode { opcode word ≡ 0b0000011 }
-    requires minor { funct3 word ≡ minor }
+#[inline]
+fn load(word: u32) -> Option<Instr>
+    requires { opcode word ≡ 0b0000011 }
     ensures { result ≡ find (rows_of 0b0000011 base_table) word }
 {
-    let op = match minor {
+    let op = match funct3(word) {
         0b000 => Op::Lb,
         0b001 => Op::Lh,
         0b010 => Op::Lw,
@@ -126,13 +117,12 @@ pub(crate) fn load(word: u32, minor: u32) -> Option<Instr>
 }
 
 /// STORE.
-#[inline(always)]
-pub(crate) fn store(word: u32, minor: u32) -> Option<Instr>
-    requires opcode { opcode word ≡ 0b0100011 }
-    requires minor { funct3 word ≡ minor }
+#[inline]
+fn store(word: u32) -> Option<Instr>
+    requires { opcode word ≡ 0b0100011 }
     ensures { result ≡ find (rows_of 0b0100011 base_table) word }
 {
-    let op = match minor {
+    let op = match funct3(word) {
         0b000 => Op::Sb,
         0b001 => Op::Sh,
         0b010 => Op::Sw,
@@ -142,13 +132,12 @@ pub(crate) fn store(word: u32, minor: u32) -> Option<Instr>
 }
 
 /// OP-IMM: the operations on a register and an immediate.
-#[inline(always)]
-pub(crate) fn op_imm(word: u32, minor: u32) -> Option<Instr>
-    requires opcode { opcode word ≡ 0b0010011 }
-    requires minor { funct3 word ≡ minor }
+#[inline]
+fn op_imm(word: u32) -> Option<Instr>
+    requires { opcode word ≡ 0b0010011 }
     ensures { result ≡ find (rows_of 0b0010011 base_table) word }
 {
-    let op = match (minor, funct7(word)) {
+    let op = match (funct3(word), funct7(word)) {
         (0b000, _) => Op::Addi,
         (0b010, _) => Op::Slti,
         (0b011, _) => Op::Sltiu,
@@ -164,13 +153,12 @@ pub(crate) fn op_imm(word: u32, minor: u32) -> Option<Instr>
 }
 
 /// OP: the operations on two registers.
-#[inline(always)]
-pub(crate) fn op(word: u32, minor: u32) -> Option<Instr>
-    requires opcode { opcode word ≡ 0b0110011 }
-    requires minor { funct3 word ≡ minor }
+#[inline]
+fn op(word: u32) -> Option<Instr>
+    requires { opcode word ≡ 0b0110011 }
     ensures { result ≡ find (rows_of 0b0110011 base_table) word }
 {
-    let op = match (funct7(word), minor) {
+    let op = match (funct7(word), funct3(word)) {
         (0b0000000, 0b000) => Op::Add,
         (0b0100000, 0b000) => Op::Sub,
         (0b0000000, 0b001) => Op::Sll,
@@ -195,13 +183,12 @@ pub(crate) fn op(word: u32, minor: u32) -> Option<Instr>
 }
 
 /// MISC-MEM: the fences.
-#[inline(always)]
-pub(crate) fn misc_mem(word: u32, minor: u32) -> Option<Instr>
-    requires opcode { opcode word ≡ 0b0001111 }
-    requires minor { funct3 word ≡ minor }
+#[inline]
+pub(crate) fn misc_mem(word: u32) -> Option<Instr>
+    requires { opcode word ≡ 0b0001111 }
     ensures { result ≡ find (rows_of 0b0001111 base_table) word }
 {
-    match minor {
+    match funct3(word) {
         0b000 => Some(Instr::Plain { op: Op::Fence }),
         0b001 => Some(Instr::Plain { op: Op::FenceI }),
         _ => None,
@@ -209,7 +196,7 @@ pub(crate) fn misc_mem(word: u32, minor: u32) -> Option<Instr>
 }
 
 /// SYSTEM: the words that call the environment.
-#[inline(always)]
+#[inline]
 pub(crate) fn system(word: u32) -> Option<Instr>
     requires { opcode word ≡ 0b1110011 }
     ensures { result ≡ find (rows_of 0b1110011 base_table) word }
@@ -222,13 +209,12 @@ pub(crate) fn system(word: u32) -> Option<Instr>
 }
 
 /// AMO: the atomics on words.
-#[inline(always)]
-pub(crate) fn amo(word: u32, minor: u32) -> Option<Instr>
-    requires opcode { opcode word ≡ 0b0101111 }
-    requires minor { funct3 word ≡ minor }
+#[inline]
+fn amo(word: u32) -> Option<Instr>
+    requires { opcode word ≡ 0b0101111 }
     ensures { result ≡ find (rows_of 0b0101111 atomic_table) word }
 {
-    if minor != 0b010 {
+    if funct3(word) != 0b010 {
         return None;
     }
     let op = match funct5(word) {

@@ -2,7 +2,6 @@
 ghost use Rattle.std.specs.Prelude.{◌≡◌, ◌+◌, ◌≤◌, ◌<◌, ◌^◌};
 ghost use Rattle.asc_model.specs.Number.{bits, sign_extend};
 ghost use Rattle.asc_model.specs.Instruction.{opcode, funct3, funct5, funct7, rd, rs1, rs2, immediate_U, immediate_J, immediate_I, immediate_S, immediate_B, shamt};
-ghost use Rattle.asc_isa.specs.Key.{key_of};
 
 /// `n` bits of a word, from bit `low` upward.
 #[inline(always)]
@@ -31,22 +30,6 @@ pub(crate) fn opcode(word: u32) -> u32
     ensures { result ≡ opcode word }
 {
     bits(word, 0, 7)
-}
-
-/// Bits 1 and 0 of a word. Each opcode ends with 11.
-#[inline(always)]
-pub(crate) fn lowest(word: u32) -> u32
-    ensures { result ≡ bits word 0 2 }
-{
-    bits(word, 0, 2)
-}
-
-/// Funct3 of a word, and below it bits 6 to 2, by which opcodes that end with 11 are told apart.
-#[inline(always)]
-pub(crate) fn key(word: u32) -> u32
-    ensures { result ≡ key_of word }
-{
-    (bits(word, 12, 3) << 5) + bits(word, 2, 5)
 }
 
 #[inline(always)]

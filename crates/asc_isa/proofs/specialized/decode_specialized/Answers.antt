@@ -5,4 +5,4 @@ use Rattle.asc_isa.proofs.specialized.decode_specialized.Goals as goal
 
 pub returns-clause-registers : goal.returns-clause-registers
 returns-clause-registers c =
-    subst (λ i. IfSome i HasRegisters) (sym c.instruction_by_key.ensures) (decode-registers _ c.args.word)
+    subst (λ i. IfSome i HasRegisters) (sym c.instruction.ensures) (decode-registers _ c.args.word)
