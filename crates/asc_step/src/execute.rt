@@ -13,7 +13,7 @@ use crate::effect::{Operands, effect_of};
 use crate::finish::finish;
 use crate::places::register;
 use asc_isa::{Instr, Op};
-use asc_shape::Words;
+use asc_shape::{Shape, Words};
 
 /// An instruction's operation, registers and immediate. What its format lacks is 0.
 #[derive(Clone, Copy)]
@@ -53,7 +53,8 @@ fn split(instruction: Instr) -> Parts
 
 /// Carries out the instruction at this pc.
 #[inline(always)]
-pub(crate) fn execute<B: Words>(bytes: &mut B, pc: u32, instruction: Instr) -> Stepped
+pub(crate) fn execute<B: Words>(bytes: &mut B, shape: Shape, pc: u32, instruction: Instr) -> Stepped
+    requires shape { shape ≡ (B.face bytes.old).state.shape }
     requires registers { HasRegisters instruction }
     requires at { AtInstruction (B.face bytes.old) pc }
     requires version { let s = (B.face bytes.old).state in
@@ -84,5 +85,5 @@ pub(crate) fn execute<B: Words>(bytes: &mut B, pc: u32, instruction: Instr) -> S
             immediate,
         },
     );
-    finish(bytes, pc, rd, effect)
+    finish(bytes, shape, pc, rd, effect)
 }

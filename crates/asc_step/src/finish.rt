@@ -21,7 +21,14 @@ use asc_shape::{Shape, Words};
 
 /// Carries out the effect of the instruction at this pc.
 #[inline(always)]
-pub(crate) fn finish<B: Words>(bytes: &mut B, pc: u32, rd: u8, effect: Effect) -> Stepped
+pub(crate) fn finish<B: Words>(
+    bytes: &mut B,
+    shape: Shape,
+    pc: u32,
+    rd: u8,
+    effect: Effect,
+) -> Stepped
+    requires shape { shape ≡ (B.face bytes.old).state.shape }
     requires rd { rd < 32 }
     requires at { AtInstruction (B.face bytes.old) pc }
     requires version { IsOfVersion (B.face bytes.old).state.shape.version (model_effect effect) }
@@ -34,22 +41,22 @@ pub(crate) fn finish<B: Words>(bytes: &mut B, pc: u32, rd: u8, effect: Effect) -
             size,
             signed,
             address,
-        } => load(bytes, pc, rd, size, signed, address),
+        } => load(bytes, shape, pc, rd, size, signed, address),
         Effect::Store {
             size,
             address,
             value,
-        } => store(bytes, pc, size, address, value),
+        } => store(bytes, shape, pc, size, address, value),
         Effect::Jump(target) => jump(bytes, pc, rd, target),
-        Effect::LoadReserved(address) => load_reserved(bytes, pc, rd, address),
+        Effect::LoadReserved(address) => load_reserved(bytes, shape, pc, rd, address),
         Effect::StoreConditional { address, value } => {
-            store_conditional(bytes, pc, rd, address, value)
+            store_conditional(bytes, shape, pc, rd, address, value)
         }
         Effect::Modify {
             amo,
             address,
             value,
-        } => modify(bytes, pc, rd, amo, address, value),
+        } => modify(bytes, shape, pc, rd, amo, address, value),
         Effect::Call => Stepped::Call,
         Effect::Break => fault(FaultKind::Break, pc, 0),
     }
@@ -80,14 +87,24 @@ fn set<B: Words>(bytes: &mut B, pc: u32, rd: u8, value: u32) -> Stepped
 }
 
 #[inline(always)]
-fn load<B: Words>(bytes: &mut B, pc: u32, rd: u8, size: Size, signed: bool, address: u32) -> Stepped
+fn load<B: Words>(
+    bytes: &mut B,
+    shape: Shape,
+    pc: u32,
+    rd: u8,
+    size: Size,
+    signed: bool,
+    address: u32,
+) -> Stepped
+    requires shape { shape ≡ (B.face bytes.old).state.shape }
     requires rd { rd < 32 }
     requires at { AtInstruction (B.face bytes.old) pc }
     requires room { 14 ≤ room_of (B.face bytes.old).marks }
     ensures { Finishes (B.face bytes.old) (B.face bytes.new) rd
         (Load (bytes_in size) signed address) result }
 {
-    let shape = bytes.shape();
+    // That its state is one, and its marks fit it.
+    let _ = bytes.shape();
     if !shape.holds(address, size.bytes()) {
         return fault(FaultKind::LoadOutside, pc, address);
     }
@@ -97,13 +114,22 @@ fn load<B: Words>(bytes: &mut B, pc: u32, rd: u8, size: Size, signed: bool, addr
 }
 
 #[inline(always)]
-fn store<B: Words>(bytes: &mut B, pc: u32, size: Size, address: u32, value: u32) -> Stepped
+fn store<B: Words>(
+    bytes: &mut B,
+    shape: Shape,
+    pc: u32,
+    size: Size,
+    address: u32,
+    value: u32,
+) -> Stepped
+    requires shape { shape ≡ (B.face bytes.old).state.shape }
     requires at { AtInstruction (B.face bytes.old) pc }
     requires room { 14 ≤ room_of (B.face bytes.old).marks }
     ensures { (rd : ℕ) → Finishes (B.face bytes.old) (B.face bytes.new) rd
         (Store (bytes_in size) address value) result }
 {
-    let shape = bytes.shape();
+    // That its state is one, and its marks fit it.
+    let _ = bytes.shape();
     if !shape.holds(address, size.bytes()) {
         return fault(FaultKind::StoreOutside, pc, address);
     }
@@ -136,13 +162,15 @@ fn atomic_fault(shape: Shape, address: u32, outside: FaultKind) -> Option<FaultK
 }
 
 #[inline(always)]
-fn load_reserved<B: Words>(bytes: &mut B, pc: u32, rd: u8, address: u32) -> Stepped
+fn load_reserved<B: Words>(bytes: &mut B, shape: Shape, pc: u32, rd: u8, address: u32) -> Stepped
+    requires shape { shape ≡ (B.face bytes.old).state.shape }
     requires rd { rd < 32 }
     requires at { AtInstruction (B.face bytes.old) pc }
     requires room { 14 ≤ room_of (B.face bytes.old).marks }
     ensures { Finishes (B.face bytes.old) (B.face bytes.new) rd (LoadReserved address) result }
 {
-    let shape = bytes.shape();
+    // That its state is one, and its marks fit it.
+    let _ = bytes.shape();
     if let Some(kind) = atomic_fault(shape, address, FaultKind::LoadOutside) {
         return fault(kind, pc, address);
     }
@@ -153,7 +181,15 @@ fn load_reserved<B: Words>(bytes: &mut B, pc: u32, rd: u8, address: u32) -> Step
 }
 
 #[inline(always)]
-fn store_conditional<B: Words>(bytes: &mut B, pc: u32, rd: u8, address: u32, value: u32) -> Stepped
+fn store_conditional<B: Words>(
+    bytes: &mut B,
+    shape: Shape,
+    pc: u32,
+    rd: u8,
+    address: u32,
+    value: u32,
+) -> Stepped
+    requires shape { shape ≡ (B.face bytes.old).state.shape }
     requires rd { rd < 32 }
     requires at { AtInstruction (B.face bytes.old) pc }
     requires version { (B.face bytes.old).state.shape.version ≡ Two }
@@ -161,7 +197,8 @@ fn store_conditional<B: Words>(bytes: &mut B, pc: u32, rd: u8, address: u32, val
     ensures { Finishes (B.face bytes.old) (B.face bytes.new) rd
         (StoreConditional address value) result }
 {
-    let shape = bytes.shape();
+    // That its state is one, and its marks fit it.
+    let _ = bytes.shape();
     if let Some(kind) = atomic_fault(shape, address, FaultKind::StoreOutside) {
         return fault(kind, pc, address);
     }
@@ -175,14 +212,24 @@ fn store_conditional<B: Words>(bytes: &mut B, pc: u32, rd: u8, address: u32, val
 }
 
 #[inline(always)]
-fn modify<B: Words>(bytes: &mut B, pc: u32, rd: u8, amo: Amo, address: u32, value: u32) -> Stepped
+fn modify<B: Words>(
+    bytes: &mut B,
+    shape: Shape,
+    pc: u32,
+    rd: u8,
+    amo: Amo,
+    address: u32,
+    value: u32,
+) -> Stepped
+    requires shape { shape ≡ (B.face bytes.old).state.shape }
     requires rd { rd < 32 }
     requires at { AtInstruction (B.face bytes.old) pc }
     requires room { 14 ≤ room_of (B.face bytes.old).marks }
     ensures { Finishes (B.face bytes.old) (B.face bytes.new) rd
         (Modify address (λ old. changed amo old value)) result }
 {
-    let shape = bytes.shape();
+    // That its state is one, and its marks fit it.
+    let _ = bytes.shape();
     if let Some(kind) = atomic_fault(shape, address, FaultKind::StoreOutside) {
         return fault(kind, pc, address);
     }

@@ -1,4 +1,4 @@
-//! One step of the machine, over any state that code reads and writes through `Bytes`.
+//! One step of the machine, over any state that code reads and writes through `Words`.
 #![tactic(auto)]
 
 mod arithmetic;
@@ -6,6 +6,7 @@ mod effect;
 mod execute;
 mod faults;
 mod finish;
+mod many;
 mod places;
 mod specialized;
 mod stepped;
@@ -15,5 +16,6 @@ mod tests;
 mod version;
 
 pub use asc_model::{Fault, FaultKind};
+pub use many::step_many;
 pub use stepped::Stepped;
-pub use stepping::{step, try_step};
+pub use stepping::{step, try_step, try_step_of};

@@ -19,22 +19,24 @@ use crate::places::read_word;
 use crate::version::has_atomics;
 use crate::{FaultKind, Stepped};
 use asc_isa::{Instr, Op, decode_specialized};
-use asc_shape::Words;
+use asc_shape::{Shape, Words};
 
-/// Takes one step as `try_step` does, with code of its own for each operation.
+/// Takes one step of a state of this shape as `try_step` does, with code of its own for each operation.
 #[inline]
-pub(crate) fn step_specialized<B: Words>(bytes: &mut B) -> Stepped
+pub(crate) fn step_specialized<B: Words>(bytes: &mut B, shape: Shape) -> Stepped
+    requires shape { shape ≡ (B.face bytes.old).state.shape }
     requires room { step_room ≤ room_of (B.face bytes.old).marks }
     ensures { Attempts (B.face bytes.old) (B.face bytes.new) result }
 {
-    let shape = bytes.shape();
+    // That its state is one, and its marks fit it.
+    let _ = bytes.shape();
     let pc = read_word(bytes, 0);
     if let Some(kind) = word_fault(shape, pc, FaultKind::Misaligned, FaultKind::FetchOutside) {
         return fault(kind, pc, pc);
     }
     let word = read_word(bytes, shape.place_of(pc));
     match decode_specialized(word, has_atomics(shape.version())) {
-        Some(instruction) => execute_specialized(bytes, pc, instruction),
+        Some(instruction) => execute_specialized(bytes, shape, pc, instruction),
         None => fault(FaultKind::Illegal, pc, word),
     }
 }
@@ -43,7 +45,13 @@ pub(crate) fn step_specialized<B: Words>(bytes: &mut B) -> Stepped
 ///
 /// Each arm does the same: so the compiler makes code of its own for each operation, to which decoding leads at once.
 #[inline]
-fn execute_specialized<B: Words>(bytes: &mut B, pc: u32, instruction: Instr) -> Stepped
+fn execute_specialized<B: Words>(
+    bytes: &mut B,
+    shape: Shape,
+    pc: u32,
+    instruction: Instr,
+) -> Stepped
+    requires shape { shape ≡ (B.face bytes.old).state.shape }
     requires registers { HasRegisters instruction }
     requires at { AtInstruction (B.face bytes.old) pc }
     requires version { let s = (B.face bytes.old).state in
@@ -57,66 +65,66 @@ fn execute_specialized<B: Words>(bytes: &mut B, pc: u32, instruction: Instr) -> 
         (outcome_of_word s.shape (view_of s) (Some instruction)) }
 {
     match operation(instruction) {
-        Op::Lui => execute(bytes, pc, instruction),
-        Op::Auipc => execute(bytes, pc, instruction),
-        Op::Jal => execute(bytes, pc, instruction),
-        Op::Jalr => execute(bytes, pc, instruction),
-        Op::Beq => execute(bytes, pc, instruction),
-        Op::Bne => execute(bytes, pc, instruction),
-        Op::Blt => execute(bytes, pc, instruction),
-        Op::Bge => execute(bytes, pc, instruction),
-        Op::Bltu => execute(bytes, pc, instruction),
-        Op::Bgeu => execute(bytes, pc, instruction),
-        Op::Lb => execute(bytes, pc, instruction),
-        Op::Lh => execute(bytes, pc, instruction),
-        Op::Lw => execute(bytes, pc, instruction),
-        Op::Lbu => execute(bytes, pc, instruction),
-        Op::Lhu => execute(bytes, pc, instruction),
-        Op::Sb => execute(bytes, pc, instruction),
-        Op::Sh => execute(bytes, pc, instruction),
-        Op::Sw => execute(bytes, pc, instruction),
-        Op::Addi => execute(bytes, pc, instruction),
-        Op::Slti => execute(bytes, pc, instruction),
-        Op::Sltiu => execute(bytes, pc, instruction),
-        Op::Xori => execute(bytes, pc, instruction),
-        Op::Ori => execute(bytes, pc, instruction),
-        Op::Andi => execute(bytes, pc, instruction),
-        Op::Slli => execute(bytes, pc, instruction),
-        Op::Srli => execute(bytes, pc, instruction),
-        Op::Srai => execute(bytes, pc, instruction),
-        Op::Add => execute(bytes, pc, instruction),
-        Op::Sub => execute(bytes, pc, instruction),
-        Op::Sll => execute(bytes, pc, instruction),
-        Op::Slt => execute(bytes, pc, instruction),
-        Op::Sltu => execute(bytes, pc, instruction),
-        Op::Xor => execute(bytes, pc, instruction),
-        Op::Srl => execute(bytes, pc, instruction),
-        Op::Sra => execute(bytes, pc, instruction),
-        Op::Or => execute(bytes, pc, instruction),
-        Op::And => execute(bytes, pc, instruction),
-        Op::Fence => execute(bytes, pc, instruction),
-        Op::FenceI => execute(bytes, pc, instruction),
-        Op::Ecall => execute(bytes, pc, instruction),
-        Op::Ebreak => execute(bytes, pc, instruction),
-        Op::Mul => execute(bytes, pc, instruction),
-        Op::Mulh => execute(bytes, pc, instruction),
-        Op::Mulhsu => execute(bytes, pc, instruction),
-        Op::Mulhu => execute(bytes, pc, instruction),
-        Op::Div => execute(bytes, pc, instruction),
-        Op::Divu => execute(bytes, pc, instruction),
-        Op::Rem => execute(bytes, pc, instruction),
-        Op::Remu => execute(bytes, pc, instruction),
-        Op::LrW => execute(bytes, pc, instruction),
-        Op::ScW => execute(bytes, pc, instruction),
-        Op::AmoswapW => execute(bytes, pc, instruction),
-        Op::AmoaddW => execute(bytes, pc, instruction),
-        Op::AmoxorW => execute(bytes, pc, instruction),
-        Op::AmoandW => execute(bytes, pc, instruction),
-        Op::AmoorW => execute(bytes, pc, instruction),
-        Op::AmominW => execute(bytes, pc, instruction),
-        Op::AmomaxW => execute(bytes, pc, instruction),
-        Op::AmominuW => execute(bytes, pc, instruction),
-        Op::AmomaxuW => execute(bytes, pc, instruction),
+        Op::Lui => execute(bytes, shape, pc, instruction),
+        Op::Auipc => execute(bytes, shape, pc, instruction),
+        Op::Jal => execute(bytes, shape, pc, instruction),
+        Op::Jalr => execute(bytes, shape, pc, instruction),
+        Op::Beq => execute(bytes, shape, pc, instruction),
+        Op::Bne => execute(bytes, shape, pc, instruction),
+        Op::Blt => execute(bytes, shape, pc, instruction),
+        Op::Bge => execute(bytes, shape, pc, instruction),
+        Op::Bltu => execute(bytes, shape, pc, instruction),
+        Op::Bgeu => execute(bytes, shape, pc, instruction),
+        Op::Lb => execute(bytes, shape, pc, instruction),
+        Op::Lh => execute(bytes, shape, pc, instruction),
+        Op::Lw => execute(bytes, shape, pc, instruction),
+        Op::Lbu => execute(bytes, shape, pc, instruction),
+        Op::Lhu => execute(bytes, shape, pc, instruction),
+        Op::Sb => execute(bytes, shape, pc, instruction),
+        Op::Sh => execute(bytes, shape, pc, instruction),
+        Op::Sw => execute(bytes, shape, pc, instruction),
+        Op::Addi => execute(bytes, shape, pc, instruction),
+        Op::Slti => execute(bytes, shape, pc, instruction),
+        Op::Sltiu => execute(bytes, shape, pc, instruction),
+        Op::Xori => execute(bytes, shape, pc, instruction),
+        Op::Ori => execute(bytes, shape, pc, instruction),
+        Op::Andi => execute(bytes, shape, pc, instruction),
+        Op::Slli => execute(bytes, shape, pc, instruction),
+        Op::Srli => execute(bytes, shape, pc, instruction),
+        Op::Srai => execute(bytes, shape, pc, instruction),
+        Op::Add => execute(bytes, shape, pc, instruction),
+        Op::Sub => execute(bytes, shape, pc, instruction),
+        Op::Sll => execute(bytes, shape, pc, instruction),
+        Op::Slt => execute(bytes, shape, pc, instruction),
+        Op::Sltu => execute(bytes, shape, pc, instruction),
+        Op::Xor => execute(bytes, shape, pc, instruction),
+        Op::Srl => execute(bytes, shape, pc, instruction),
+        Op::Sra => execute(bytes, shape, pc, instruction),
+        Op::Or => execute(bytes, shape, pc, instruction),
+        Op::And => execute(bytes, shape, pc, instruction),
+        Op::Fence => execute(bytes, shape, pc, instruction),
+        Op::FenceI => execute(bytes, shape, pc, instruction),
+        Op::Ecall => execute(bytes, shape, pc, instruction),
+        Op::Ebreak => execute(bytes, shape, pc, instruction),
+        Op::Mul => execute(bytes, shape, pc, instruction),
+        Op::Mulh => execute(bytes, shape, pc, instruction),
+        Op::Mulhsu => execute(bytes, shape, pc, instruction),
+        Op::Mulhu => execute(bytes, shape, pc, instruction),
+        Op::Div => execute(bytes, shape, pc, instruction),
+        Op::Divu => execute(bytes, shape, pc, instruction),
+        Op::Rem => execute(bytes, shape, pc, instruction),
+        Op::Remu => execute(bytes, shape, pc, instruction),
+        Op::LrW => execute(bytes, shape, pc, instruction),
+        Op::ScW => execute(bytes, shape, pc, instruction),
+        Op::AmoswapW => execute(bytes, shape, pc, instruction),
+        Op::AmoaddW => execute(bytes, shape, pc, instruction),
+        Op::AmoxorW => execute(bytes, shape, pc, instruction),
+        Op::AmoandW => execute(bytes, shape, pc, instruction),
+        Op::AmoorW => execute(bytes, shape, pc, instruction),
+        Op::AmominW => execute(bytes, shape, pc, instruction),
+        Op::AmomaxW => execute(bytes, shape, pc, instruction),
+        Op::AmominuW => execute(bytes, shape, pc, instruction),
+        Op::AmomaxuW => execute(bytes, shape, pc, instruction),
     }
 }
 
@@ -126,7 +134,13 @@ fn execute_specialized<B: Words>(bytes: &mut B, pc: u32, instruction: Instr) -> 
 /// Each arm does the same, as in `execute_specialized`. With many more arms the compiler no longer takes this into the
 /// loop of a trace, which then is slower.
 #[inline(always)]
-pub(crate) fn execute_likely<B: Words>(bytes: &mut B, pc: u32, instruction: Instr) -> Stepped
+pub(crate) fn execute_likely<B: Words>(
+    bytes: &mut B,
+    shape: Shape,
+    pc: u32,
+    instruction: Instr,
+) -> Stepped
+    requires shape { shape ≡ (B.face bytes.old).state.shape }
     requires registers { HasRegisters instruction }
     requires at { AtInstruction (B.face bytes.old) pc }
     requires version { let s = (B.face bytes.old).state in
@@ -140,23 +154,23 @@ pub(crate) fn execute_likely<B: Words>(bytes: &mut B, pc: u32, instruction: Inst
         (outcome_of_word s.shape (view_of s) (Some instruction)) }
 {
     match operation(instruction) {
-        Op::Lui => execute(bytes, pc, instruction),
-        Op::Jal => execute(bytes, pc, instruction),
-        Op::Jalr => execute(bytes, pc, instruction),
-        Op::Beq => execute(bytes, pc, instruction),
-        Op::Bne => execute(bytes, pc, instruction),
-        Op::Bltu => execute(bytes, pc, instruction),
-        Op::Bgeu => execute(bytes, pc, instruction),
-        Op::Lw => execute(bytes, pc, instruction),
-        Op::Sw => execute(bytes, pc, instruction),
-        Op::Addi => execute(bytes, pc, instruction),
-        Op::Andi => execute(bytes, pc, instruction),
-        Op::Slli => execute(bytes, pc, instruction),
-        Op::Add => execute(bytes, pc, instruction),
-        Op::Sub => execute(bytes, pc, instruction),
-        Op::Or => execute(bytes, pc, instruction),
-        Op::And => execute(bytes, pc, instruction),
-        _ => execute(bytes, pc, instruction),
+        Op::Lui => execute(bytes, shape, pc, instruction),
+        Op::Jal => execute(bytes, shape, pc, instruction),
+        Op::Jalr => execute(bytes, shape, pc, instruction),
+        Op::Beq => execute(bytes, shape, pc, instruction),
+        Op::Bne => execute(bytes, shape, pc, instruction),
+        Op::Bltu => execute(bytes, shape, pc, instruction),
+        Op::Bgeu => execute(bytes, shape, pc, instruction),
+        Op::Lw => execute(bytes, shape, pc, instruction),
+        Op::Sw => execute(bytes, shape, pc, instruction),
+        Op::Addi => execute(bytes, shape, pc, instruction),
+        Op::Andi => execute(bytes, shape, pc, instruction),
+        Op::Slli => execute(bytes, shape, pc, instruction),
+        Op::Add => execute(bytes, shape, pc, instruction),
+        Op::Sub => execute(bytes, shape, pc, instruction),
+        Op::Or => execute(bytes, shape, pc, instruction),
+        Op::And => execute(bytes, shape, pc, instruction),
+        _ => execute(bytes, shape, pc, instruction),
     }
 }
 

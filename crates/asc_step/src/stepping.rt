@@ -10,30 +10,62 @@ use crate::specialized::{execute_likely, step_specialized};
 use crate::version::has_atomics;
 use crate::{FaultKind, Stepped};
 use asc_isa::decode;
-use asc_shape::{Steps, Words};
+use asc_shape::{Shape, Steps, Words};
 use std::sync::ledger::Ledger;
 
-/// Takes one step, where the program goes on: the instruction at the pc is fetched, decoded and carried out.
+/// Takes one step, where the program goes on: the instruction at the pc is fetched, decoded and carried out. The caller
+/// tells the shape, which a loop then need not read again.
 ///
 /// All that the step reads is read before anything is put. A step that calls or faults puts nothing.
 ///
 /// Decoding is compact, and only the operations that programs do most have code of their own, which is quicker for a
 /// tracer. `step` has code of its own for each operation, which makes a plain step cheaper.
 #[inline(always)]
-pub fn try_step<B: Words>(bytes: &mut B) -> Stepped
+pub fn try_step_of<B: Words>(bytes: &mut B, shape: Shape) -> Stepped
+    requires shape { shape ≡ (B.face bytes.old).state.shape }
     requires room { step_room ≤ room_of (B.face bytes.old).marks }
     ensures { Attempts (B.face bytes.old) (B.face bytes.new) result }
 {
-    let shape = bytes.shape();
+    // That its state is one, and its marks fit it.
+    let _ = bytes.shape();
     let pc = read_word(bytes, 0);
     if let Some(kind) = word_fault(shape, pc, FaultKind::Misaligned, FaultKind::FetchOutside) {
         return fault(kind, pc, pc);
     }
     let word = read_word(bytes, shape.place_of(pc));
     match decode(word, has_atomics(shape.version())) {
-        Some(instruction) => execute_likely(bytes, pc, instruction),
+        Some(instruction) => execute_likely(bytes, shape, pc, instruction),
         None => fault(FaultKind::Illegal, pc, word),
     }
+}
+
+/// Takes one step as `try_step_of` does.
+#[inline(always)]
+pub fn try_step<B: Words>(bytes: &mut B) -> Stepped
+    requires room { step_room ≤ room_of (B.face bytes.old).marks }
+    ensures { Attempts (B.face bytes.old) (B.face bytes.new) result }
+{
+    let shape = bytes.shape();
+    try_step_of(bytes, shape)
+}
+
+/// Takes one step as `try_step_of` does, and counts it where the program went on.
+#[inline]
+pub(crate) fn step_of<B: Words, L: Ledger>(
+    bytes: &mut B,
+    shape: Shape,
+    steps: &mut Steps<L>,
+) -> Stepped
+    requires shape { shape ≡ (B.face bytes.old).state.shape }
+    requires room { step_room ≤ room_of (B.face bytes.old).marks }
+    ensures step { Attempts (B.face bytes.old) (B.face bytes.new) result }
+    ensures counter { steps.new ≡ steps.old + counted_steps result }
+{
+    let stepped = step_specialized(bytes, shape);
+    if let Stepped::Went = stepped {
+        steps.tick();
+    }
+    stepped
 }
 
 /// Takes one step as `try_step` does, and counts it where the program went on.
@@ -43,9 +75,6 @@ pub fn step<B: Words, L: Ledger>(bytes: &mut B, steps: &mut Steps<L>) -> Stepped
     ensures step { Attempts (B.face bytes.old) (B.face bytes.new) result }
     ensures counter { steps.new ≡ steps.old + counted_steps result }
 {
-    let stepped = step_specialized(bytes);
-    if let Stepped::Went = stepped {
-        steps.tick();
-    }
-    stepped
+    let shape = bytes.shape();
+    step_of(bytes, shape, steps)
 }

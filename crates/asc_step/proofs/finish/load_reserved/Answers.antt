@@ -11,7 +11,7 @@ use Rattle.asc_step.proofs.finish.load_reserved.Goals as goal
 pub returns-in-Some : goal.returns-in-Some
 returns-in-Some g c =
     fails_atomic _ c.args.pc c.args.rd (LoadReserved c.args.address) LoadOutside _ c.args.address _ _ _ c.requires.at refl refl
-    (faulted _ _ LoadOutside _ _ c.in-Some.ensures c.shape-shape.ensures.shape) c.fault.ensures
+    (faulted _ _ LoadOutside _ _ c.in-Some.ensures c.requires.shape) c.fault.ensures
 
 pub go_on-requires-clause-touched : goal.go_on-requires-clause-touched
 go_on-requires-clause-touched g c = touched_after_reads _ _ _ _ c.read_word-old.ensures.face c.requires.at.touched
@@ -33,6 +33,6 @@ pub returns : goal.returns
 returns g c =
     let list = Pc (c.args.pc +w 4) ∷ Register c.args.rd c.read_word-old.result ∷ [] in
     finishes_load_reserved _ _ _ c.args.pc c.args.rd c.args.address _ c.read_word-old.result _ c.requires.at
-    (faulted _ _ LoadOutside _ _ c.in_default.ensures c.shape-shape.ensures.shape) (placed _ _ _ _ c.place_of.ensures c.shape-shape.ensures.shape)
+    (faulted _ _ LoadOutside _ _ c.in_default.ensures c.requires.shape) (placed _ _ _ _ c.place_of.ensures c.requires.shape)
     c.read_word-old.ensures.value c.read_word-old.ensures.face
     (puts_then _ _ _ list (reserve c.args.address ∷ []) c.go_on.ensures c.reserve.ensures) refl

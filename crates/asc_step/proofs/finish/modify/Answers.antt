@@ -14,7 +14,7 @@ use Rattle.asc_step.proofs.finish.modify.Goals as goal
 pub returns-in-Some : goal.returns-in-Some
 returns-in-Some g c =
     fails_atomic _ c.args.pc c.args.rd (Modify c.args.address (λ old. changed c.args.amo old c.args.value)) StoreOutside _ c.args.address _ _ _ c.requires.at refl refl
-    (faulted _ _ StoreOutside _ _ c.in-Some.ensures c.shape-shape.ensures.shape) c.fault.ensures
+    (faulted _ _ StoreOutside _ _ c.in-Some.ensures c.requires.shape) c.fault.ensures
 
 pub go_on-requires-clause-touched : goal.go_on-requires-clause-touched
 go_on-requires-clause-touched g c = touched_after_reads _ _ _ _ c.read_word-old.ensures.face c.requires.at.touched
@@ -30,7 +30,7 @@ put_word-requires-clause-room g c =
 pub put_word-requires-clause-place : goal.put_word-requires-clause-place
 put_word-requires-clause-place g c =
     let list = Pc (c.args.pc +w 4) ∷ Register c.args.rd c.read_word-old.result ∷ [] in
-    let shape = c.shape-shape.ensures.shape in
+    let shape = c.requires.shape in
     let clear = faulted _ _ StoreOutside _ _ c.in_default.ensures shape in
     let within = place-within (g.B.Bytes.face c.args.bytes.now) c.args.address 4 _ c.requires.at.state (atomic_holds (g.B.Bytes.face c.args.bytes.now).state.shape StoreOutside c.args.address clear) (placed _ _ _ _ c.place_of-place.ensures shape) in
     omega (arith, within, ap (λ (s : State). length s.bytes) c.read_word-old.ensures.state, length_puts _ _ list c.go_on.ensures)
@@ -39,7 +39,7 @@ pub returns : goal.returns
 returns g c =
     let old = c.read_word-old.result in
     let list = Pc (c.args.pc +w 4) ∷ Register c.args.rd old ∷ [] in
-    let shape = c.shape-shape.ensures.shape in
+    let shape = c.requires.shape in
     let f2 = g.B.Bytes.face c.go_on.new.bytes in
     let f3 = g.B.Bytes.face c.put_word.new.self in
     let place = placed _ _ _ _ c.place_of-place.ensures (shape ∙ sym (shape_reads _ _ _ c.read_word-old.ensures.face) ∙ sym (shape_puts _ _ list c.go_on.ensures)) in

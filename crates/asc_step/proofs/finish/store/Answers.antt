@@ -9,7 +9,7 @@ use Rattle.asc_step.proofs.finish.store.Goals as goal
 
 pub returns-then-not-holds : goal.returns-then-not-holds
 returns-then-not-holds g c rd =
-    fails_store _ _ rd _ _ c.args.value c.requires.at _ (tested _ _ _ _ _ _ _ c.holds.ensures c.shape-shape.ensures.shape c.bytes.ensures c.if-not-holds.true) c.fault.ensures
+    fails_store _ _ rd _ _ c.args.value c.requires.at _ (tested _ _ _ _ _ _ _ c.holds.ensures c.requires.shape c.bytes.ensures c.if-not-holds.true) c.fault.ensures
 
 pub put_number-requires-clause-room : goal.put_number-requires-clause-room
 put_number-requires-clause-room g c = omega (arith, room_after_pc _ _ (c.args.pc +w 4) c.set_pc.ensures c.requires.at.touched)
@@ -17,15 +17,15 @@ put_number-requires-clause-room g c = omega (arith, room_after_pc _ _ (c.args.pc
 pub put_number-requires-clause-place : goal.put_number-requires-clause-place
 put_number-requires-clause-place g c =
     let within = place-within (g.B.Bytes.face c.args.bytes.now) c.args.address _ _ c.requires.at.state
-    (tested _ _ _ _ _ _ _ c.holds.ensures c.shape-shape.ensures.shape c.bytes.ensures c.if-not-holds.false)
-    (placed _ _ _ _ c.place_of.ensures c.shape-shape.ensures.shape) in
+    (tested _ _ _ _ _ _ _ c.holds.ensures c.requires.shape c.bytes.ensures c.if-not-holds.false)
+    (placed _ _ _ _ c.place_of.ensures c.requires.shape) in
     omega (arith, within, length_puts _ _ (Pc (c.args.pc +w 4) ∷ []) c.set_pc.ensures)
 
 pub returns : goal.returns
 returns g c rd =
     let list = Pc (c.args.pc +w 4) ∷ [] in
     let bytes = bytes_of (bytes_in c.args.size) c.args.value in
-    let place = placed _ _ _ _ c.place_of.ensures (c.shape-shape.ensures.shape ∙ sym (shape_puts _ _ list c.set_pc.ensures)) in
+    let place = placed _ _ _ _ c.place_of.ensures (c.requires.shape ∙ sym (shape_puts _ _ list c.set_pc.ensures)) in
     finishes_store _ _ rd _ c.args.address c.args.value c.requires.at _ _
-    (tested _ _ _ _ _ _ _ c.holds.ensures c.shape-shape.ensures.shape c.bytes.ensures c.if-not-holds.false)
+    (tested _ _ _ _ _ _ _ c.holds.ensures c.requires.shape c.bytes.ensures c.if-not-holds.false)
     (puts_then _ _ _ list (Memory c.args.address bytes ∷ []) c.set_pc.ensures (puts_memory _ _ _ c.args.address bytes place c.put_number.ensures)) refl

@@ -13,7 +13,7 @@ use Rattle.asc_step.proofs.finish.store_conditional.Goals as goal
 pub returns-in-Some : goal.returns-in-Some
 returns-in-Some g c =
     fails_atomic _ c.args.pc c.args.rd (StoreConditional c.args.address c.args.value) StoreOutside _ c.args.address _ _ _ c.requires.at refl refl
-    (faulted _ _ StoreOutside _ _ c.in-Some.ensures c.shape-shape.ensures.shape) c.fault.ensures
+    (faulted _ _ StoreOutside _ _ c.in-Some.ensures c.requires.shape) c.fault.ensures
 
 pub go_on-requires-clause-touched : goal.go_on-requires-clause-touched
 go_on-requires-clause-touched g c = touched_after_reads _ _ _ _ c.is_reserved-reserved.ensures.face c.requires.at.touched
@@ -44,7 +44,7 @@ release-requires-clause-length g c =
 pub put_word-requires-clause-place : goal.put_word-requires-clause-place
 put_word-requires-clause-place g c =
     let list = Pc (c.args.pc +w 4) ∷ Register c.args.rd c.one_if.result ∷ [] in
-    let shape = c.shape-shape.ensures.shape in
+    let shape = c.requires.shape in
     let clear = faulted _ _ StoreOutside _ _ c.in_default.ensures shape in
     let within = place-within (g.B.Bytes.face c.args.bytes.now) c.args.address 4 _ c.requires.at.state (atomic_holds (g.B.Bytes.face c.args.bytes.now).state.shape StoreOutside c.args.address clear) (placed _ _ _ _ c.place_of.ensures shape) in
     omega (arith, within, ap (λ (s : State). length s.bytes) c.is_reserved-reserved.ensures.state, length_puts _ _ list c.go_on.ensures, length_puts _ _ (release ∷ []) c.release.ensures)
@@ -56,7 +56,7 @@ returns-then-reserved g c =
     let f1 = g.B.Bytes.face c.is_reserved-reserved.new.bytes in
     let f2 = g.B.Bytes.face c.go_on.new.bytes in
     let list = Pc (pc +w 4) ∷ Register rd 0 ∷ [] in
-    let shape = c.shape-shape.ensures.shape in
+    let shape = c.requires.shape in
     let answered = subst (λ v. Puts f1 f2 (Pc (pc +w 4) ∷ Register rd v ∷ [])) (c.one_if.ensures ∙ ap (λ b. one_if (not b)) c.if-reserved.true) c.go_on.ensures in
     let released = puts_then _ _ _ list (release ∷ []) answered c.release.ensures in
     let place = placed _ _ _ _ c.place_of.ensures (shape ∙ sym (shape_reads _ _ _ c.is_reserved-reserved.ensures.face) ∙ sym (shape_puts _ _ (list ++ release ∷ []) released)) in
@@ -74,6 +74,6 @@ returns-else-reserved g c =
     let list = Pc (pc +w 4) ∷ Register rd 1 ∷ [] in
     let answered = subst (λ v. Puts f1 f2 (Pc (pc +w 4) ∷ Register rd v ∷ [])) (c.one_if.ensures ∙ ap (λ b. one_if (not b)) c.if-reserved.false) c.go_on.ensures in
     finishes_store_conditional _ f1 _ pc rd c.args.address c.args.value false _ c.requires.at
-    (faulted _ _ StoreOutside _ _ c.in_default.ensures c.shape-shape.ensures.shape)
+    (faulted _ _ StoreOutside _ _ c.in_default.ensures c.requires.shape)
     (sym c.if-reserved.false ∙ c.is_reserved-reserved.ensures.value) c.is_reserved-reserved.ensures.face
     (puts_then _ _ _ list (release ∷ []) answered c.release.ensures) refl
