@@ -1,0 +1,34 @@
+//! Many steps of a state, one after another.
+ghost use Rattle.std.specs.Prelude.{◌≡◌, ◌+◌, ◌≤◌};
+ghost use Rattle.asc_model.specs.Plain.{plain};
+ghost use Rattle.asc_model.specs.Step.{At, next};
+ghost use Rattle.asc_step.specs.Step.{stepped_of};
+ghost use Rattle.asc_step.specs.declared.stepped.Stepped.TheVariants.{Went};
+
+use crate::Stepped;
+use crate::stepping::step_of;
+use asc_shape::{State, Steps};
+use std::sync::ledger::Ledger;
+
+/// Takes steps of a state until `most` are done, or the next one would be a guest call or a fault. It answers how many
+/// were done, and what the last attempt answered: `Went` where all were.
+///
+/// It is never taken into its caller, so that all that a step needs stays in the processor's registers.
+#[inline(never)]
+pub fn step_many<L: Ledger>(state: &mut State, most: u64, steps: &mut Steps<L>) -> (u64, Stepped)
+    ensures goes { plain result.0 state.old ≡ At state.new }
+    ensures counter { steps.new ≡ steps.old + result.0 }
+    ensures most { result.0 ≤ most }
+    ensures all { result.1 ≡ Went → result.0 ≡ most }
+    ensures ends { (result.1 ≡ Went → ⊥) → result.1 ≡ stepped_of (next state.new) }
+{
+    let shape = state.shape();
+    let mut count = 0;
+    while count < most {
+        match step_of(state, shape, steps) {
+            Stepped::Went => count += 1,
+            ended => return (count, ended),
+        }
+    }
+    (count, Stepped::Went)
+}
