@@ -11,8 +11,8 @@ ghost use Rattle.asc_traj.specs.Inside.{why_of};
 
 use crate::{Halt, Why};
 use asc_depvec::{LEAST_CAP, Tracer};
-use asc_shape::Bytes;
-use asc_step::{Stepped, try_step};
+use asc_shape::{Bytes, Shape};
+use asc_step::{Stepped, try_step_of};
 
 /// Where a trace is to end.
 #[derive(Clone, Copy, Debug, PartialEq, Eq)]
@@ -70,6 +70,7 @@ pub fn trace<H: Halt>(tracer: &mut Tracer, stop: &Stop, halt: &mut H) -> Traced
     ensures cap { tracer.new.cap ≡ tracer.old.cap }
 {
     known(tracer);
+    let shape = Bytes::shape(tracer);
     let mut steps = 0;
     let mut laps = 0;
     loop {
@@ -83,7 +84,7 @@ pub fn trace<H: Halt>(tracer: &mut Tracer, stop: &Stop, halt: &mut H) -> Traced
                 why: Why::Stopped,
             };
         }
-        if let Some(why) = attempt(tracer) {
+        if let Some(why) = attempt(tracer, shape) {
             return Traced { steps, why };
         }
         steps += 1;
@@ -112,9 +113,10 @@ fn bound_met(tracer: &Tracer, stop: &Stop, steps: u64, laps: u64) -> Option<Why>
     }
 }
 
-/// Tries one step. Where it calls or faults it answers that, and the reads of the attempt are taken back.
+/// Tries one step of a state of this shape. Where it calls or faults it answers that, and the reads of the attempt are taken back.
 #[inline]
-fn attempt(tracer: &mut Tracer) -> Option<Why>
+fn attempt(tracer: &mut Tracer, shape: Shape) -> Option<Why>
+    requires own { shape ≡ tracer.old.state.shape }
     requires room { step_room ≤ room_of (face_of tracer.old).marks }
     ensures ends { result ≡ why_no_step (next tracer.old.state) }
     ensures goes { IsNone result → face_of tracer.new ≡ face_after (face_of tracer.old) }
@@ -124,7 +126,7 @@ fn attempt(tracer: &mut Tracer) -> Option<Why>
 {
     known(tracer);
     let mark = tracer.mark();
-    let ended = why_of(try_step(tracer));
+    let ended = why_of(try_step_of(tracer, shape));
     known(tracer);
     if ended.is_some() {
         tracer.undo(mark);

@@ -17,6 +17,10 @@ loop-why-init g c = record {
 pub bound_met-requires : goal.bound_met-requires
 bound_met-requires g c = ap (λ (s : State). s.shape) c.loop-why.invariant.way.began ∙ sym c.loop-why.invariant.way.own
 
+pub attempt-requires-clause-own : goal.attempt-requires-clause-own
+attempt-requires-clause-own g c =
+    c.shape-shape.ensures.shape ∙ sym (ap (λ (s : State). s.shape) c.loop-why.invariant.way.began)
+
 pub returns-in-Some-clause-reach : goal.returns-in-Some-clause-reach
 returns-in-Some-clause-reach g c = λ _.
     let bounds = bounds_of c.args.stop.now c.args.tracer.now.cap in
