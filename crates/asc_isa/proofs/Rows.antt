@@ -8,7 +8,7 @@ use Rattle.asc_isa.specs.Decode.{version_of, HasRegisters}
 use Rattle.asc_isa.specs.Rows.{opcode_of, rows_of}
 
 -- a word that a row is for has the row's opcode
-fits-opcode : (key : Key) (word : ℕ) → fits key word ≡ true → opcode word ≡ opcode_of key
+pub fits-opcode : (key : Key) (word : ℕ) → fits key word ≡ true → opcode word ≡ opcode_of key
 fits-opcode (Major major) word h = eqb-true _ _ h
 fits-opcode (Minor major minor) word h = eqb-true _ _ (and_parts _ _ h).0
 fits-opcode (Full major minor funct) word h = eqb-true _ _ (and_parts _ _ (and_parts _ _ h).0).0

@@ -3,6 +3,7 @@
 
 mod decoding;
 mod fields;
+mod likely;
 mod operands;
 mod specialized;
 #[cfg(test)]
@@ -10,4 +11,5 @@ mod tests;
 
 pub use asc_model::{Instr, Op};
 pub use decoding::decode;
+pub use likely::decode_likely;
 pub use specialized::decode_specialized;
