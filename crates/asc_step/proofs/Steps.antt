@@ -170,6 +170,10 @@ module _ (f f1 f2 : Face) (pc word : ℕ) (instruction : Option Instr) (h : IsFe
       h.word_is ∙ ap (λ (s : State). word_at s.bytes (place_of f.state.shape pc)) (state_after_reads f f1 _ h.first)
       ∙ ap (λ x. word_at f.state.bytes (place_of f.state.shape x)) h.pc_is ∙ sym (view_of-fetch f.state)
 
+  -- and at the pc of the state as it is now
+  pub word_fetched : word ≡ fetch f2.state.shape (view_of f2.state)
+  word_fetched = fetched_word ∙ ap (λ (s : State). fetch s.shape (view_of s)) (sym fetched_state)
+
   fetched_instruction : instruction ≡ decode f.state.shape.version (fetch f.state.shape (view_of f.state))
   fetched_instruction = h.instruction_is ∙ ap (decode f.state.shape.version) fetched_word
 

@@ -1,15 +1,21 @@
 //! One step of the machine.
 ghost use Rattle.std.specs.Prelude.{◌≡◌, ◌+◌, ◌≤◌};
+ghost use Rattle.asc_model.specs.Instruction.{decode};
+ghost use Rattle.asc_model.specs.Machine.{view_of};
+ghost use Rattle.asc_model.specs.Places.{operand_places};
 ghost use Rattle.asc_model.specs.Reach.{step_room};
+ghost use Rattle.asc_model.specs.Step.{fetch, outcome_of_word};
 ghost use Rattle.asc_shape.specs.Face.{room_of};
+ghost use Rattle.asc_step.specs.Execute.{AtInstruction, answer_of, face_after_outcome};
 ghost use Rattle.asc_step.specs.Step.{Attempts, counted_steps};
 
+use crate::execute::execute;
 use crate::faults::{fault, word_fault};
 use crate::places::read_word;
 use crate::specialized::{execute_likely, step_specialized};
 use crate::version::has_atomics;
 use crate::{FaultKind, Stepped};
-use asc_isa::decode;
+use asc_isa::{decode, decode_likely};
 use asc_shape::{Shape, Steps, Words};
 use std::sync::ledger::Ledger;
 
@@ -18,8 +24,8 @@ use std::sync::ledger::Ledger;
 ///
 /// All that the step reads is read before anything is put. A step that calls or faults puts nothing.
 ///
-/// Decoding is compact, and only the operations that programs do most have code of their own, which is quicker for a
-/// tracer. `step` has code of its own for each operation, which makes a plain step cheaper.
+/// Only the operations that programs do most have code of their own, so that the rest of a tracer's step takes no room
+/// in the loop of a trace. `step` has code of its own for each operation.
 #[inline(always)]
 pub fn try_step_of<B: Words>(bytes: &mut B, shape: Shape) -> Stepped
     requires shape { shape ≡ (B.face bytes.old).state.shape }
@@ -33,8 +39,29 @@ pub fn try_step_of<B: Words>(bytes: &mut B, shape: Shape) -> Stepped
         return fault(kind, pc, pc);
     }
     let word = read_word(bytes, shape.place_of(pc));
-    match decode(word, has_atomics(shape.version())) {
+    match decode_likely(word) {
         Some(instruction) => execute_likely(bytes, shape, pc, instruction),
+        None => execute_word(bytes, shape, pc, word),
+    }
+}
+
+/// Carries out the word that was fetched from this pc, whatever it is.
+#[cold]
+#[inline(never)]
+fn execute_word<B: Words>(bytes: &mut B, shape: Shape, pc: u32, word: u32) -> Stepped
+    requires shape { shape ≡ (B.face bytes.old).state.shape }
+    requires at { AtInstruction (B.face bytes.old) pc }
+    requires word { let s = (B.face bytes.old).state in word ≡ fetch s.shape (view_of s) }
+    requires room { 22 ≤ room_of (B.face bytes.old).marks }
+    ensures answer { let s = (B.face bytes.old).state in
+        result ≡ answer_of (outcome_of_word s.shape (view_of s) (decode s.shape.version word)) }
+    ensures face { let s = (B.face bytes.old).state in
+        B.face bytes.new ≡ face_after_outcome (B.face bytes.old)
+        (operand_places s.shape (view_of s) (decode s.shape.version word))
+        (outcome_of_word s.shape (view_of s) (decode s.shape.version word)) }
+{
+    match decode(word, has_atomics(shape.version())) {
+        Some(instruction) => execute(bytes, shape, pc, instruction),
         None => fault(FaultKind::Illegal, pc, word),
     }
 }
