@@ -1,6 +1,6 @@
 ghost use Rattle.std.specs.Prelude.{◌≡◌, ◌<◌};
 
-use crate::{Fault, FaultKind, Stepped, step, try_step};
+use crate::{Fault, FaultKind, Stepped, step, step_many, try_step};
 use asc_shape::{Shape, State, Steps};
 use std::alloc::Global;
 use std::marker::Brand;
@@ -50,8 +50,9 @@ fn run_three<L: Ledger, R: Abort>(rt: &R, blank: Blank, state: &mut State)
 {
     let mut steps = Steps::<L>::new(blank);
     assert_eq!(rt; step(state, &mut steps), Stepped::Went);
-    assert_eq!(rt; step(state, &mut steps), Stepped::Went);
+    assert_eq!(rt; step_many(state, 1, &mut steps), (1, Stepped::Went));
     assert_eq!(rt; step(state, &mut steps), Stepped::Call);
+    assert_eq!(rt; step_many(state, 5, &mut steps), (0, Stepped::Call));
     counts_two(&steps);
 }
 
