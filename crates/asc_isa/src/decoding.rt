@@ -46,7 +46,7 @@ fn instruction(word: u32, atomics: bool) -> Option<Instr>
 }
 
 /// LUI.
-#[inline(always)]
+#[inline]
 fn lui(word: u32) -> Option<Instr>
     requires { opcode word ≡ 0b0110111 }
     ensures { result ≡ find (rows_of 0b0110111 base_table) word }
@@ -55,7 +55,7 @@ fn lui(word: u32) -> Option<Instr>
 }
 
 /// AUIPC.
-#[inline(always)]
+#[inline]
 fn auipc(word: u32) -> Option<Instr>
     requires { opcode word ≡ 0b0010111 }
     ensures { result ≡ find (rows_of 0b0010111 base_table) word }
@@ -64,7 +64,7 @@ fn auipc(word: u32) -> Option<Instr>
 }
 
 /// JAL.
-#[inline(always)]
+#[inline]
 fn jal(word: u32) -> Option<Instr>
     requires { opcode word ≡ 0b1101111 }
     ensures { result ≡ find (rows_of 0b1101111 base_table) word }
@@ -73,7 +73,7 @@ fn jal(word: u32) -> Option<Instr>
 }
 
 /// JALR.
-#[inline(always)]
+#[inline]
 fn jalr(word: u32) -> Option<Instr>
     requires { opcode word ≡ 0b1100111 }
     ensures { result ≡ find (rows_of 0b1100111 base_table) word }
@@ -85,7 +85,7 @@ fn jalr(word: u32) -> Option<Instr>
 }
 
 /// BRANCH: the conditional branches.
-#[inline(always)]
+#[inline]
 fn branch(word: u32) -> Option<Instr>
     requires { opcode word ≡ 0b1100011 }
     ensures { result ≡ find (rows_of 0b1100011 base_table) word }
@@ -102,7 +102,7 @@ fn branch(word: u32) -> Option<Instr>
 }
 
 /// LOAD.
-#[inline(always)]
+#[inline]
 fn load(word: u32) -> Option<Instr>
     requires { opcode word ≡ 0b0000011 }
     ensures { result ≡ find (rows_of 0b0000011 base_table) word }
@@ -118,7 +118,7 @@ fn load(word: u32) -> Option<Instr>
 }
 
 /// STORE.
-#[inline(always)]
+#[inline]
 fn store(word: u32) -> Option<Instr>
     requires { opcode word ≡ 0b0100011 }
     ensures { result ≡ find (rows_of 0b0100011 base_table) word }
@@ -132,7 +132,7 @@ fn store(word: u32) -> Option<Instr>
 }
 
 /// OP-IMM: the operations on a register and an immediate.
-#[inline(always)]
+#[inline]
 fn op_imm(word: u32) -> Option<Instr>
     requires { opcode word ≡ 0b0010011 }
     ensures { result ≡ find (rows_of 0b0010011 base_table) word }
@@ -152,7 +152,7 @@ fn op_imm(word: u32) -> Option<Instr>
 }
 
 /// OP: the operations on two registers.
-#[inline(always)]
+#[inline]
 fn op(word: u32) -> Option<Instr>
     requires { opcode word ≡ 0b0110011 }
     ensures { result ≡ find (rows_of 0b0110011 base_table) word }
@@ -187,7 +187,7 @@ fn op(word: u32) -> Option<Instr>
 }
 
 /// MISC-MEM: the fences.
-#[inline(always)]
+#[inline]
 fn misc_mem(word: u32) -> Option<Instr>
     requires { opcode word ≡ 0b0001111 }
     ensures { result ≡ find (rows_of 0b0001111 base_table) word }
@@ -200,7 +200,7 @@ fn misc_mem(word: u32) -> Option<Instr>
 }
 
 /// SYSTEM: the words that call the environment.
-#[inline(always)]
+#[inline]
 fn system(word: u32) -> Option<Instr>
     requires { opcode word ≡ 0b1110011 }
     ensures { result ≡ find (rows_of 0b1110011 base_table) word }
@@ -213,7 +213,7 @@ fn system(word: u32) -> Option<Instr>
 }
 
 /// AMO: the atomics on words.
-#[inline(always)]
+#[inline]
 fn amo(word: u32) -> Option<Instr>
     requires { opcode word ≡ 0b0101111 }
     ensures { result ≡ find (rows_of 0b0101111 atomic_table) word }
