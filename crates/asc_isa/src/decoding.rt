@@ -1,7 +1,4 @@
 //! Which instruction a word is (RISC-V unprivileged manual 20191213, chapter 24).
-//!
-//! Each arm builds its instruction itself. From each of them a compiler can lead to code for that operation alone, which
-//! makes a plain step cheaper.
 ghost use Rattle.std.specs.Prelude.{◌≡◌, IfSome};
 ghost use Rattle.asc_model.specs.Instruction.{decode, opcode, find, base_table, atomic_table};
 ghost use Rattle.asc_isa.specs.Decode.{version_of, HasRegisters};
@@ -47,7 +44,7 @@ fn instruction(word: u32, atomics: bool) -> Option<Instr>
 
 /// LUI.
 #[inline]
-fn lui(word: u32) -> Option<Instr>
+pub(crate) fn lui(word: u32) -> Option<Instr>
     requires { opcode word ≡ 0b0110111 }
     ensures { result ≡ find (rows_of 0b0110111 base_table) word }
 {
@@ -56,7 +53,7 @@ fn lui(word: u32) -> Option<Instr>
 
 /// AUIPC.
 #[inline]
-fn auipc(word: u32) -> Option<Instr>
+pub(crate) fn auipc(word: u32) -> Option<Instr>
     requires { opcode word ≡ 0b0010111 }
     ensures { result ≡ find (rows_of 0b0010111 base_table) word }
 {
@@ -65,7 +62,7 @@ fn auipc(word: u32) -> Option<Instr>
 
 /// JAL.
 #[inline]
-fn jal(word: u32) -> Option<Instr>
+pub(crate) fn jal(word: u32) -> Option<Instr>
     requires { opcode word ≡ 0b1101111 }
     ensures { result ≡ find (rows_of 0b1101111 base_table) word }
 {
@@ -74,7 +71,7 @@ fn jal(word: u32) -> Option<Instr>
 
 /// JALR.
 #[inline]
-fn jalr(word: u32) -> Option<Instr>
+pub(crate) fn jalr(word: u32) -> Option<Instr>
     requires { opcode word ≡ 0b1100111 }
     ensures { result ≡ find (rows_of 0b1100111 base_table) word }
 {
@@ -90,15 +87,16 @@ fn branch(word: u32) -> Option<Instr>
     requires { opcode word ≡ 0b1100011 }
     ensures { result ≡ find (rows_of 0b1100011 base_table) word }
 {
-    match funct3(word) {
-        0b000 => Some(b_type(Op::Beq, word)),
-        0b001 => Some(b_type(Op::Bne, word)),
-        0b100 => Some(b_type(Op::Blt, word)),
-        0b101 => Some(b_type(Op::Bge, word)),
-        0b110 => Some(b_type(Op::Bltu, word)),
-        0b111 => Some(b_type(Op::Bgeu, word)),
-        _ => None,
-    }
+    let op = match funct3(word) {
+        0b000 => Op::Beq,
+        0b001 => Op::Bne,
+        0b100 => Op::Blt,
+        0b101 => Op::Bge,
+        0b110 => Op::Bltu,
+        0b111 => Op::Bgeu,
+        _ => return None,
+    };
+    Some(b_type(op, word))
 }
 
 /// LOAD.
@@ -107,14 +105,15 @@ fn load(word: u32) -> Option<Instr>
     requires { opcode word ≡ 0b0000011 }
     ensures { result ≡ find (rows_of 0b0000011 base_table) word }
 {
-    match funct3(word) {
-        0b000 => Some(i_type(Op::Lb, word)),
-        0b001 => Some(i_type(Op::Lh, word)),
-        0b010 => Some(i_type(Op::Lw, word)),
-        0b100 => Some(i_type(Op::Lbu, word)),
-        0b101 => Some(i_type(Op::Lhu, word)),
-        _ => None,
-    }
+    let op = match funct3(word) {
+        0b000 => Op::Lb,
+        0b001 => Op::Lh,
+        0b010 => Op::Lw,
+        0b100 => Op::Lbu,
+        0b101 => Op::Lhu,
+        _ => return None,
+    };
+    Some(i_type(op, word))
 }
 
 /// STORE.
@@ -123,12 +122,13 @@ fn store(word: u32) -> Option<Instr>
     requires { opcode word ≡ 0b0100011 }
     ensures { result ≡ find (rows_of 0b0100011 base_table) word }
 {
-    match funct3(word) {
-        0b000 => Some(s_type(Op::Sb, word)),
-        0b001 => Some(s_type(Op::Sh, word)),
-        0b010 => Some(s_type(Op::Sw, word)),
-        _ => None,
-    }
+    let op = match funct3(word) {
+        0b000 => Op::Sb,
+        0b001 => Op::Sh,
+        0b010 => Op::Sw,
+        _ => return None,
+    };
+    Some(s_type(op, word))
 }
 
 /// OP-IMM: the operations on a register and an immediate.
@@ -137,18 +137,19 @@ fn op_imm(word: u32) -> Option<Instr>
     requires { opcode word ≡ 0b0010011 }
     ensures { result ≡ find (rows_of 0b0010011 base_table) word }
 {
-    match (funct3(word), funct7(word)) {
-        (0b000, _) => Some(i_type(Op::Addi, word)),
-        (0b010, _) => Some(i_type(Op::Slti, word)),
-        (0b011, _) => Some(i_type(Op::Sltiu, word)),
-        (0b100, _) => Some(i_type(Op::Xori, word)),
-        (0b110, _) => Some(i_type(Op::Ori, word)),
-        (0b111, _) => Some(i_type(Op::Andi, word)),
-        (0b001, 0b0000000) => Some(shift(Op::Slli, word)),
-        (0b101, 0b0000000) => Some(shift(Op::Srli, word)),
-        (0b101, 0b0100000) => Some(shift(Op::Srai, word)),
-        _ => None,
-    }
+    let op = match (funct3(word), funct7(word)) {
+        (0b000, _) => Op::Addi,
+        (0b010, _) => Op::Slti,
+        (0b011, _) => Op::Sltiu,
+        (0b100, _) => Op::Xori,
+        (0b110, _) => Op::Ori,
+        (0b111, _) => Op::Andi,
+        (0b001, 0b0000000) => return Some(shift(Op::Slli, word)),
+        (0b101, 0b0000000) => return Some(shift(Op::Srli, word)),
+        (0b101, 0b0100000) => return Some(shift(Op::Srai, word)),
+        _ => return None,
+    };
+    Some(i_type(op, word))
 }
 
 /// OP: the operations on two registers.
@@ -157,38 +158,33 @@ fn op(word: u32) -> Option<Instr>
     requires { opcode word ≡ 0b0110011 }
     ensures { result ≡ find (rows_of 0b0110011 base_table) word }
 {
-    // Most words of it have 0 in the seven bits of funct7.
-    if word < 1 << 25 {
-        return match funct3(word) {
-            0b000 => Some(r_type(Op::Add, word)),
-            0b001 => Some(r_type(Op::Sll, word)),
-            0b010 => Some(r_type(Op::Slt, word)),
-            0b011 => Some(r_type(Op::Sltu, word)),
-            0b100 => Some(r_type(Op::Xor, word)),
-            0b101 => Some(r_type(Op::Srl, word)),
-            0b110 => Some(r_type(Op::Or, word)),
-            0b111 => Some(r_type(Op::And, word)),
-            _ => None,
-        };
-    }
-    match (funct7(word), funct3(word)) {
-        (0b0100000, 0b000) => Some(r_type(Op::Sub, word)),
-        (0b0100000, 0b101) => Some(r_type(Op::Sra, word)),
-        (0b0000001, 0b000) => Some(r_type(Op::Mul, word)),
-        (0b0000001, 0b001) => Some(r_type(Op::Mulh, word)),
-        (0b0000001, 0b010) => Some(r_type(Op::Mulhsu, word)),
-        (0b0000001, 0b011) => Some(r_type(Op::Mulhu, word)),
-        (0b0000001, 0b100) => Some(r_type(Op::Div, word)),
-        (0b0000001, 0b101) => Some(r_type(Op::Divu, word)),
-        (0b0000001, 0b110) => Some(r_type(Op::Rem, word)),
-        (0b0000001, 0b111) => Some(r_type(Op::Remu, word)),
-        _ => None,
-    }
+    let op = match (funct7(word), funct3(word)) {
+        (0b0000000, 0b000) => Op::Add,
+        (0b0100000, 0b000) => Op::Sub,
+        (0b0000000, 0b001) => Op::Sll,
+        (0b0000000, 0b010) => Op::Slt,
+        (0b0000000, 0b011) => Op::Sltu,
+        (0b0000000, 0b100) => Op::Xor,
+        (0b0000000, 0b101) => Op::Srl,
+        (0b0100000, 0b101) => Op::Sra,
+        (0b0000000, 0b110) => Op::Or,
+        (0b0000000, 0b111) => Op::And,
+        (0b0000001, 0b000) => Op::Mul,
+        (0b0000001, 0b001) => Op::Mulh,
+        (0b0000001, 0b010) => Op::Mulhsu,
+        (0b0000001, 0b011) => Op::Mulhu,
+        (0b0000001, 0b100) => Op::Div,
+        (0b0000001, 0b101) => Op::Divu,
+        (0b0000001, 0b110) => Op::Rem,
+        (0b0000001, 0b111) => Op::Remu,
+        _ => return None,
+    };
+    Some(r_type(op, word))
 }
 
 /// MISC-MEM: the fences.
 #[inline]
-fn misc_mem(word: u32) -> Option<Instr>
+pub(crate) fn misc_mem(word: u32) -> Option<Instr>
     requires { opcode word ≡ 0b0001111 }
     ensures { result ≡ find (rows_of 0b0001111 base_table) word }
 {
@@ -201,7 +197,7 @@ fn misc_mem(word: u32) -> Option<Instr>
 
 /// SYSTEM: the words that call the environment.
 #[inline]
-fn system(word: u32) -> Option<Instr>
+pub(crate) fn system(word: u32) -> Option<Instr>
     requires { opcode word ≡ 0b1110011 }
     ensures { result ≡ find (rows_of 0b1110011 base_table) word }
 {
@@ -221,18 +217,19 @@ fn amo(word: u32) -> Option<Instr>
     if funct3(word) != 0b010 {
         return None;
     }
-    match funct5(word) {
-        0b00010 if rs2(word) == 0 => Some(r_type(Op::LrW, word)),
-        0b00011 => Some(r_type(Op::ScW, word)),
-        0b00001 => Some(r_type(Op::AmoswapW, word)),
-        0b00000 => Some(r_type(Op::AmoaddW, word)),
-        0b00100 => Some(r_type(Op::AmoxorW, word)),
-        0b01100 => Some(r_type(Op::AmoandW, word)),
-        0b01000 => Some(r_type(Op::AmoorW, word)),
-        0b10000 => Some(r_type(Op::AmominW, word)),
-        0b10100 => Some(r_type(Op::AmomaxW, word)),
-        0b11000 => Some(r_type(Op::AmominuW, word)),
-        0b11100 => Some(r_type(Op::AmomaxuW, word)),
-        _ => None,
-    }
+    let op = match funct5(word) {
+        0b00010 if rs2(word) == 0 => Op::LrW,
+        0b00011 => Op::ScW,
+        0b00001 => Op::AmoswapW,
+        0b00000 => Op::AmoaddW,
+        0b00100 => Op::AmoxorW,
+        0b01100 => Op::AmoandW,
+        0b01000 => Op::AmoorW,
+        0b10000 => Op::AmominW,
+        0b10100 => Op::AmomaxW,
+        0b11000 => Op::AmominuW,
+        0b11100 => Op::AmomaxuW,
+        _ => return None,
+    };
+    Some(r_type(op, word))
 }

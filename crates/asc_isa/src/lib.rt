@@ -5,9 +5,11 @@ mod decoding;
 mod fields;
 mod likely;
 mod operands;
+mod specialized;
 #[cfg(test)]
 mod tests;
 
 pub use asc_model::{Instr, Op};
 pub use decoding::decode;
 pub use likely::decode_likely;
+pub use specialized::decode_specialized;

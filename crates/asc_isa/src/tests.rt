@@ -1,13 +1,17 @@
 //! Words and the instructions that they are. Where an instruction stands beside a word, llvm-mc (LLVM 14.0.6) made the
 //! word of it; the other words are written after the manual's encoding.
-use crate::{Instr, Op, decode, decode_likely};
+use crate::{Instr, Op, decode, decode_likely, decode_specialized};
 use std::process::Abort;
 
-/// `decode` answers this instruction for a word with the atomics, and that one without. `decode_likely` answers that one
-/// too, or none.
+/// Both decoders answer this instruction for a word with the atomics, and that one without. The one of operations that
+/// programs do most answers it too, or none.
 fn assert_decoded<R: Abort>(rt: &R, word: u32, with: Option<Instr>, without: Option<Instr>) {
     for (atomics, want) in [(true, with), (false, without)] {
-        assert_eq!(rt; decode(word, atomics), want, "{word}");
+        assert_eq!(rt;
+            (decode(word, atomics), decode_specialized(word, atomics)),
+            (want, want),
+            "{word}"
+        );
     }
     let likely = decode_likely(word);
     assert!(rt; likely.is_none() || likely == without, "{word}");

@@ -1,7 +1,7 @@
 //! One step of the machine, with code of its own for each operation.
 //!
-//! It comes to what `try_step` comes to. There are two since a plain step is cheaper with such code for all operations,
-//! and a tracer's step with such code for those alone that programs do most.
+//! It comes to what `try_step` comes to. There are two since a plain step is cheaper with such code, and a tracer's
+//! step with the compact code of `try_step`.
 ghost use Rattle.std.specs.Prelude.{◌≡◌, ◌≤◌, Some};
 ghost use Rattle.asc_model.specs.Machine.{view_of};
 ghost use Rattle.asc_model.specs.Instruction.{op_of};
@@ -18,7 +18,7 @@ use crate::faults::{fault, word_fault};
 use crate::places::read_word;
 use crate::version::has_atomics;
 use crate::{FaultKind, Stepped};
-use asc_isa::{Instr, Op, decode};
+use asc_isa::{Instr, Op, decode_specialized};
 use asc_shape::{Shape, Words};
 
 /// Takes one step of a state of this shape as `try_step` does, with code of its own for each operation.
@@ -35,7 +35,7 @@ pub(crate) fn step_specialized<B: Words>(bytes: &mut B, shape: Shape) -> Stepped
         return fault(kind, pc, pc);
     }
     let word = read_word(bytes, shape.place_of(pc));
-    match decode(word, has_atomics(shape.version())) {
+    match decode_specialized(word, has_atomics(shape.version())) {
         Some(instruction) => execute_specialized(bytes, shape, pc, instruction),
         None => fault(FaultKind::Illegal, pc, word),
     }
@@ -132,7 +132,7 @@ fn execute_specialized<B: Words>(
 /// most.
 ///
 /// Each arm does the same, as in `execute_specialized`. With many more arms the compiler no longer takes this into the
-/// loop of a trace, which then is slower. The last arm is for none of the operations that `decode_likely` answers.
+/// loop of a trace, which then is slower.
 #[inline(always)]
 pub(crate) fn execute_likely<B: Words>(
     bytes: &mut B,
