@@ -1,7 +1,8 @@
 //! Which instruction a word is, with an arm for each operation that builds its instruction itself.
 //!
 //! It answers as `decode` does. From each of these arms a compiler can lead to code for that operation alone, which
-//! makes a plain step cheaper. There are two since the compact code of `decode` is quicker for a tracer.
+//! makes a plain step cheaper. There are two since a decoder that is called from two places would be taken
+//! into neither.
 ghost use Rattle.std.specs.Prelude.{◌≡◌, IfSome};
 ghost use Rattle.asc_model.specs.Instruction.{decode, opcode, find, base_table, atomic_table};
 ghost use Rattle.asc_isa.specs.Decode.{version_of, HasRegisters};

@@ -1,7 +1,7 @@
 //! One step of the machine, with code of its own for each operation.
 //!
-//! It comes to what `try_step` comes to. There are two since a plain step is cheaper with such code, and a tracer's
-//! step with the compact code of `try_step`.
+//! It comes to what `try_step` comes to. There are two since a plain step is cheaper with such code for all operations,
+//! and a tracer's step with such code for those alone that programs do most.
 ghost use Rattle.std.specs.Prelude.{◌≡◌, ◌≤◌, Some};
 ghost use Rattle.asc_model.specs.Machine.{view_of};
 ghost use Rattle.asc_model.specs.Instruction.{op_of};
@@ -132,7 +132,7 @@ fn execute_specialized<B: Words>(
 /// most.
 ///
 /// Each arm does the same, as in `execute_specialized`. With many more arms the compiler no longer takes this into the
-/// loop of a trace, which then is slower.
+/// loop of a trace, which then is slower. The last arm is for none of the operations that `decode_likely` answers.
 #[inline(always)]
 pub(crate) fn execute_likely<B: Words>(
     bytes: &mut B,
