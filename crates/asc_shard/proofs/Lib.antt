@@ -1,3 +1,6 @@
 pub mod Adding
 pub mod Finding
 pub mod Marks
+pub mod Orders
+pub mod Slots
+pub mod Matching

@@ -22,9 +22,9 @@ pub record Asked : Type 0 where
 
 -- The entry is held, the state has its fingerprint, and these are few probes for the held entries of its group.
 pub record IsAsked (held : List Entry) (s : State) (a : Asked) : Type 0 where
-  pub held : Contains held a.entry
-  pub print : may_match s a.entry ≡ true
-  pub few : IsFew a.probes (count_by (is_of_group a.entry) held)
+  pub is_held : Contains held a.entry
+  pub has_print : may_match s a.entry ≡ true
+  pub is_few : IsFew a.probes (count_by (is_of_group a.entry) held)
 
 -- so each of these is, and no two are of one group
 pub record AreAsked (held : List Entry) (s : State) (asked : List Asked) : Type 0 where
