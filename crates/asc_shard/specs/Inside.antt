@@ -73,6 +73,10 @@ by_tail = then_cmp (on (λ (e : Entry). bytes_of e.reads) (slice_cmp nat_cmp)) (
 abbrev pub by_all : Entry → Entry → Ordering
 by_all = then_cmp by_head by_tail
 
+-- the bytes that an entry reads against those that a state has at their places
+abbrev pub compare_with : Entry → State → Ordering
+compare_with e s = slice_cmp nat_cmp (bytes_of e.reads) (bytes_at s e.reads)
+
 -- ---- the index
 
 -- an entry for positions at which none is

@@ -214,7 +214,7 @@ fn last_match<P: Probes>(
         let middle = low + (high - low) / 2;
         let entry: &Entry = &entries[slots[middle].position];
         probes.tick();
-        match compare_with(entry.reads(), state) {
+        match compare_with(entry, state) {
             Ordering::Less => low = middle + 1,
             Ordering::Equal if entry.steps() <= left => {
                 best = Some(middle);

@@ -1,8 +1,7 @@
-ghost use Rattle.std.specs.Prelude.{◌≡◌, ◌<◌, All};
+ghost use Rattle.std.specs.Prelude.{◌≡◌};
 ghost use Rattle.std.specs.Ordering.{nat_cmp};
 ghost use Rattle.std.specs.Cmp.Lexicographic.{slice_cmp};
-ghost use Rattle.asc_model.specs.Shape.{length_of};
-ghost use Rattle.asc_shard.specs.Inside.{bytes_at, bytes_of, mark_of, places_of, rank_of, by_all, by_group, by_shape};
+ghost use Rattle.asc_shard.specs.Inside.{bytes_of, compare_with, mark_of, places_of, rank_of, by_all, by_group, by_shape};
 
 use crate::mark::{Mark, compare_marks};
 use asc_model::Version;
@@ -75,12 +74,13 @@ fn compare_bytes(a: &[(u32, u8)], b: &[(u32, u8)]) -> Ordering
     a.len().cmp(&b.len())
 }
 
-/// Which are first, the bytes of cells or those that a state has at their places.
-pub fn compare_with(cells: &[(u32, u8)], state: &State) -> Ordering
-    requires { All (λ cell. cell.0 < length_of state.now.shape) cells.now }
-    ensures { result ≡ slice_cmp nat_cmp (bytes_of cells.now) (bytes_at state.now cells.now) }
+/// Which are first, the bytes that an entry reads or those that a state of its shape has at their places.
+pub fn compare_with(entry: &Entry, state: &State) -> Ordering
+    requires { entry.now.shape ≡ state.now.shape }
+    ensures { result ≡ compare_with entry.now state.now }
 {
-    for cell in cells {
+    entry.truth();
+    for cell in entry.reads() {
         let byte = state.get(cell.0);
         if cell.1 != byte {
             return cell.1.cmp(&byte);

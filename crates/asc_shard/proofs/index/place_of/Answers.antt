@@ -39,3 +39,6 @@ loop-low-preserved c =
       before = v.before;
       rest = λ i least lt. not-less-above all_total (nth (sorted_of held slots)) 0 (length slots) (index-up held slots c.requires.index) c.args.entry.now m i (omega arith) (omega arith) (omega arith) rest;
     }
+
+pub returns-clause-rest : goal.returns-clause-rest
+returns-clause-rest c = λ i least lt. c.loop-low.invariant.rest i (omega arith) lt
