@@ -4,3 +4,4 @@ pub mod Marks
 pub mod Orders
 pub mod Slots
 pub mod Matching
+pub mod Ranges

@@ -109,7 +109,7 @@ fn search_range<P: Probes>(
     probes: &mut P,
 ) -> Best
     requires index { IsIndex (map arc_value entries.now) slots.now }
-    requires range { high ≤ length slots.now }
+    requires range { (low ≤ high) × (high ≤ length slots.now) }
     requires marks { (i j : ℕ) → low ≤ i → i < high → low ≤ j → j < high
         → mark_of (slice_index_or (sorted_of (map arc_value entries.now) slots.now) i no_entry)
         ≡ mark_of (slice_index_or (sorted_of (map arc_value entries.now) slots.now) j no_entry) }
