@@ -5,3 +5,5 @@ pub mod Orders
 pub mod Slots
 pub mod Matching
 pub mod Ranges
+pub mod Searching
+pub mod Longest

@@ -99,7 +99,7 @@ bits-tell f g (suc n) place e p least most =
 
 -- ---- the first reads of an entry
 
-places-filter : (g : ℕ → Bool) (cells : List (ℕ × ℕ)) → places_of (filter (λ cell. g cell.0) cells) ≡ filter g (places_of cells)
+pub places-filter : (g : ℕ → Bool) (cells : List (ℕ × ℕ)) → places_of (filter (λ cell. g cell.0) cells) ≡ filter g (places_of cells)
 places-filter g [] = refl
 places-filter g (cell ∷ cells) =
     let rest = filter (λ c. g c.0) cells in

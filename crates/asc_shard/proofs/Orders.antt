@@ -202,3 +202,13 @@ pub is-equal : (o : Ordering) → is_eq o ≡ true → o ≡ Equal
 is-equal Less e = cc
 is-equal Equal e = refl
 is-equal Greater e = cc
+
+pub then-greater : (o r : Ordering) → ordering_then o r ≡ Greater → (o ≡ Greater) ⊎ ((o ≡ Equal) × (r ≡ Greater))
+then-greater Less r e = cc
+then-greater Equal r e = inr (refl, e)
+then-greater Greater r e = inl refl
+
+pub not-le : (o : Ordering) → is_le o ≡ false → o ≡ Greater
+not-le Less e = cc
+not-le Equal e = cc
+not-le Greater e = refl

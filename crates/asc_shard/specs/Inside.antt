@@ -9,7 +9,7 @@ use Rattle.asc_model.specs.declared.version.Version.{Version}
 use Rattle.asc_model.specs.declared.version.Version.TheVariants.{One, Two}
 use Rattle.asc_model.specs.Shape.{Shape}
 use Rattle.asc_model.specs.State.{State}
-use Rattle.asc_model.specs.Entry.{Entry}
+use Rattle.asc_model.specs.Entry.{Entry, IsTrueEntry}
 use Rattle.asc_model.specs.DependencyVector.{is_among}
 use Rattle.asc_traj.specs.Content.{matches}
 use Rattle.asc_shard.specs.declared.mark.Mark.{Mark}
@@ -96,8 +96,9 @@ abbrev pub count_below : (ℕ → Bool) → ℕ → ℕ
 count_below f zero = 0
 count_below f (suc n) = count_below f n + (if f n then 1 else 0)
 
--- The slots are one for each entry, with its mark, and stand in rising order of entries.
+-- The entries hold everywhere. The slots are one for each entry, with its mark, and stand in rising order of entries.
 pub record IsIndex (held : List Entry) (slots : List Slot) : Type 0 where
+  pub true_all : All IsTrueEntry held
   pub size : length slots ≡ length held
   pub within : All (λ slot. slot.position < length held) slots
   pub once : (f : ℕ → Bool) → count_by (λ slot. f slot.position) slots ≡ count_below f (length held)

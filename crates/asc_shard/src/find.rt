@@ -85,14 +85,15 @@ pub fn search<P: Probes>(
         let mask = slots[from].mark.mask;
         let print = print_in(state, &entries[slots[from].position]);
         let wanted = Mark { mask, print };
-        let low = count_before(slots, wanted);
-        let high = count_through(slots, wanted);
-        best = search_range(entries, slots, low, high, state, left, best, probes);
         let last = Mark {
             mask,
             print: u64::MAX,
         };
-        from = count_through(slots, last);
+        let low = count_before(slots, wanted);
+        let high = count_through(slots, wanted);
+        let next = count_through(slots, last);
+        best = search_range(entries, slots, low, high, state, left, best, probes);
+        from = next;
     }
     best.position
 }
