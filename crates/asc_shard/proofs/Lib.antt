@@ -7,3 +7,4 @@ pub mod Matching
 pub mod Ranges
 pub mod Searching
 pub mod Longest
+pub mod Keeping

@@ -1,4 +1,4 @@
-ghost use Rattle.std.specs.Prelude.{◌≡◌, ℕ, ◌+◌, ◌<◌, ◌≤◌, ◌++◌, ◌∷◌, [], All, false, true, map, length, vec_len, slice_index_or, vec_capacity};
+ghost use Rattle.std.specs.Prelude.{◌≡◌, ℕ, ◌+◌, ◌<◌, ◌≤◌, ◌++◌, ◌∷◌, ◌==◌, [], All, false, true, map, length, position, vec_len, slice_index_or, vec_capacity};
 ghost use Rattle.std.specs.Arc.{arc_value};
 ghost use Rattle.std.specs.List.{AllWithin, list_any, remove};
 ghost use Rattle.std.specs.Ordering.{is_lt, is_le};
@@ -90,11 +90,17 @@ pub fn forget_oldest(entries: &[Arc<Entry>], slots: &mut Vec<Slot>)
     ensures index { IsIndex (remove (map arc_value entries.now) 0) slots.new.items }
     ensures room { vec_capacity slots.new ≡ vec_capacity slots.old }
 {
-    let Some(oldest) = slots.iter().position(|slot| slot.position == 0) else {
-        return;
-    };
-    slots.remove(oldest);
-    fall(slots);
+    if let Some(oldest) = place_of_oldest(slots) {
+        slots.remove(oldest);
+        fall(slots);
+    }
+}
+
+/// Where the oldest entry stands in an index.
+fn place_of_oldest(slots: &[Slot]) -> Option<usize>
+    ensures { result ≡ position (λ slot. slot.position == 0) slots.now }
+{
+    slots.iter().position(|slot| slot.position == 0)
 }
 
 /// All positions fall by one.
