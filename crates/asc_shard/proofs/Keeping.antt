@@ -7,7 +7,7 @@ use Rattle.std.specs.Cmp.Lexicographic.{slice_cmp}
 use Rattle.std.specs.declared.cmp.Ordering.{Ordering}
 use Rattle.std.specs.declared.cmp.Ordering.TheVariants.{Less, Equal, Greater}
 use lib.Pointwise.{pointwise}
-use Rattle.std.proofs.lemmas.Bool.{and_parts, and_from, cases_Bool, cases_lt, cases_eq, cases_order, eq-eqb, eqb-true, ne_eqb, false≢true, false_from_ne_true, or_parts, or_from, or_left, or_right, cond-true, cond-false, lt-ltb, ltb-true}
+use Rattle.std.proofs.lemmas.Bool.{and_parts, and_from, cases_Bool, cases_lt, cases_eq, cases_order, eq-eqb, eqb-true, ne_eqb, false≢true, false_from_ne_true, or_parts, or_from, or_left, or_right, cond-true, cond-false, lt-ltb, ltb-false, ltb-true}
 use Rattle.std.proofs.lemmas.Cmp.{tied_itself, alike_right}
 use Rattle.std.proofs.lemmas.List.{length-map, map-append, take-map, drop-map, get_or_append_left, get_or_push, get_or_default, length_push}
 use Rattle.std.proofs.lemmas.List.Elements.{All-append, All-cons, All-drop, All-head, All-push, All-tail, All-take, All-map}
@@ -218,4 +218,122 @@ index-added held slots e place mark index true_e marked most before rest none =
           (pairs-insert xs place e (omega (arith, size)) index.rise
             (λ i d lt. ap (λ (x : Entry). by_all x e) (get_or_default xs i d no_entry (omega (arith, size))) ∙ before i lt)
             (λ i d least lt. ap (by_all e) (get_or_default xs i d no_entry lt) ∙ behind-place held slots index e place before rest none i least (omega (arith, size))));
+    }
+
+-- ---- the oldest goes
+
+count-after : (f : ℕ → Bool) (n : ℕ) → count_below (λ p. f (p - 1)) (suc n) ≡ cond (f 0) 1 0 + count_below f n
+count-after f zero = let e : 0 + cond {A = ℕ} (f 0) 1 0 ≡ cond (f 0) 1 0 + 0 = omega arith in ap (λ k. 0 + cond {A = ℕ} (f k) 1 0) (let z : 0 - 1 ≡ 0 = omega arith in z) ∙ e
+count-after f (suc n) =
+    let ih = count-after f n in
+    let last = ap (λ k. cond {A = ℕ} (f k) 1 0) (let z : suc n - 1 ≡ n = omega arith in z) in
+    omega (arith, ih, last)
+
+count-fallen : (f : ℕ → Bool) (slots : List Slot) → count_by (λ slot. f slot.position) (map fallen slots) ≡ count_by (λ slot. f (slot.position - 1)) slots
+count-fallen f [] = refl
+count-fallen f (slot ∷ slots) =
+    let ih = count-fallen f slots in
+    let left = sum_by-cons (λ (x : Slot). cond (f x.position) 1 0) (fallen slot) (map fallen slots) in
+    let right = sum_by-cons (λ (x : Slot). cond (f (x.position - 1)) 1 0) slot slots in
+    omega (arith, ih, left, right)
+
+map-remove : (f : Slot → Entry) (slots : List Slot) (place : ℕ) → map f (remove slots place) ≡ remove (map f slots) place
+map-remove f slots place =
+    map-append f (take place slots) (drop (suc place) slots)
+    ∙ ap (λ list. list ++ map f (drop (suc place) slots)) (sym (take-map f place slots))
+    ∙ ap (λ list. take place (map f slots) ++ list) (sym (drop-map f (suc place) slots))
+
+all-remove : (P : Slot → Type 0) (slots : List Slot) (place : ℕ) → All P slots → All P (remove slots place)
+all-remove P slots place all = All-append P (take place slots) (drop (suc place) slots) (All-take P place slots all) (All-drop P (suc place) slots all)
+
+none-zero : (slots : List Slot) → count_by (λ slot. slot.position == 0) slots ≡ 0 → All (λ slot. 1 ≤ slot.position) slots
+none-zero [] none = λ k d lt. absurd (omega arith)
+none-zero (slot ∷ slots) none =
+    let counted = sum_by-cons (λ (x : Slot). cond (x.position == 0) 1 0) slot slots in
+    All-cons (λ x. 1 ≤ x.position) slot slots (elim (cases_eq slot.position 0) [
+      | inl zero_there ↦ let here = ap (λ (b : Bool). cond {A = ℕ} b 1 0) (eq-eqb slot.position 0 zero_there) in absurd (omega (arith, here, counted, none))
+      | inr apart ↦ omega (arith, apart)
+    ]) (none-zero slots (omega (arith, counted, none)))
+
+count-zero : (n : ℕ) → count_below (λ p. p == 0) (suc n) ≡ 1
+count-zero zero = refl
+count-zero (suc n) =
+    let ih = count-zero n in
+    let here : cond {A = ℕ} (suc n == 0) 1 0 ≡ 0 = cond-false (suc n == 0) 1 0 (ne_eqb (suc n) 0 (λ e. omega arith)) in
+    omega (arith, ih, here)
+
+count-zero-of : (n : ℕ) → 0 < n → count_below (λ p. p == 0) n ≡ 1
+count-zero-of zero some = absurd (omega arith)
+count-zero-of (suc n) some = count-zero n
+
+map-fallen : (held : List Entry) (slots : List Slot) → sorted_of held (map fallen slots) ≡ map (λ slot. nth held (slot.position - 1)) slots
+map-fallen held [] = refl
+map-fallen held (slot ∷ slots) = ap (λ list. nth held (slot.position - 1) ∷ list) (map-fallen held slots)
+
+-- no other slot is the oldest one's
+pub others-later : (held : List Entry) (slots : List Slot) (place : ℕ) → IsIndex held slots → 0 < length held → position (λ slot. slot.position == 0) slots ≡ Some place
+    → All (λ slot. 1 ≤ slot.position) (remove slots place)
+others-later held slots place index some found =
+    let blank : Slot = record { mark = record { mask = 0; print = 0 }; position = 0 } in
+    let is = position-Some (λ slot. slot.position == 0) slots place blank found in
+    let counted = sum_by-remove (λ (x : Slot). cond (x.position == 0) 1 0) slots place blank is.0 in
+    let here = ap (λ (b : Bool). cond {A = ℕ} b 1 0) is.1 in
+    let once = index.once (λ p. p == 0) in
+    let one = count-zero-of (length held) some in
+    none-zero (remove slots place) (omega (arith, counted, here, once, one))
+
+no-count : (slots : List Slot) → ((k : ℕ) (d : Slot) → k < length slots → ((get_or slots k d).position == 0) ≡ false) → count_by (λ slot. slot.position == 0) slots ≡ 0
+no-count [] none = refl
+no-count (slot ∷ slots) none =
+    let ih = no-count slots (λ k d lt. none (suc k) d (omega arith)) in
+    let here = ap (λ (b : Bool). cond {A = ℕ} b 1 0) (none 0 slot (omega arith)) in
+    let counted = sum_by-cons (λ (x : Slot). cond (x.position == 0) 1 0) slot slots in
+    omega (arith, ih, here, counted)
+
+-- and there is one
+pub oldest-there : (held : List Entry) (slots : List Slot) → IsIndex held slots → 0 < length held → position (λ slot. slot.position == 0) slots ≡ None → ⊥
+oldest-there held slots index some missing =
+    let is_oldest = λ (slot : Slot). slot.position == 0 in
+    let first = position_or_len is_oldest slots in
+    let once = index.once (λ p. p == 0) in
+    let one = count-zero-of (length held) some in
+    elim (cases_Bool (nat_lt first (length slots))) [
+      | inl there ↦ let no = sym missing ∙ cond-true (nat_lt first (length slots)) (Some first) None there in cc
+      | inr not ↦
+          let most = ltb-false first (length slots) not in
+          let none = no-count slots (λ k d lt. fails_before_first is_oldest slots k d (omega (arith, most, lt))) in
+          omega (arith, once, one, none)
+    ]
+
+pub index-without : (x : Entry) (held : List Entry) (slots : List Slot) (place : ℕ) → IsIndex (x ∷ held) slots → position (λ slot. slot.position == 0) slots ≡ Some place
+    → IsIndex held (map fallen (remove slots place))
+index-without x held slots place index found =
+    let blank : Slot = record { mark = record { mask = 0; print = 0 }; position = 0 } in
+    let is = position-Some (λ slot. slot.position == 0) slots place blank found in
+    let zero_there = eqb-true (get_or slots place blank).position 0 is.1 in
+    let left = remove slots place in
+    let later = others-later (x ∷ held) slots place index (omega arith) found in
+    let within = all-remove (λ slot. slot.position < length (x ∷ held)) slots place index.within in
+    let fell = length-map left fallen in
+    let short = length-remove slots place is.0 in
+    let behind : (k : ℕ) (d : Slot) → k < length left → nth (x ∷ held) (get_or left k d).position ≡ nth held ((get_or left k d).position - 1) = λ k d lt.
+    let least = later k d lt in ap (nth (x ∷ held)) (let e : (get_or left k d).position ≡ suc ((get_or left k d).position - 1) = omega (arith, least) in e) in
+    record {
+      true_all = All-tail IsTrueEntry x held index.true_all;
+      size = let size = index.size in omega (arith, fell, short, size);
+      within = All-map (λ slot. slot.position < length held) fallen left
+          (λ k d lt. let least = later k d lt in let most = within k d lt in omega (arith, least, most));
+      once = λ f.
+          let counted = sum_by-remove (λ (slot : Slot). cond (f (slot.position - 1)) 1 0) slots place blank is.0 in
+          let once = index.once (λ p. f (p - 1)) in
+          let after = count-after f (length held) in
+          let here = ap (λ p. cond {A = ℕ} (f (p - 1)) 1 0) zero_there in
+          count-fallen f left ∙ (omega (arith, counted, once, after, here));
+      marks = All-map (λ slot. slot.mark ≡ mark_of (nth held slot.position)) fallen left
+          (λ k d lt. all-remove (λ slot. slot.mark ≡ mark_of (nth (x ∷ held) slot.position)) slots place index.marks k d lt ∙ ap mark_of (behind k d lt));
+      rise = subst (AllPairs (λ a b. by_all a b ≡ Less)) (
+        sym (map-remove (λ slot. nth (x ∷ held) slot.position) slots place)
+            ∙ map-same (λ slot. nth (x ∷ held) slot.position) (λ slot. nth held (slot.position - 1)) left behind
+            ∙ sym (map-fallen held left)
+      ) (all_pairs_remove (λ a b. by_all a b ≡ Less) (sorted_of (x ∷ held) slots) place (omega (arith, is.0, sorted-length (x ∷ held) slots)) index.rise);
     }

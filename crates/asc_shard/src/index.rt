@@ -125,6 +125,8 @@ pub fn add(entries: &mut Vec<Arc<Entry>>, slots: &mut Vec<Slot>, entry: Arc<Entr
     ensures capacity { vec_capacity entries.new ≡ vec_capacity entries.old }
     ensures slots_capacity { vec_capacity slots.old ≤ vec_capacity slots.new }
 {
+    // That it holds everywhere.
+    entry.truth();
     let place = place_of(entries, slots, &entry, mark);
     let position = entries.len();
     // There is room for it.
