@@ -337,3 +337,8 @@ index-without x held slots place index found =
             ∙ sym (map-fallen held left)
       ) (all_pairs_remove (λ a b. by_all a b ≡ Less) (sorted_of (x ∷ held) slots) place (omega (arith, is.0, sorted-length (x ∷ held) slots)) index.rise);
     }
+
+pub index-fallen : (held : List Entry) (slots : List Slot) (place : ℕ) → IsIndex held slots → 0 < length held → position (λ slot. slot.position == 0) slots ≡ Some place
+    → IsIndex (drop 1 held) (map fallen (remove slots place))
+index-fallen [] slots place index some found = absurd (omega arith)
+index-fallen (x ∷ held) slots place index some found = index-without x held slots place index found
