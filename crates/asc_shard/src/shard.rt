@@ -94,7 +94,7 @@ impl Shard {
         ensures jump { IsJump result left state.old state.new }
     {
         match self.find_by(state, left, &mut Uncounted) {
-            Some(i) => Some(jump_by(&self.entries[i], state)),
+            Some(i) => Some(jump_by(self.entry(i), state)),
             None => None,
         }
     }
