@@ -70,27 +70,27 @@ fn added(word: u32, digits: u32) -> u32 {
     word | (a << 15) | (b << 20)
 }
 
+/// Puts a word, where memory has its place.
+fn put(state: &mut State, at: u32, word: u32) {
+    if state.holds(at, 4) {
+        state.write(at, &word.to_le_bytes());
+    }
+}
+
 fn state_of(alloc: Global, x9: u32, x10: u32, first: u32, lists: u32) -> Option<State> {
     let shape = Shape::new(0x10000, 65_536).ok()?;
     let mut state = State::new(alloc, shape).ok()?;
     state.set_pc(0x10000);
     let mut at: u32 = 0x10000;
     for word in &WORDS {
-        if state.holds(at, 4) {
-            state.write(at, &word.to_le_bytes());
-        }
+        put(&mut state, at, *word);
         at = at.wrapping_add(4);
     }
     if lists > 0 {
-        let words = [added(WORDS[0], lists), added(WORDS[1], lists / 7)];
-        if state.holds(0x10000, 8) {
-            state.write(0x10000, &words[0].to_le_bytes());
-            state.write(0x10004, &words[1].to_le_bytes());
-        }
+        put(&mut state, 0x10000, added(WORDS[0], lists));
+        put(&mut state, 0x10004, added(WORDS[1], lists / 7));
     }
-    if state.holds(x10, 4) {
-        state.write(x10, &first.to_le_bytes());
-    }
+    put(&mut state, x10, first);
     state.set_reg(5, 68);
     state.set_reg(9, x9);
     state.set_reg(10, x10);

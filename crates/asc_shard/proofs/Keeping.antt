@@ -1,13 +1,12 @@
 -- The index is kept: where an entry is put, and where the oldest goes.
-use Rattle.std.proofs.Common.{◌≡◌, ℕ, zero, suc, ◌+◌, ◌-◌, ◌<◌, ◌≤◌, ◌==◌, ◌&&◌, ◌||◌, ◌⊎◌, Bool, true, false, cond, List, [], ◌∷◌, ◌++◌, length, get_or, take, drop, map, Option, None, Some, refl, sym, ap, subst, ◌∙◌, inl, inr, arith, add-one, sub-one}
-use Rattle.std.specs.Prelude.{All, count_by, sum_by, nat_lt, if◌then◌else◌}
+use Rattle.std.proofs.Common.{◌≡◌, ℕ, zero, suc, ◌+◌, ◌-◌, ◌<◌, ◌≤◌, ◌==◌, ◌&&◌, ◌||◌, Bool, true, false, cond, List, [], ◌∷◌, ◌++◌, length, get_or, take, drop, map, None, Some, refl, sym, ap, subst, ◌∙◌, inl, inr, arith, add-one}
+use Rattle.std.specs.Prelude.{All, count_by, nat_lt}
 use Rattle.std.specs.List.{AllPairs, insert, list_any, position, position_or_len, remove}
-use Rattle.std.specs.Ordering.{nat_cmp, ordering_reverse, ordering_then, is_eq, is_lt}
+use Rattle.std.specs.Ordering.{nat_cmp, ordering_reverse, is_eq, is_lt}
 use Rattle.std.specs.Cmp.Lexicographic.{slice_cmp}
-use Rattle.std.specs.declared.cmp.Ordering.{Ordering}
-use Rattle.std.specs.declared.cmp.Ordering.TheVariants.{Less, Equal, Greater}
+use Rattle.std.specs.declared.cmp.Ordering.TheVariants.{Less, Equal}
 use lib.Pointwise.{pointwise}
-use Rattle.std.proofs.lemmas.Bool.{and_parts, and_from, cases_Bool, cases_lt, cases_eq, cases_order, eq-eqb, eqb-true, ne_eqb, false≢true, false_from_ne_true, or_parts, or_from, or_left, or_right, cond-true, cond-false, lt-ltb, ltb-false, ltb-true}
+use Rattle.std.proofs.lemmas.Bool.{and_parts, and_from, cases_Bool, cases_eq, cases_order, eq-eqb, eqb-true, ne_eqb, false≢true, false_from_ne_true, or_parts, or_from, or_left, or_right, cond-true, cond-false, lt-ltb, ltb-false}
 use Rattle.std.proofs.lemmas.Cmp.{tied_itself, alike_right}
 use Rattle.std.proofs.lemmas.List.{length-map, map-append, take-map, drop-map, get_or_append_left, get_or_push, get_or_default, length_push}
 use Rattle.std.proofs.lemmas.List.Elements.{All-append, All-cons, All-drop, All-head, All-push, All-tail, All-take, All-map}
@@ -71,7 +70,7 @@ equal-same e h equal =
     let tail = then-equal (slice_cmp nat_cmp (bytes_of h.reads) (bytes_of e.reads)) (nat_cmp h.steps e.steps) parts.1 in
     and_from (is_same_shape e.shape h.shape && (e.steps == h.steps)) (pointwise is_same_cell e.reads h.reads)
     (and_from (is_same_shape e.shape h.shape) (e.steps == h.steps) (ap (is_same_shape e.shape) (group-shape h e group) ∙ shape-self e.shape)
-      (eq-eqb e.steps h.steps (sym (nat-equal h.steps e.steps tail.1))))
+    (eq-eqb e.steps h.steps (sym (nat-equal h.steps e.steps tail.1))))
     (cells-same h.reads e.reads (group-places h e group) (same-list (bytes_of h.reads) (bytes_of e.reads) tail.0))
 
 -- ---- whether one is held
@@ -143,7 +142,7 @@ module _ (held : List Entry) (slots : List Slot) (index : IsIndex held slots) (e
   pub behind-place : list_any (is_same_entry e) held ≡ false → (i : ℕ) → place ≤ i → i < length slots → by_all e (at i) ≡ Less
   behind-place none i least lt = elim (not-less (by_all (at i) e) (rest i least lt)) [
     | inl equal ↦ absurd (false≢true (sym (none-at (is_same_entry e) (sorted_of held slots) i (omega (arith, sorted-length held slots)) (any-index (is_same_entry e) held slots index ∙ none))
-      ∙ equal-same e (at i) equal))
+        ∙ equal-same e (at i) equal))
     | inr more ↦ all_total.antisymm e (at i) ∙ ap ordering_reverse more
   ]
 
@@ -216,8 +215,8 @@ index-added held slots e place mark index true_e marked most before rest none =
           (λ k d lt. index.marks k d lt ∙ ap mark_of (sym (old (get_or slots k d).position (index.within k d lt)))) (marked ∙ ap mark_of (sym last));
       rise = subst (AllPairs (λ a b. by_all a b ≡ Less)) (sym sorted)
           (pairs-insert xs place e (omega (arith, size)) index.rise
-            (λ i d lt. ap (λ (x : Entry). by_all x e) (get_or_default xs i d no_entry (omega (arith, size))) ∙ before i lt)
-            (λ i d least lt. ap (by_all e) (get_or_default xs i d no_entry lt) ∙ behind-place held slots index e place before rest none i least (omega (arith, size))));
+          (λ i d lt. ap (λ (x : Entry). by_all x e) (get_or_default xs i d no_entry (omega (arith, size))) ∙ before i lt)
+          (λ i d least lt. ap (by_all e) (get_or_default xs i d no_entry lt) ∙ behind-place held slots index e place before rest none i least (omega (arith, size))));
     }
 
 -- ---- the oldest goes
@@ -332,10 +331,10 @@ index-without x held slots place index found =
       marks = All-map (λ slot. slot.mark ≡ mark_of (nth held slot.position)) fallen left
           (λ k d lt. all-remove (λ slot. slot.mark ≡ mark_of (nth (x ∷ held) slot.position)) slots place index.marks k d lt ∙ ap mark_of (behind k d lt));
       rise = subst (AllPairs (λ a b. by_all a b ≡ Less)) (
-        sym (map-remove (λ slot. nth (x ∷ held) slot.position) slots place)
-            ∙ map-same (λ slot. nth (x ∷ held) slot.position) (λ slot. nth held (slot.position - 1)) left behind
-            ∙ sym (map-fallen held left)
-      ) (all_pairs_remove (λ a b. by_all a b ≡ Less) (sorted_of (x ∷ held) slots) place (omega (arith, is.0, sorted-length (x ∷ held) slots)) index.rise);
+          sym (map-remove (λ slot. nth (x ∷ held) slot.position) slots place)
+          ∙ map-same (λ slot. nth (x ∷ held) slot.position) (λ slot. nth held (slot.position - 1)) left behind
+          ∙ sym (map-fallen held left)
+          ) (all_pairs_remove (λ a b. by_all a b ≡ Less) (sorted_of (x ∷ held) slots) place (omega (arith, is.0, sorted-length (x ∷ held) slots)) index.rise);
     }
 
 pub index-fallen : (held : List Entry) (slots : List Slot) (place : ℕ) → IsIndex held slots → 0 < length held → position (λ slot. slot.position == 0) slots ≡ Some place

@@ -1,26 +1,24 @@
 -- Fingerprints: those of one mask take the same places, and none hides a match.
-use Rattle.std.proofs.Common.{◌≡◌, ◌<◌, ◌≤◌, ◌+◌, ◌*◌, ◌/◌, ◌%◌, ◌^◌, ◌==◌, ◌||◌, ℕ, zero, suc, Bool, true, false, cond, List, [], ◌∷◌, length, get_or, take, drop, set, map, ◌&&◌, slice_index, refl, sym, ap, subst, ◌∙◌, inl, inr, arith, add-one, lit<}
+use Rattle.std.proofs.Common.{◌≡◌, ◌<◌, ◌≤◌, ◌+◌, ◌*◌, ◌/◌, ◌%◌, ◌^◌, ◌==◌, ◌||◌, ℕ, zero, suc, Bool, true, false, List, [], ◌∷◌, length, get_or, take, drop, set, map, slice_index, refl, sym, ap, subst, ◌∙◌, inl, inr, arith, add-one, lit<}
 use Rattle.std.proofs.Math.Pow.{pow_mono}
 use Rattle.std.proofs.Math.Nat.{pow-suc}
 use Rattle.std.specs.Int.{from_bool}
 use Rattle.std.specs.Prelude.{All, nat_lt, filter, if◌then◌else◌}
-use Rattle.std.specs.List.{list_all, AllPairs}
+use Rattle.std.specs.List.{list_all}
 use Rattle.std.specs.List.Sorted.{IsStrictlyIncreasing, IsPartitionedBy}
 use Rattle.std.proofs.lemmas.List.{get_or-map, length-map, drop_more, get_or-set_same, get_or-set_other}
 use Rattle.std.proofs.lemmas.List.Elements.{All-head, All-tail, All-filter, All-weaker, filter_passes, All-map}
 use Rattle.std.proofs.lemmas.List.Kept.{AllPairs-from_increasing, IsStrictlyIncreasing-filter}
 use Rattle.std.proofs.lemmas.List.Sums.{AllPass-from_list_all}
-use Rattle.std.proofs.lemmas.Bool.{and_parts, eqb-true, eq-eqb, ne_eqb, cases_Bool, cases_eq, cond-true, cond-false, false≢true, ltb-true, lt-ltb, or_left}
+use Rattle.std.proofs.lemmas.Bool.{and_parts, eqb-true, eq-eqb, ne_eqb, cases_Bool, cases_eq, cond-true, cond-false, ltb-true, lt-ltb, or_left}
 use Rattle.asc_model.specs.Shape.{is_same_shape}
 use Rattle.asc_model.specs.State.{State}
 use Rattle.asc_model.specs.Entry.{Entry, IsTrueEntry}
-use Rattle.asc_model.specs.Places.{places_from}
 use Rattle.asc_model.specs.DependencyVector.{is_among}
 use Rattle.asc_model.proofs.Listings.{rising_is_filter}
 use Rattle.asc_traj.specs.Content.{matches}
-use Rattle.asc_shard.specs.declared.mark.Mark.{Mark}
-use Rattle.asc_shard.specs.Marks.{mixed, fingerprint, first_reads_of, print_of, print_in, may_match}
-use Rattle.asc_shard.specs.Inside.{bits_of, mask_of, mark_of, places_of, bytes_of, bytes_at}
+use Rattle.asc_shard.specs.Marks.{fingerprint, first_reads_of, print_of, print_in, may_match}
+use Rattle.asc_shard.specs.Inside.{bits_of, mark_of, places_of}
 
 -- ---- bits, one place more
 
@@ -131,7 +129,7 @@ same-places a b true_a true_b e =
     let low = λ (e : Entry). All-map (λ p. p < 128) (λ (cell : ℕ × ℕ). cell.0) (first_reads_of e) (first-low e) in
     rising_is_filter (λ p. is_among p xs) 128 xs (first-rise a true_a) (low a) (λ p lt. refl)
     ∙ sym (rising_is_filter (λ p. is_among p xs) 128 ys (first-rise b true_b) (low b)
-      (λ p lt. sym (bits-tell (λ q. is_among q xs) (λ q. is_among q ys) 128 0 e p (omega arith) (omega arith))))
+    (λ p lt. sym (bits-tell (λ q. is_among q xs) (λ q. is_among q ys) 128 0 e p (omega arith) (omega arith))))
 
 at-places : (at : ℕ → ℕ) (cells : List (ℕ × ℕ)) → map (λ cell. at cell.0) cells ≡ map at (places_of cells)
 at-places at [] = refl

@@ -1,14 +1,12 @@
 -- The last match of a group, found by halves.
-use Rattle.std.proofs.Common.{◌≡◌, ℕ, zero, suc, ◌+◌, ◌-◌, ◌*◌, ◌/◌, ◌^◌, ◌<◌, ◌≤◌, ◌==◌, ◌&&◌, Bool, true, false, List, [], ◌∷◌, length, get_or, map, Option, None, Some, slice_index, mul-le-mul_right, refl, sym, ap, subst, ◌∙◌, inl, inr, arith}
-use Rattle.std.specs.Prelude.{All}
+use Rattle.std.proofs.Common.{◌≡◌, ℕ, suc, ◌+◌, ◌*◌, ◌^◌, ◌<◌, ◌≤◌, ◌==◌, ◌&&◌, true, List, [], ◌∷◌, map, Option, None, Some, slice_index, mul-le-mul_right, refl, sym, ap, subst, ◌∙◌, inl, inr, arith}
 use Rattle.std.specs.List.{list_all}
-use Rattle.std.specs.Ordering.{nat_cmp, ordering_then, is_le, is_lt}
+use Rattle.std.specs.Ordering.{nat_cmp, is_le}
 use Rattle.std.specs.Cmp.Lexicographic.{slice_cmp}
-use Rattle.std.specs.declared.cmp.Ordering.{Ordering}
 use Rattle.std.specs.declared.cmp.Ordering.TheVariants.{Less, Equal, Greater}
 use Rattle.std.proofs.Math.Nat.{pow-suc, mul_assoc, mul_comm}
 use Rattle.std.proofs.lemmas.Bool.{and_parts, and_from, cases_eq, cases_lt, eq-eqb, eqb-true}
-use Rattle.std.proofs.lemmas.Cmp.{tied_itself, tied_back, nat_list_cmp_total}
+use Rattle.std.proofs.lemmas.Cmp.{tied_back, nat_list_cmp_total}
 use Rattle.asc_model.specs.declared.version.Version.{Version}
 use Rattle.asc_model.specs.declared.version.Version.TheVariants.{One, Two}
 use Rattle.asc_model.specs.Shape.{Shape, is_same_shape, is_same_version}
@@ -16,9 +14,9 @@ use Rattle.asc_model.specs.State.{State}
 use Rattle.asc_model.specs.Entry.{Entry}
 use Rattle.asc_traj.specs.Content.{matches}
 use Rattle.asc_shard.specs.Groups.{IsFew}
-use Rattle.asc_shard.specs.Inside.{IsLast, IsMost, IsTailRising, compare_with, bytes_at, bytes_of, no_entry, places_of}
+use Rattle.asc_shard.specs.Inside.{IsLast, IsTailRising, compare_with, bytes_at, bytes_of, places_of}
 use Rattle.asc_shard.proofs.Slots.{nth}
-use Rattle.asc_shard.proofs.Orders.{nat-equal, nat-less, nat-same, then-less, then-equal, then-both, then-le, then-rest, self-le, less-below, greater-above}
+use Rattle.asc_shard.proofs.Orders.{nat-equal, nat-less, nat-same, then-equal, then-both, then-le, then-rest, self-le, less-below, greater-above}
 
 -- ---- how often it is halved
 
@@ -115,9 +113,9 @@ module _ (xs : List Entry) (s : State) (left from end : ℕ) (group : IsTailRisi
   fixed : (i : ℕ) → from ≤ i → i < end → compare_with (nth xs i) s ≡ slice_cmp nat_cmp (row i) sought
   unfolding row sought
   fixed i least lt = ap (slice_cmp nat_cmp (bytes_of (nth xs i).reads)) (
-    at-places (slice_index s.bytes) (nth xs i).reads ∙ ap (map (slice_index s.bytes)) (sym (group.places i least lt))
-        ∙ sym (at-places (slice_index s.bytes) (nth xs from).reads)
-  )
+      at-places (slice_index s.bytes) (nth xs i).reads ∙ ap (map (slice_index s.bytes)) (sym (group.places i least lt))
+      ∙ sym (at-places (slice_index s.bytes) (nth xs from).reads)
+      )
 
   rows-up : (i j : ℕ) → from ≤ i → i ≤ j → j < end → is_le (slice_cmp nat_cmp (row i) (row j)) ≡ true
   unfolding row

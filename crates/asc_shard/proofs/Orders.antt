@@ -1,17 +1,17 @@
 -- Which of two entries is first.
-use Rattle.std.proofs.Common.{◌≡◌, ℕ, ◌+◌, ◌<◌, ◌≤◌, Bool, true, false, cond, ◌==◌, nat_lt, List, [], ◌∷◌, length, get_or, drop, map, refl, sym, ap, subst, ◌∙◌, inl, inr, ◌⊎◌, arith}
-use Rattle.std.specs.Ordering.{MatchOrdering, nat_cmp, ordering_then, on, then_cmp, is_lt, is_le, is_eq, ordering_reverse}
+use Rattle.std.proofs.Common.{◌≡◌, ℕ, ◌+◌, ◌<◌, ◌≤◌, true, false, cond, ◌==◌, nat_lt, List, [], ◌∷◌, length, drop, map, refl, sym, ap, subst, ◌∙◌, inl, inr, ◌⊎◌, arith}
+use Rattle.std.specs.Ordering.{MatchOrdering, nat_cmp, ordering_then, on, is_lt, is_le, is_eq, ordering_reverse}
 use Rattle.std.specs.Cmp.{IsTotalOrder}
 use Rattle.std.specs.Cmp.Lexicographic.{slice_cmp}
 use Rattle.std.specs.declared.cmp.Ordering.{Ordering}
 use Rattle.std.specs.declared.cmp.Ordering.TheVariants.{Less, Equal, Greater}
 use Rattle.std.proofs.lemmas.Cmp.{ranked, tied_itself, alike_right, on_total, then_total, nat_cmp_total, nat_list_cmp_total}
 use Rattle.std.proofs.lemmas.Bool.{cases_Bool, false≢true, cond-true, cond-false, lt-ltb, le-ltb, ne_eqb}
-use Rattle.std.proofs.lemmas.List.{drop_more, length-drop}
+use Rattle.std.proofs.lemmas.List.{length-drop}
 use Rattle.asc_model.specs.Shape.{Shape}
 use Rattle.asc_model.specs.Entry.{Entry}
 use Rattle.asc_shard.specs.declared.mark.Mark.{Mark}
-use Rattle.asc_shard.specs.Inside.{mark_of, places_of, bytes_of, rank_of, by_mark, by_shape, by_group, by_head, by_tail, by_all}
+use Rattle.asc_shard.specs.Inside.{mark_of, places_of, bytes_of, rank_of, by_mark, by_shape, by_group, by_head, by_all}
 
 -- ---- numbers
 
@@ -47,11 +47,6 @@ then-equal Less r e = cc
 then-equal Equal r e = (refl, e)
 then-equal Greater r e = cc
 
-pub then-apart : (o r : Ordering) → (o ≡ Equal → ⊥) → ordering_then o r ≡ o
-then-apart Less r apart = refl
-then-apart Equal r apart = absurd (apart refl)
-then-apart Greater r apart = refl
-
 pub then-both : (o r : Ordering) → o ≡ Equal → r ≡ Equal → ordering_then o r ≡ Equal
 then-both o r e h = ap (λ x. ordering_then x r) e ∙ h
 
@@ -67,20 +62,6 @@ module _ {X Y : Type 0} (f : X → ℕ) (g : Y → ℕ) where
   abbrev cmp-from : List X → List Y → ℕ → Ordering
   cmp-from xs ys i = slice_cmp nat_cmp (map f (drop i xs)) (map g (drop i ys))
 
-  cmp-here : (xs : List X) (ys : List Y) (i : ℕ) (x : X) (y : Y) → i < length xs → i < length ys
-      → cmp-from xs ys i ≡ ordering_then (nat_cmp (f (get_or xs i x)) (g (get_or ys i y))) (cmp-from xs ys (i + 1))
-  cmp-here xs ys i x y h k =
-      ap (λ l. slice_cmp nat_cmp (map f l) (map g (drop i ys))) (drop_more xs i x h)
-      ∙ ap (λ l. slice_cmp nat_cmp (f (get_or xs i x) ∷ map f (drop (i + 1) xs)) (map g l)) (drop_more ys i y k)
-
-  pub cmp-more : (xs : List X) (ys : List Y) (i : ℕ) (x : X) (y : Y) → i < length xs → i < length ys → f (get_or xs i x) ≡ g (get_or ys i y)
-      → cmp-from xs ys i ≡ cmp-from xs ys (i + 1)
-  cmp-more xs ys i x y h k e = cmp-here xs ys i x y h k ∙ ap (λ o. ordering_then o (cmp-from xs ys (i + 1))) (nat-same _ _ e)
-
-  pub cmp-apart : (xs : List X) (ys : List Y) (i : ℕ) (x : X) (y : Y) → i < length xs → i < length ys → (f (get_or xs i x) ≡ g (get_or ys i y) → ⊥)
-      → cmp-from xs ys i ≡ nat_cmp (f (get_or xs i x)) (g (get_or ys i y))
-  cmp-apart xs ys i x y h k apart = cmp-here xs ys i x y h k ∙ then-apart _ _ (λ e. apart (nat-equal _ _ e))
-
   -- where one list has no more
   pub cmp-end : (xs : List X) (ys : List Y) (i : ℕ) → i ≤ length xs → i ≤ length ys → (length xs ≤ i) ⊎ (length ys ≤ i)
       → cmp-from xs ys i ≡ nat_cmp (length xs) (length ys)
@@ -89,6 +70,7 @@ module _ {X Y : Type 0} (f : X → ℕ) (g : Y → ℕ) where
       one : (length xs ≤ i) ⊎ (length ys ≤ i) → (length (drop i xs) ≡ 0) ⊎ (length (drop i ys) ≡ 0)
       one (inl e) = inl (omega (arith, length-drop i xs))
       one (inr e) = inr (omega (arith, length-drop i ys))
+
       at-end : (us : List X) (vs : List Y) (m n : ℕ) → m ≡ i + length us → n ≡ i + length vs → (length us ≡ 0) ⊎ (length vs ≡ 0)
           → slice_cmp nat_cmp (map f us) (map g vs) ≡ nat_cmp m n
       at-end [] [] m n e k none = sym (nat-same m n (omega arith))
@@ -156,10 +138,6 @@ module _ {K : Type 0} {R : K → K → Ordering} (o : IsTotalOrder R) where
 
   pub self-le : (a : K) → is_le (R a a) ≡ true
   self-le a = ap is_le (tied_itself o a)
-
-  -- not both ways
-  pub lt-le-no : (a b : K) → R a b ≡ Less → is_le (R b a) ≡ true → ⊥
-  lt-le-no a b h k = let same = sym (tied_itself o a) ∙ lt-le a b a h k in cc
 
 -- a part of an order that is up to
 pub then-up : (o r : Ordering) → is_le (ordering_then o r) ≡ true → is_le o ≡ true

@@ -1,15 +1,14 @@
 -- A look-up in slots of one mark, group by group.
-use Rattle.std.proofs.Common.{◌≡◌, ℕ, zero, suc, ◌+◌, ◌-◌, ◌^◌, ◌<◌, ◌≤◌, ◌==◌, ◌&&◌, Bool, true, false, cond, List, [], ◌∷◌, ◌++◌, length, get_or, take, drop, map, Option, None, Some, nat_lt, refl, sym, ap, subst, ◌∙◌, inl, inr, arith, add-one, add-zero}
+use Rattle.std.proofs.Common.{◌≡◌, ℕ, zero, suc, ◌+◌, ◌-◌, ◌<◌, ◌≤◌, ◌==◌, ◌&&◌, Bool, true, false, cond, List, [], ◌∷◌, length, get_or, take, map, Some, nat_lt, refl, sym, ap, subst, ◌∙◌, inl, inr, arith, add-one, add-zero}
 use Rattle.std.specs.Prelude.{All, Contains, count_by, sum_by, if◌then◌else◌}
-use Rattle.std.specs.List.{AllPairs}
-use Rattle.std.specs.Ordering.{nat_cmp, ordering_then, is_le}
+use Rattle.std.specs.Ordering.{nat_cmp, ordering_then}
 use Rattle.std.specs.Cmp.Lexicographic.{slice_cmp}
-use Rattle.std.specs.declared.cmp.Ordering.TheVariants.{Less, Equal, Greater}
+use Rattle.std.specs.declared.cmp.Ordering.TheVariants.{Less, Equal}
 use lib.Pointwise.{pointwise}
 use Rattle.std.proofs.lemmas.Bool.{and_parts, and_from, cases_Bool, cases_lt, eq-eqb, eqb-true, false_from_ne_true, cond-true, cond-false, ltb-true, ltb-false}
 use Rattle.std.proofs.lemmas.Cmp.{tied_itself, tied_back, nat_list_cmp_total}
 use Rattle.std.proofs.lemmas.List.{take_all}
-use Rattle.std.proofs.lemmas.List.Elements.{All-cons, All-weaker, All-append, Contains-get_or}
+use Rattle.std.proofs.lemmas.List.Elements.{All-cons, All-weaker, Contains-get_or}
 use Rattle.std.proofs.lemmas.List.Kept.{AllPairs-cons}
 use Rattle.std.proofs.lemmas.List.Sums.{sum_by-cons, sum_by_more}
 use Rattle.asc_model.specs.declared.version.Version.{Version}
@@ -22,7 +21,7 @@ use Rattle.asc_shard.specs.declared.index.Slot.{Slot}
 use Rattle.asc_shard.specs.declared.find.Best.{Best}
 use Rattle.asc_shard.specs.Groups.{AreAsked, Asked, IsAsked, IsFew, is_of_group}
 use Rattle.asc_shard.specs.Marks.{may_match}
-use Rattle.asc_shard.specs.Inside.{IsBest, IsFrom, IsIndex, IsLast, IsMost, IsTailRising, by_all, by_group, by_shape, count_below, mark_of, no_entry, places_of, raised, rank_of, sorted_of}
+use Rattle.asc_shard.specs.Inside.{IsBest, IsFrom, IsIndex, IsMost, IsTailRising, by_group, by_shape, count_below, mark_of, no_entry, places_of, raised, rank_of, sorted_of}
 use Rattle.asc_shard.proofs.Orders.{groups_total, nat-equal, nat-same, then-equal, then-both}
 use Rattle.asc_shard.proofs.Matching.{shape-self}
 use Rattle.asc_shard.proofs.Slots.{nth, sorted-at, sorted-length, position-in, tail-up}
@@ -185,8 +184,8 @@ asked-one held slots s low from end times asked index least some most before sam
       apart = AllPairs-cons (λ a b. is_of_group a.entry b.entry ≡ false) new asked
           (All-weaker (λ a. IsFrom xs low from a.entry) (λ b. is_of_group first b.entry ≡ false)
           (λ b is_from. false_from_ne_true (is_of_group first b.entry) (λ one.
-            let less = ap (λ (e : Entry). by_group e first) is_from.3 ∙ before is_from.0 is_from.1 is_from.2 in
-            let no = sym less ∙ tied_back groups_total first b.entry (test-group first b.entry one) in cc)) asked froms)
+          let less = ap (λ (e : Entry). by_group e first) is_from.3 ∙ before is_from.0 is_from.1 is_from.2 in
+          let no = sym less ∙ tied_back groups_total first b.entry (test-group first b.entry one) in cc)) asked froms)
           all.apart;
     }
 
@@ -210,14 +209,17 @@ best-longer held s left best p is lt match enough new e = elim (cases_Bool (nat_
       let found : Best = record { position = Some p; steps = (nth held p).steps } in
       let same : new ≡ found = e ∙ cond-true (nat_lt best.steps (nth held p).steps) found best more in
       let longer = ltb-true best.steps (nth held p).steps more in
-      subst (λ (b : Best). IsBest held s left b.position b.steps × (best.steps ≤ b.steps) × ((nth held p).steps ≤ b.steps)) (sym same)
-      (record {
-        none = λ no. cc;
-        within = λ q some. let at : p ≡ q = cc in subst (λ k. k < length held) at lt;
-        matched = λ q some. let at : p ≡ q = cc in subst (λ k. matches s (nth held k) ≡ true) at match;
-        steps_are = λ q some. let at : p ≡ q = cc in ap (λ k. (nth held k).steps) (sym at);
-        enough = enough;
-      }, omega arith, omega arith)
+      subst (λ (b : Best). IsBest held s left b.position b.steps × (best.steps ≤ b.steps) × ((nth held p).steps ≤ b.steps)) (sym same) (
+        record {
+          none = λ no. cc;
+          within = λ q some. let at : p ≡ q = cc in subst (λ k. k < length held) at lt;
+          matched = λ q some. let at : p ≡ q = cc in subst (λ k. matches s (nth held k) ≡ true) at match;
+          steps_are = λ q some. let at : p ≡ q = cc in ap (λ k. (nth held k).steps) (sym at);
+          enough = enough;
+        },
+        omega arith,
+        omega arith,
+      )
   | inr not ↦
       let found : Best = record { position = Some p; steps = (nth held p).steps } in
       let same : new ≡ best = e ∙ cond-false (nat_lt best.steps (nth held p).steps) found best not in

@@ -1,29 +1,25 @@
 -- A look-up in the whole index, mask by mask.
-use Rattle.std.proofs.Common.{◌≡◌, ℕ, zero, suc, ◌+◌, ◌-◌, ◌*◌, ◌%◌, ◌^◌, ◌<◌, ◌≤◌, ◌==◌, ◌&&◌, ◌⊎◌, Bool, true, false, cond, List, [], ◌∷◌, ◌++◌, length, get_or, map, fold, Option, None, Some, refl, sym, ap, subst, ◌∙◌, inl, inr, arith, lit<, Global}
-use Rattle.std.specs.Prelude.{All, count_by, sum_by, filter, nat_le, nat_lt, if◌then◌else◌}
+use Rattle.std.proofs.Common.{◌≡◌, ℕ, suc, ◌+◌, ◌^◌, ◌<◌, ◌≤◌, ◌⊎◌, true, false, List, [], ◌∷◌, ◌++◌, length, get_or, map, fold, sym, ap, subst, ◌∙◌, inl, inr, arith, lit<}
+use Rattle.std.specs.Prelude.{All, sum_by, filter, nat_lt}
 use Rattle.std.specs.List.{AllPairs, AllWithin}
-use Rattle.std.specs.Ordering.{nat_cmp, ordering_then, is_le, is_lt}
-use Rattle.std.specs.declared.cmp.Ordering.{Ordering}
+use Rattle.std.specs.Ordering.{nat_cmp, is_le, is_lt}
 use Rattle.std.specs.declared.cmp.Ordering.TheVariants.{Less, Equal, Greater}
-use Rattle.std.proofs.lemmas.Bool.{and_parts, and_from, cases_Bool, cases_lt, cases_eq, eq-eqb, eqb-true, false≢true, false_from_ne_true, le-leb, leb-true, lt-ltb, le-ltb, ltb-true}
+use Rattle.std.proofs.lemmas.Bool.{cases_lt, eq-eqb, eqb-true, false≢true, false_from_ne_true}
 use Rattle.std.proofs.lemmas.List.Elements.{All-head, All-tail, All-append, All-get_or, All-weaker}
 use Rattle.std.proofs.lemmas.List.Kept.{AllPairs-cons}
-use Rattle.std.proofs.lemmas.List.Sums.{sum_by-cons, sum_by-append}
+use Rattle.std.proofs.lemmas.List.Sums.{sum_by-append}
 use Rattle.asc_model.specs.State.{State}
 use Rattle.asc_model.specs.Entry.{Entry, IsTrueEntry}
-use Rattle.asc_model.specs.Shape.{is_same_shape}
-use Rattle.asc_traj.specs.Content.{longest, longer_of, matches}
-use Rattle.asc_traj.proofs.Finding as steps
+use Rattle.asc_traj.specs.Content.{matches}
 use Rattle.asc_shard.specs.declared.mark.Mark.{Mark}
 use Rattle.asc_shard.specs.declared.index.Slot.{Slot}
-use Rattle.asc_shard.specs.Content.{IsFound}
 use Rattle.asc_shard.specs.Groups.{AreAsked, Asked, IsAsked, is_of_group}
-use Rattle.asc_shard.specs.Marks.{fingerprint, first_reads_of, may_match, mixed, print_in, print_of}
-use Rattle.asc_shard.specs.Inside.{IsBest, IsFrom, IsIndex, IsMost, by_mark, mark_of, mask_of, no_entry, places_of, raised, sorted_of}
+use Rattle.asc_shard.specs.Marks.{first_reads_of, may_match, mixed, print_in, print_of}
+use Rattle.asc_shard.specs.Inside.{IsFrom, IsIndex, IsMost, by_mark, mark_of, mask_of, no_entry, raised, sorted_of}
 use Rattle.asc_shard.proofs.Marks.{none-hidden, places-filter, same-print}
-use Rattle.asc_shard.proofs.Orders.{nat-less, nat-equal, nat-greater, then-less, then-equal, then-greater, is-less, le-cases, not-le, not-less}
-use Rattle.asc_shard.proofs.Slots.{nth, mark-read, mark-up, index-up, position-in, sorted-at, sorted-length}
-use Rattle.asc_shard.proofs.Ranges.{count-index, froms-more, group-places, raised-add, test-group}
+use Rattle.asc_shard.proofs.Orders.{nat-less, nat-equal, nat-greater, then-less, then-equal, then-greater, is-less, le-cases, not-le}
+use Rattle.asc_shard.proofs.Slots.{nth, mark-read, mark-up, index-up, position-in, sorted-at}
+use Rattle.asc_shard.proofs.Ranges.{froms-more, group-places, raised-add, test-group}
 
 -- ---- marks, as numbers
 
@@ -82,9 +78,9 @@ print-small e = fold-small 0 (map (λ cell. cell.1) (first_reads_of e)) (lit< tt
 -- groups of other masks are others
 group-mask : (a b : Entry) → is_of_group a b ≡ true → (mark_of a).mask ≡ (mark_of b).mask
 group-mask a b h = ap mask_of (
-  places-filter (λ p. nat_lt p 128) a.reads ∙ ap (filter (λ p. nat_lt p 128)) (group-places a b (test-group a b h))
-      ∙ sym (places-filter (λ p. nat_lt p 128) b.reads)
-)
+    places-filter (λ p. nat_lt p 128) a.reads ∙ ap (filter (λ p. nat_lt p 128)) (group-places a b (test-group a b h))
+    ∙ sym (places-filter (λ p. nat_lt p 128) b.reads)
+    )
 
 true-at : (held : List Entry) (slots : List Slot) (i : ℕ) → IsIndex held slots → i < length slots → IsTrueEntry (nth (sorted_of held slots) i)
 true-at held slots i index lt =
@@ -249,10 +245,10 @@ module _ (held : List Entry) (slots : List Slot) (s : State) (from low high next
       → All (λ b. IsFrom (sorted_of held slots) 0 from b.entry) old → All (λ b. is_of_group a.entry b.entry ≡ false) old
   asked-apart old a is masks froms = All-weaker (λ b. IsFrom (sorted_of held slots) 0 from b.entry) (λ b. is_of_group a.entry b.entry ≡ false)
       (λ b is_b. false_from_ne_true (is_of_group a.entry b.entry) (λ one.
-        let lower = masks is_b.0 from is_b.2 (omega arith) k.some in
-        let same = sym (ap (λ (e : Entry). (mark_of e).mask) is_b.3) ∙ sym (group-mask a.entry b.entry one) ∙ ap (λ (e : Entry). (mark_of e).mask) is.3
-        ∙ ap (λ (m : Mark). m.mask) (wanted-is is.0 is.1 is.2) ∙ k.mask in
-        omega (arith, lower, same))) old froms
+      let lower = masks is_b.0 from is_b.2 (omega arith) k.some in
+      let same = sym (ap (λ (e : Entry). (mark_of e).mask) is_b.3) ∙ sym (group-mask a.entry b.entry one) ∙ ap (λ (e : Entry). (mark_of e).mask) is.3
+      ∙ ap (λ (m : Mark). m.mask) (wanted-is is.0 is.1 is.2) ∙ k.mask in
+      omega (arith, lower, same))) old froms
 
   pub asked-both : (new old : List Asked) → AreAsked held s new → AreAsked held s old
       → ((i j : ℕ) → i < from → from ≤ j → j < length slots → (mark_of (at i)).mask < (mark_of (at j)).mask)
@@ -268,7 +264,7 @@ module _ (held : List Entry) (slots : List Slot) (s : State) (from low high next
       pairs (a ∷ list) apart froms =
           AllPairs-cons (λ a b. is_of_group a.entry b.entry ≡ false) a (list ++ old)
           (All-append (λ b. is_of_group a.entry b.entry ≡ false) list old (λ i d lt. apart 0 (suc i) d (omega arith) (omega arith))
-            (asked-apart old a (All-head (λ a. IsFrom (sorted_of held slots) low high a.entry) a list froms) masks is_old))
+          (asked-apart old a (All-head (λ a. IsFrom (sorted_of held slots) low high a.entry) a list froms) masks is_old))
           (pairs list (λ i j d lt below. apart (suc i) (suc j) d (omega arith) (omega arith)) (All-tail (λ a. IsFrom (sorted_of held slots) low high a.entry) a list froms))
 
   pub froms-both : (new old : List Asked) → All (λ a. IsFrom (sorted_of held slots) low high a.entry) new → All (λ a. IsFrom (sorted_of held slots) 0 from a.entry) old
@@ -276,7 +272,7 @@ module _ (held : List Entry) (slots : List Slot) (s : State) (from low high next
   froms-both new old is_new is_old =
       All-append (λ a. IsFrom (sorted_of held slots) 0 next a.entry) new old
       (All-weaker (λ a. IsFrom (sorted_of held slots) low high a.entry) (λ a. IsFrom (sorted_of held slots) 0 next a.entry)
-        (λ a is. (is.0, omega arith, high-next is.0 is.1 is.2, is.3)) new is_new)
+      (λ a is. (is.0, omega arith, high-next is.0 is.1 is.2, is.3)) new is_new)
       (froms-more (sorted_of held slots) 0 from next old (let more = next-more in omega arith) is_old)
 
 pub raised-both : (more : ℕ → ℕ) (new old : List Asked) (now between before : ℕ) → now ≡ raised more (sum_by (λ a. a.probes) new) between

@@ -1,21 +1,19 @@
 -- The index: its order, and what it has of the entries that are held.
-use Rattle.std.proofs.Common.{◌≡◌, ℕ, zero, suc, ◌+◌, ◌-◌, ◌<◌, ◌≤◌, Bool, true, false, List, [], ◌∷◌, ◌++◌, length, get_or, take, drop, map, refl, sym, ap, subst, ◌∙◌, inl, inr, arith, Global}
-use Rattle.std.specs.Prelude.{All, count_by}
-use Rattle.std.specs.List.{AllPairs}
+use Rattle.std.proofs.Common.{◌≡◌, ℕ, ◌<◌, ◌≤◌, true, List, length, get_or, map, sym, ap, subst, ◌∙◌, inl, inr, arith, Global}
 use Rattle.std.specs.Arc.{arc_value}
-use Rattle.std.specs.Ordering.{ordering_then, is_le, is_lt}
+use Rattle.std.specs.Ordering.{is_le}
 use Rattle.std.specs.declared.sync.Arc.{Arc}
-use Rattle.std.specs.declared.cmp.Ordering.TheVariants.{Less, Equal, Greater}
+use Rattle.std.specs.declared.cmp.Ordering.TheVariants.{Less, Equal}
 use Rattle.std.proofs.lemmas.Bool.{cases_eq}
 use Rattle.std.proofs.lemmas.Cmp.{tied_itself}
-use Rattle.std.proofs.lemmas.List.{get_or-map, get_or_default, length-map}
+use Rattle.std.proofs.lemmas.List.{get_or-map, length-map}
 use Rattle.std.proofs.lemmas.List.Elements.{All-get_or}
 use Rattle.asc_model.specs.Entry.{Entry}
 use Rattle.asc_shard.specs.declared.mark.Mark.{Mark}
 use Rattle.asc_shard.specs.declared.index.Slot.{Slot}
 use Rattle.asc_shard.specs.Inside.{IsIndex, by_all, by_group, by_head, by_mark, by_tail, mark_of, no_entry, sorted_of}
 use Rattle.asc_shard.proofs.Finding.{at-map}
-use Rattle.asc_shard.proofs.Orders.{marks_total, all_total, groups_total, self-le, then-up, then-rest, then-less, then-equal}
+use Rattle.asc_shard.proofs.Orders.{marks_total, all_total, self-le, then-up, then-rest}
 
 -- the entry at an index
 abbrev pub nth : List Entry → ℕ → Entry
@@ -73,3 +71,11 @@ tail-up a b e group h =
     let same = ap (by_mark (mark_of a)) (sym e) ∙ tied_itself marks_total (mark_of a) in
     let head = then-rest (by_mark (mark_of a) (mark_of b)) (by_group a b) same ∙ group in
     sym (then-rest (by_head a b) (by_tail a b) head) ∙ h
+
+-- so entries of one mark rise by group
+pub range-up : (held : List Entry) (slots : List Slot) (from high : ℕ) → IsIndex held slots → high ≤ length slots
+    → ((i j : ℕ) → from ≤ i → i < high → from ≤ j → j < high → mark_of (nth (sorted_of held slots) i) ≡ mark_of (nth (sorted_of held slots) j))
+    → (i j : ℕ) → from ≤ i → i ≤ j → j < high → is_le (by_group (nth (sorted_of held slots) i) (nth (sorted_of held slots) j)) ≡ true
+range-up held slots from high index most marks i j least le lt =
+    group-up (nth (sorted_of held slots) i) (nth (sorted_of held slots) j) (marks i j least (omega arith) (omega arith) lt)
+    (index-up held slots index i j (omega arith) le (omega arith))

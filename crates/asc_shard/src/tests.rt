@@ -202,7 +202,10 @@ fn of_one_word(rt: HostRuntime) {
         assert_eq!(rt; found, if k < 8 { None } else { Some(k as usize - 8) });
         assert!(rt; probes <= 6);
     }
-    assert_eq!(rt; looked(&shard, &loading(&rt, alloc, 0x10100, 24), 1).0, None);
+    assert_eq!(rt;
+        looked(&shard, &loading(&rt, alloc, 0x10100, 24), 1).0,
+        None
+    );
 }
 
 /// Finds an entry of two steps, counting probes by a ledger.

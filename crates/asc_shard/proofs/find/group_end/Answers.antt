@@ -1,13 +1,13 @@
-use Rattle.std.proofs.Common.{◌≡◌, ◌+◌, ◌-◌, ◌/◌, ◌<◌, ◌≤◌, ◌∙◌, ℕ, map, sym, ap, subst, arith, false, true, length, inl, inr}
+use Rattle.std.proofs.Common.{◌≡◌, ◌+◌, ◌-◌, ◌/◌, ◌<◌, ◌∙◌, map, sym, ap, arith, false, inl, inr}
 use Rattle.std.specs.Arc.{arc_value}
-use Rattle.std.specs.Ordering.{is_eq, is_le}
-use Rattle.std.specs.declared.cmp.Ordering.TheVariants.{Less, Equal}
+use Rattle.std.specs.Ordering.{is_eq}
+use Rattle.std.specs.declared.cmp.Ordering.TheVariants.{Equal}
 use Rattle.std.proofs.lemmas.Bool.{cases_lt, false≢true}
 use Rattle.std.proofs.lemmas.Cmp.{tied_itself}
 use Rattle.asc_model.specs.Entry.{Entry}
 use Rattle.asc_shard.specs.Inside.{by_group, sorted_of}
 use Rattle.asc_shard.proofs.Orders.{groups_total, is-equal, equal-below, less-above}
-use Rattle.asc_shard.proofs.Slots.{nth, entry-read, index-up, group-up}
+use Rattle.asc_shard.proofs.Slots.{nth, entry-read, range-up}
 use Rattle.asc_shard.proofs.find.group_end.Goals as goal
 
 pub returns-then-is_eq-clause-same : goal.returns-then-is_eq-clause-same
@@ -16,8 +16,7 @@ returns-then-is_eq-clause-same c =
     let at = nth (sorted_of (map arc_value c.args.entries.now) slots) in
     let from = c.args.from in
     let high = c.args.high in
-    let up : (i j : ℕ) → from ≤ i → i ≤ j → j < high → is_le (by_group (at i) (at j)) ≡ true = λ i j least le lt.
-    group-up (at i) (at j) (c.requires.marks i j least (omega arith) (omega arith) lt) (index-up (map arc_value c.args.entries.now) slots c.requires.index i j (omega arith) le (omega arith)) in
+    let up = range-up (map arc_value c.args.entries.now) slots from high c.requires.index c.requires.range c.requires.marks in
     let first = entry-read c.args.entries.now slots from _ _ _ c.requires.index (omega arith) c.index-entries-slots.is c.deref-first.ensures in
     let last = entry-read c.args.entries.now slots (high - 1) _ _ _ c.requires.index (omega arith) c.index-entries-slots-2.is c.deref.ensures in
     let equal : by_group (at from) (at (high - 1)) ≡ Equal =
@@ -31,8 +30,7 @@ loop-low-init c =
     let at = nth (sorted_of (map arc_value c.args.entries.now) slots) in
     let from = c.args.from in
     let high = c.args.high in
-    let up : (i j : ℕ) → from ≤ i → i ≤ j → j < high → is_le (by_group (at i) (at j)) ≡ true = λ i j least le lt.
-    group-up (at i) (at j) (c.requires.marks i j least (omega arith) (omega arith) lt) (index-up (map arc_value c.args.entries.now) slots c.requires.index i j (omega arith) le (omega arith)) in
+    let up = range-up (map arc_value c.args.entries.now) slots from high c.requires.index c.requires.range c.requires.marks in
     let first = entry-read c.args.entries.now slots from _ _ _ c.requires.index (omega arith) c.index-entries-slots.is c.deref-first.ensures in
     let last = entry-read c.args.entries.now slots (high - 1) _ _ _ c.requires.index (omega arith) c.index-entries-slots-2.is c.deref.ensures in
     let apart : is_eq (by_group (at from) (at (high - 1))) ≡ false =
@@ -59,8 +57,7 @@ loop-low-preserved-then-is_eq-2 c =
     let high = c.args.high in
     let v = c.loop-low.invariant in
     let m = c.loop-low.low + (c.loop-low.end - c.loop-low.low) / 2 in
-    let up : (i j : ℕ) → from ≤ i → i ≤ j → j < high → is_le (by_group (at i) (at j)) ≡ true = λ i j least le lt.
-    group-up (at i) (at j) (c.requires.marks i j least (omega arith) (omega arith) lt) (index-up (map arc_value c.args.entries.now) slots c.requires.index i j (omega arith) le (omega arith)) in
+    let up = range-up (map arc_value c.args.entries.now) slots from high c.requires.index c.requires.range c.requires.marks in
     let first = entry-read c.args.entries.now slots from _ _ _ c.requires.index (omega arith) c.index-entries-slots.is c.deref-first.ensures in
     let middle = entry-read c.args.entries.now slots m _ _ _ c.requires.index (omega arith) c.index-entries-slots-in-loop-low.is c.deref-in-loop-low.ensures in
     let equal : by_group (at from) (at m) ≡ Equal =
@@ -82,8 +79,7 @@ loop-low-preserved c =
     let high = c.args.high in
     let v = c.loop-low.invariant in
     let m = c.loop-low.low + (c.loop-low.end - c.loop-low.low) / 2 in
-    let up : (i j : ℕ) → from ≤ i → i ≤ j → j < high → is_le (by_group (at i) (at j)) ≡ true = λ i j least le lt.
-    group-up (at i) (at j) (c.requires.marks i j least (omega arith) (omega arith) lt) (index-up (map arc_value c.args.entries.now) slots c.requires.index i j (omega arith) le (omega arith)) in
+    let up = range-up (map arc_value c.args.entries.now) slots from high c.requires.index c.requires.range c.requires.marks in
     let first = entry-read c.args.entries.now slots from _ _ _ c.requires.index (omega arith) c.index-entries-slots.is c.deref-first.ensures in
     let middle = entry-read c.args.entries.now slots m _ _ _ c.requires.index (omega arith) c.index-entries-slots-in-loop-low.is c.deref-in-loop-low.ensures in
     let apart : is_eq (by_group (at from) (at m)) ≡ false =

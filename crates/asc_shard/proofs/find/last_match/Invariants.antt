@@ -1,6 +1,6 @@
-use Rattle.std.proofs.Common.{◌≡◌, ◌+◌, ◌-◌, ◌<◌, ◌≤◌, ℕ, None, Some, map, get_or}
+use Rattle.std.proofs.Common.{◌≡◌, ◌-◌, ℕ, map}
 use Rattle.std.specs.Arc.{arc_value}
-use Rattle.asc_shard.specs.Inside.{no_entry, raised, sorted_of}
+use Rattle.asc_shard.specs.Inside.{raised, sorted_of}
 use Rattle.asc_shard.proofs.Matching.{IsSought, HasHalved}
 use Rattle.asc_shard.proofs.find.last_match.Given as goal
 

@@ -1,8 +1,7 @@
-use Rattle.std.proofs.Common.{◌≡◌, ◌+◌, ◌-◌, ◌<◌, ◌≤◌, ◌++◌, ◌∙◌, ℕ, length, get_or, map, refl, sym, ap, arith}
+use Rattle.std.proofs.Common.{◌++◌, ◌∙◌, get_or, map, refl, sym, arith}
 use Rattle.std.specs.Arc.{arc_value}
 use Rattle.asc_shard.specs.declared.mark.Mark.{Mark}
 use Rattle.asc_shard.specs.declared.index.Slot.{Slot}
-use Rattle.asc_shard.specs.Inside.{sorted_of}
 use Rattle.asc_shard.proofs.Slots.{entry-read, marks-up}
 use Rattle.asc_shard.proofs.Longest.{longest-none, longest-some}
 use Rattle.asc_shard.proofs.Searching.{IsMasked, asked-both, froms-both, masked-from, masked-range, masks-more, most-next, next-more, raised-both, wanted-is, wanted-matches}

@@ -4,7 +4,6 @@ use Rattle.std.specs.Arc.{arc_value}
 use Rattle.asc_shard.specs.Groups.{AreAsked, Asked}
 use Rattle.asc_shard.specs.Inside.{IsBest, IsFrom, IsMost, mark_of, raised, sorted_of}
 use Rattle.asc_shard.proofs.Slots.{nth}
-use Rattle.asc_shard.proofs.Searching.{mark-lt}
 use Rattle.asc_shard.proofs.find.search.Given as goal
 
 abbrev pub invariant-loop-from : goal.invariant-loop-from

@@ -1,15 +1,11 @@
-use Rattle.std.proofs.Common.{◌≡◌, ◌+◌, ◌-◌, ◌<◌, ◌≤◌, ◌∷◌, ◌∙◌, ℕ, true, length, get_or, map, sym, ap, subst, arith, rules}
-use Rattle.std.proofs.lemmas.Bool.{false≢true}
+use Rattle.std.proofs.Common.{◌≡◌, ◌≤◌, ◌∷◌, ◌∙◌, get_or, map, sym, ap, subst, arith, rules}
 use Rattle.std.specs.Arc.{arc_value}
-use Rattle.asc_model.specs.Shape.{is_same_shape}
 use Rattle.asc_model.specs.Entry.{Entry}
 use Rattle.asc_traj.specs.Content.{matches}
 use Rattle.asc_shard.specs.declared.index.Slot.{Slot}
-use Rattle.asc_shard.specs.Groups.{AreAsked, Asked}
 use Rattle.asc_shard.specs.Inside.{IsMost, sorted_of}
 use Rattle.asc_shard.proofs.Slots.{nth, entry-read, position-in, sorted-at}
-use Rattle.asc_shard.proofs.Ranges.{apart-more, asked-one, best-longer, froms-more, froms-one, most-apart, most-more, raised-one, same-shape, tail-rising}
-use Rattle.asc_shard.proofs.Matching.{shape-self}
+use Rattle.asc_shard.proofs.Ranges.{apart-more, asked-one, best-longer, froms-more, froms-one, most-apart, most-more, raised-one, tail-rising}
 use Rattle.asc_shard.proofs.find.search_range.Goals as goal
 
 pub group_end-end-requires-clause-marks : goal.group_end-end-requires-clause-marks

@@ -9,7 +9,7 @@ use Rattle.std.proofs.lemmas.Bool.{cond-true}
 use Rattle.std.proofs.lemmas.List.{length-map, map_push}
 use Rattle.asc_model.specs.Entry.{Entry, IsTrueEntry}
 use Rattle.asc_shard.specs.declared.index.Slot.{Slot}
-use Rattle.asc_shard.specs.Inside.{IsIndex, by_all, mark_of, sorted_of}
+use Rattle.asc_shard.specs.Inside.{IsIndex, by_all, sorted_of}
 use Rattle.asc_shard.proofs.Slots.{nth}
 use Rattle.asc_shard.proofs.Keeping.{index-added}
 use Rattle.asc_shard.proofs.index.add.Goals as goal

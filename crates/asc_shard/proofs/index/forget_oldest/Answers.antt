@@ -1,9 +1,8 @@
-use Rattle.std.proofs.Common.{◌≡◌, ◌++◌, ◌∙◌, ◌==◌, ◌≤◌, ℕ, List, Some, None, length, map, take, drop, sym, ap, subst, arith}
+use Rattle.std.proofs.Common.{◌≡◌, ◌∙◌, ◌==◌, ◌≤◌, Some, None, length, map, drop, sym, ap, subst, arith}
 use Rattle.std.specs.Prelude.{All}
 use Rattle.std.specs.Arc.{arc_value}
 use Rattle.std.specs.List.{position, remove}
 use Rattle.std.proofs.lemmas.List.{length-map, take_at}
-use Rattle.asc_model.specs.Entry.{Entry}
 use Rattle.asc_shard.specs.declared.index.Slot.{Slot}
 use Rattle.asc_shard.specs.Inside.{IsIndex, fallen}
 use Rattle.asc_shard.proofs.Keeping.{index-fallen, oldest-there, others-later}

@@ -1,8 +1,7 @@
-use Rattle.std.proofs.Common.{◌≡◌, ◌<◌, ℕ, sym, ap, subst, ◌∙◌, arith, rules, take}
+use Rattle.std.proofs.Common.{◌<◌, ℕ, sym, ap, subst, ◌∙◌, arith, rules}
 use Rattle.std.specs.Prelude.{All, nat_lt, filter}
 use Rattle.std.specs.List.Sorted.{IsPartitionedBy}
 use Rattle.std.proofs.lemmas.List.Sorted.{IsPartitionPoint-from_clause}
-use Rattle.asc_shard.specs.Marks.{first_reads_of}
 use Rattle.asc_shard.proofs.Marks.{first-parted, first-low, take-filter}
 use Rattle.asc_shard.proofs.mark.first_reads.Goals as goal
 

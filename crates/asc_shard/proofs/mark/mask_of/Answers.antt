@@ -1,4 +1,4 @@
-use Rattle.std.proofs.Common.{◌≡◌, ◌+◌, ◌-◌, ◌<◌, ℕ, sym, ap, ◌∙◌, arith, true, false, length, drop, get_or, set, subst}
+use Rattle.std.proofs.Common.{◌≡◌, ◌+◌, ◌-◌, sym, ap, ◌∙◌, arith, true, false, length, drop, get_or}
 use Rattle.std.proofs.lemmas.List.{get_or-replicate, drop_all, length-set, length-replicate}
 use Rattle.asc_model.specs.DependencyVector.{is_among}
 use Rattle.asc_shard.specs.Inside.{places_of}
