@@ -5,17 +5,18 @@
 
 A program over `asc_shard` is added to a copy of the crates under it in a temporary folder, proved and built there with
 `rt run`, and run. It makes 1,024 entries of a loop over 272 bytes of memory, and looks for the longest that matches a
-state: with `longest_match`, which compares entry after entry, and with `Shard::find`. All entries read the same
-registers. For each kind of entries and of answer it prints the processor's nanoseconds of a look-up, the least of three
-runs, and their ratio:
+state: with `longest_match`, which compares entry after entry, and with `Shard::find`. For each kind of entries and of
+answer it prints the processor's nanoseconds of a look-up, the least of three runs, and their ratio:
 
-    one   all read the same memory, and differ in a register
+    one   all read the same places, and differ in a register
     own   each reads memory from another word on, and they differ in the register that points there
-    same  all read the same memory, and differ in its first word alone, so that no fingerprint tells them apart
+    same  all read the same places, and differ in the first word of memory alone, so that no fingerprint tells them apart
+    many  they read 890 lists of registers, and the instructions that read them differ
+    some  the same with 30 lists, and they differ in a register too
     hit   one of the entries matches the state
     miss  none does
 
-It ends with an error where an answer is not the one that it must be, or an entry does not read 308 places.
+It ends with an error where an answer is not the one that it must be, or the last entry does not read so many places.
 """
 
 import resource
@@ -52,8 +53,10 @@ use std::process::ExitCode;
 use std::sync::Arc;
 use std::sync::ledger::{Blank, Ledger};
 
-/// A loop of 68 turns: a load of a word, two additions, a counter and a branch.
-const WORDS: [u32; 5] = [
+/// Two additions, and a loop of 68 turns: a load of a word, two additions, a counter and a branch.
+const WORDS: [u32; 7] = [
+    0x0000_00B3,
+    0x0000_0133,
     0x0005_2383,
     0x0045_0513,
     0x0014_8493,
@@ -61,20 +64,34 @@ const WORDS: [u32; 5] = [
     0xFE02_98E3,
 ];
 
-fn state_of(alloc: Global, x9: u32, x10: u32, first: u32) -> Option<State> {
+/// An addition of two registers, from x11 on, into the one that this word has: x11 to x31 for each of two digits.
+fn added(word: u32, digits: u32) -> u32 {
+    let a = 11 + digits % 21;
+    let b = 11 + digits / 21 % 21;
+    word | (a << 15) | (b << 20)
+}
+
+/// Puts a word, where memory has its place.
+fn put(state: &mut State, at: u32, word: u32) {
+    if state.holds(at, 4) {
+        state.write(at, &word.to_le_bytes());
+    }
+}
+
+fn state_of(alloc: Global, x9: u32, x10: u32, first: u32, lists: u32) -> Option<State> {
     let shape = Shape::new(0x10000, 65_536).ok()?;
     let mut state = State::new(alloc, shape).ok()?;
     state.set_pc(0x10000);
     let mut at: u32 = 0x10000;
     for word in &WORDS {
-        if state.holds(at, 4) {
-            state.write(at, &word.to_le_bytes());
-        }
+        put(&mut state, at, *word);
         at = at.wrapping_add(4);
     }
-    if state.holds(x10, 4) {
-        state.write(x10, &first.to_le_bytes());
+    if lists > 0 {
+        put(&mut state, 0x10000, added(WORDS[0], lists));
+        put(&mut state, 0x10004, added(WORDS[1], lists / 7));
     }
+    put(&mut state, x10, first);
     state.set_reg(5, 68);
     state.set_reg(9, x9);
     state.set_reg(10, x10);
@@ -86,7 +103,7 @@ fn traced(alloc: Global, from: &State) -> Option<(Traced, Tracer)>
 {
     let mut tracer = Tracer::new(alloc, from.shape(), 4096).ok()?;
     tracer.start(from);
-    let stop = Stop { pc: 0x10014, laps: 1, span: 1000 };
+    let stop = Stop { pc: 0x1001C, laps: 1, span: 1000 };
     let traced = trace(&mut tracer, &stop, &mut Never);
     Some((traced, tracer))
 }
@@ -101,9 +118,11 @@ fn entry_of(alloc: Global, from: &State) -> Option<Arc<Entry>> {
 
 fn start(alloc: Global, mode: u64, k: u32) -> Option<State> {
     match mode {
-        0 => state_of(alloc, k, 0x11000, 0),
-        1 => state_of(alloc, 0, u32::wrapping_add(0x11000, u32::wrapping_mul(4, k)), 0),
-        _ => state_of(alloc, 0, 0x11000, k),
+        0 => state_of(alloc, k, 0x11000, 0, 0),
+        1 => state_of(alloc, 0, u32::wrapping_add(0x11000, u32::wrapping_mul(4, k)), 0, 0),
+        2 => state_of(alloc, 0, 0x11000, k, 0),
+        3 => state_of(alloc, 0, 0x11000, 0, u32::wrapping_add(1, k)),
+        _ => state_of(alloc, k, 0x11000, 0, 1 + k % 32),
     }
 }
 
@@ -198,7 +217,8 @@ def build(folder):
 
 SCAN, FIND = range(2)
 
-READS = 308
+# How many places the last entry of each kind reads.
+READS = (316, 316, 316, 328, 332)
 
 def seconds(command, answer):
     """The processor's seconds of a run that must write this answer, the least of three."""
@@ -216,17 +236,17 @@ def seconds(command, answer):
 def nanoseconds(path, kind, what, hits, rounds):
     """What a look-up costs beyond the program's beginning."""
     words = lambda count: [str(path), *map(str, (kind, what, hits, count))]
-    answer = lambda count: f"{count * hits} {READS}"
+    answer = lambda count: f"{count * hits} {READS[kind]}"
     return (seconds(words(rounds), answer(rounds)) - seconds(words(0), answer(0))) / rounds * 1e9
 
 def main():
     with tempfile.TemporaryDirectory() as folder:
         path = build(folder)
         print("               scan    find  ratio")
-        for kind, name in enumerate(("one", "own", "same")):
+        for kind, name in enumerate(("one", "own", "same", "many", "some")):
             for hits, answer in ((1, "hit"), (0, "miss")):
                 scan = nanoseconds(path, kind, SCAN, hits, 5000)
-                find = nanoseconds(path, kind, FIND, hits, 50000)
+                find = nanoseconds(path, kind, FIND, hits, 2000 if name == "many" else 50000)
                 print(f"{name:4}  {answer:6}{scan:8.0f}{find:8.0f}{scan / find:7.1f}", flush=True)
 
 if __name__ == "__main__":

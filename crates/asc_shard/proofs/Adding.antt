@@ -1,8 +1,5 @@
 -- No two entries of a content are the same, and adding keeps that.
-use Rattle.std.proofs.Common.{◌≡◌, ◌==◌, ◌&&◌, ◌<◌, ◌≤◌, ◌+◌, ℕ, zero, suc, Bool, false, List, [], ◌∷◌, ◌++◌, length, take, get_or, map, refl, sym, ap, subst, ◌∙◌, inl, inr, arith, add-one, Global}
-use Rattle.std.specs.Prelude.{All}
-use Rattle.std.proofs.lemmas.List.{take_all, length-map}
-use Rattle.std.proofs.lemmas.List.Elements.{All-nil, All-cons, All-head, All-tail}
+use Rattle.std.proofs.Common.{◌≡◌, ◌==◌, ◌&&◌, ℕ, Bool, false, List, [], ◌∷◌, ◌++◌, map, refl, sym, ap, ◌∙◌, inl, inr, Global}
 use Rattle.std.specs.Arc.{arc_value}
 use Rattle.std.specs.declared.sync.Arc.{Arc}
 use Rattle.std.specs.List.{list_any, remove}
@@ -86,23 +83,3 @@ pub new-without : (xs : List (Arc Entry Global)) (e : Entry) → list_any (is_sa
     → list_any (is_same_entry e) (map arc_value (remove xs 0)) ≡ false
 new-without [] e new = new
 new-without (x ∷ xs) e new = (or_parts (is_same_entry e (arc_value x)) (list_any (is_same_entry e) (map arc_value xs)) new).1
-
--- ---- what all of them have
-
-module _ {X : Type 0} where
-  all-suc : (P : X → Type 0) (xs : List (Arc X Global)) (i : ℕ) (d : Arc X Global) → i < length xs → All P (take i (map arc_value xs)) → P (arc_value (get_or xs i d)) → All P (take (suc i) (map arc_value xs))
-  all-suc P [] i d lt all one = absurd (omega arith)
-  all-suc P (x ∷ xs) zero d lt all one = All-cons P (arc_value x) [] one (All-nil P)
-  all-suc P (x ∷ xs) (suc i) d lt all one =
-      All-cons P (arc_value x) (take (suc i) (map arc_value xs)) (All-head P (arc_value x) (take i (map arc_value xs)) all)
-      (all-suc P xs i d (omega arith) (All-tail P (arc_value x) (take i (map arc_value xs)) all) one)
-
-  -- one more of them
-  pub all-more : (P : X → Type 0) (xs : List (Arc X Global)) (i : ℕ) (d : Arc X Global) → i < length xs → All P (take i (map arc_value xs)) → P (arc_value (get_or xs i d)) → All P (take (i + 1) (map arc_value xs))
-  all-more P xs i d lt all one = rw add-one (all-suc P xs i d lt all one)
-
-  -- all of them
-  pub all-whole : (P : X → Type 0) (xs : List (Arc X Global)) (i : ℕ) → length xs ≤ i → All P (take i (map arc_value xs)) → All P (map arc_value xs)
-  all-whole P xs i most all =
-      let long : length (map arc_value xs) ≤ i = subst (λ n. n ≤ i) (sym (length-map xs arc_value)) most in
-      subst (All P) (take_all i (map arc_value xs) long) all

@@ -1,3 +1,10 @@
 pub mod Adding
 pub mod Finding
 pub mod Marks
+pub mod Orders
+pub mod Slots
+pub mod Matching
+pub mod Ranges
+pub mod Searching
+pub mod Longest
+pub mod Keeping

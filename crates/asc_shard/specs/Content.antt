@@ -1,5 +1,5 @@
 -- What a shard holds: a list of entries, the oldest first.
-use Rattle.std.specs.Prelude.{◌≡◌, ℕ, zero, suc, ◌-◌, ◌<◌, ◌≤◌, Bool, true, false, ◌==◌, ◌&&◌, List, [], ◌∷◌, ◌++◌, All, length, drop, fold, slice_index_or, Some, if◌then◌else◌}
+use Rattle.std.specs.Prelude.{◌≡◌, ℕ, ◌-◌, ◌<◌, ◌≤◌, Bool, true, false, ◌==◌, ◌&&◌, List, [], ◌∷◌, ◌++◌, All, length, drop, fold, slice_index_or, Some, if◌then◌else◌}
 use Rattle.std.specs.List.{list_any}
 use lib.Pointwise.{pointwise}
 use Rattle.asc_model.specs.Shape.{is_same_shape}
@@ -45,11 +45,6 @@ pub record IsContent (capacity : ℕ) (held : List Entry) : Type 0 where
 -- The entry at a position is one of the most steps within a bound that match a state.
 pub record IsFound (held : List Entry) (s : State) (left i : ℕ) : Type 0 where
   pub within : i < length held
-  pub longest : (d : Entry) → longest held s left ≡ Some (slice_index_or held i d).steps
-  pub matched : (d : Entry) → matches s (slice_index_or held i d) ≡ true
-  pub most : (d : Entry) → (slice_index_or held i d).steps ≤ left
-
--- a count that was raised so many times
-abbrev pub raised : (more : ℕ → ℕ) → (times count : ℕ) → ℕ
-raised more zero count = count
-raised more (suc times) count = more (raised more times count)
+  pub steps_are_longest : (d : Entry) → longest held s left ≡ Some (slice_index_or held i d).steps
+  pub is_match : (d : Entry) → matches s (slice_index_or held i d) ≡ true
+  pub is_within_left : (d : Entry) → (slice_index_or held i d).steps ≤ left

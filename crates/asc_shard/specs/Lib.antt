@@ -1,3 +1,6 @@
 pub mod Content
-pub mod Shard
+pub mod Groups
+pub mod Inside
+pub mod Laws
 pub mod Marks
+pub mod Shard

@@ -1,12 +1,17 @@
-ghost use Rattle.std.specs.Prelude.{◌≡◌, ℕ, ◌+◌, ◌<◌, ◌≤◌, ◌&&◌, nat_le, nat_lt, All, length, map, count_by, slice_index, None, IfSome, IfNone, if◌then◌else◌};
+ghost use Rattle.std.specs.Prelude.{◌≡◌, ℕ, ◌+◌, ◌<◌, ◌≤◌, ◌-◌, nat_lt, true, List, if◌then◌else◌, All, length, map, sum_by, slice_index_or, None, IfSome, IfNone};
 ghost use Rattle.std.specs.Arc.{arc_value};
-ghost use Rattle.asc_traj.specs.Content.{longest, matches};
-ghost use Rattle.asc_shard.specs.Content.{IsFound, raised};
-ghost use Rattle.asc_shard.specs.Marks.{mark_of, may_match, IsPrint};
+ghost use Rattle.asc_traj.specs.Content.{longest};
+ghost use Rattle.asc_shard.specs.Content.{IsFound};
+ghost use Rattle.asc_shard.specs.Groups.{AreAsked, Asked, IsFew};
+ghost use Rattle.asc_shard.specs.Marks.{may_match};
+ghost use Rattle.asc_shard.specs.Inside.{IsBest, IsFrom, IsIndex, IsLast, IsMost, IsTailRising, by_group, mark_of, no_entry, raised, sorted_of};
 
-use crate::mark::{Mark, PLACES, blank, has_print, put_first};
+use crate::index::{Slot, count_before, count_through};
+use crate::mark::{Mark, print_in};
+use crate::order::{compare_groups, compare_with};
 use asc_shape::{State, Steps};
-use asc_traj::{Entry, is_longer};
+use asc_traj::Entry;
+use std::cmp::Ordering;
 use std::sync::Arc;
 use std::sync::ledger::Ledger;
 
@@ -45,88 +50,179 @@ impl Probes for Uncounted {
     fn tick(&mut self) {}
 }
 
-/// The position of the longest of these entries, of at most `left` steps, that matches a state. An entry is compared
-/// with the state, and counted, only where the state has its fingerprint.
-pub fn search<P: Probes>(
-    entries: &[Arc<Entry>],
-    marks: &[Mark],
-    state: &State,
-    left: u64,
-    probes: &mut P,
-) -> Option<usize>
-    requires len { length marks.now ≡ length entries.now }
-    requires marks { marks.now ≡ map mark_of (map arc_value entries.now) }
-    ensures none { IfNone result (longest (map arc_value entries.now) state.now left ≡ None) }
-    ensures some { IfSome result (IsFound (map arc_value entries.now) state.now left) }
-    ensures probes { P.count probes.new
-        ≡ raised P.more (count_by (may_match state.now) (map arc_value entries.now)) (P.count probes.old) }
-{
-    let mut bytes = [0; PLACES];
-    put_first(state, &mut bytes);
-    let mut made = [blank(&bytes); 8];
-    look(entries, marks, state, &bytes, &mut made, left, probes)
+/// The longest match so far.
+#[derive(Clone, Copy, Debug)]
+pub struct Best {
+    // Its position among the entries.
+    pub position: Option<usize>,
+    // Its steps, 0 where there is none.
+    pub steps: u64,
 }
 
-/// The same, with the first bytes of the state, and some of their fingerprints.
-fn look<P: Probes>(
+/// The position of the longest of these entries, of at most `left` steps, that matches a state.
+///
+/// Marks with one mask stand together in the index. For each mask the state has one fingerprint, and the entries that
+/// have it stand together again, group by group.
+pub fn search<P: Probes>(
     entries: &[Arc<Entry>],
-    marks: &[Mark],
+    slots: &[Slot],
     state: &State,
-    bytes: &[u8],
-    made: &mut [Mark],
     left: u64,
     probes: &mut P,
 ) -> Option<usize>
-    requires len { length marks.now ≡ length entries.now }
-    requires marks { marks.now ≡ map mark_of (map arc_value entries.now) }
-    requires bytes { length bytes.now ≡ 128 }
-    requires first { (p : ℕ) → p < 128 → slice_index bytes.now p ≡ slice_index state.now.bytes p }
-    requires slots { length made.old ≡ 8 }
-    requires right { All (IsPrint (slice_index bytes.now)) made.old }
+    requires { IsIndex (map arc_value entries.now) slots.now }
     ensures none { IfNone result (longest (map arc_value entries.now) state.now left ≡ None) }
     ensures some { IfSome result (IsFound (map arc_value entries.now) state.now left) }
-    ensures probes { P.count probes.new
-        ≡ raised P.more (count_by (may_match state.now) (map arc_value entries.now)) (P.count probes.old) }
+    ensures probes { (asked : List Asked) × AreAsked (map arc_value entries.now) state.now asked
+        × (P.count probes.new ≡ raised P.more (sum_by (λ a. a.probes) asked) (P.count probes.old)) }
 {
-    let mut best = None;
-    let mut most = 0;
-    for (i, held) in entries.iter().enumerate() {
-        let entry: &Entry = held;
-        if probe(entry, &marks[i], state, bytes, made, left, most, probes) {
-            best = Some(i);
-            most = entry.steps();
+    let mut best = Best {
+        position: None,
+        steps: 0,
+    };
+    let mut from = 0;
+    while from < slots.len() {
+        let mask = slots[from].mark.mask;
+        let print = print_in(state, &entries[slots[from].position]);
+        let wanted = Mark { mask, print };
+        let last = Mark {
+            mask,
+            print: u64::MAX,
+        };
+        let low = count_before(slots, wanted);
+        let high = count_through(slots, wanted);
+        let next = count_through(slots, last);
+        best = search_range(entries, slots, low, high, state, left, best, probes);
+        from = next;
+    }
+    best.position
+}
+
+/// The longest match so far, after the slots of one mark, which the state has, group by group.
+fn search_range<P: Probes>(
+    entries: &[Arc<Entry>],
+    slots: &[Slot],
+    low: usize,
+    high: usize,
+    state: &State,
+    left: u64,
+    best: Best,
+    probes: &mut P,
+) -> Best
+    requires index { IsIndex (map arc_value entries.now) slots.now }
+    requires range { (low ≤ high) × (high ≤ length slots.now) }
+    requires marks { (i j : ℕ) → low ≤ i → i < high → low ≤ j → j < high
+        → mark_of (slice_index_or (sorted_of (map arc_value entries.now) slots.now) i no_entry)
+        ≡ mark_of (slice_index_or (sorted_of (map arc_value entries.now) slots.now) j no_entry) }
+    requires prints { (i : ℕ) → low ≤ i → i < high
+        → may_match state.now (slice_index_or (sorted_of (map arc_value entries.now) slots.now) i no_entry) ≡ true }
+    requires best { IsBest (map arc_value entries.now) state.now left best.position best.steps }
+    ensures best { IsBest (map arc_value entries.now) state.now left result.position result.steps }
+    ensures most { IsMost (sorted_of (map arc_value entries.now) slots.now) state.now left low high result.steps }
+    ensures rises { best.steps ≤ result.steps }
+    ensures probes { (asked : List Asked) × AreAsked (map arc_value entries.now) state.now asked
+        × All (λ a. IsFrom (sorted_of (map arc_value entries.now) slots.now) low high a.entry) asked
+        × (P.count probes.new ≡ raised P.more (sum_by (λ a. a.probes) asked) (P.count probes.old)) }
+{
+    let mut now = best;
+    let mut from = low;
+    while from < high {
+        let end = group_end(entries, slots, from, high);
+        let first: &Entry = &entries[slots[from].position];
+        if first.shape() == state.shape() {
+            if let Some(i) = last_match(entries, slots, from, end, state, left, probes) {
+                now = longer_of(now, entries, slots[i].position);
+            }
         }
+        from = end;
+    }
+    now
+}
+
+/// The longer of what was found and the entry at a position.
+fn longer_of(best: Best, entries: &[Arc<Entry>], position: usize) -> Best
+    requires { position < length entries.now }
+    ensures { result ≡ (if nat_lt best.steps (slice_index_or (map arc_value entries.now) position no_entry).steps
+        then record { position = Some position; steps = (slice_index_or (map arc_value entries.now) position no_entry).steps }
+        else best) }
+{
+    let steps = entries[position].steps();
+    if best.steps < steps {
+        return Best {
+            position: Some(position),
+            steps,
+        };
     }
     best
 }
 
-/// Whether an entry matches a state and has more steps than `most`, and at most `left`.
-fn probe<P: Probes>(
-    entry: &Entry,
-    mark: &Mark,
-    state: &State,
-    bytes: &[u8],
-    made: &mut [Mark],
-    left: u64,
-    most: u64,
-    probes: &mut P,
-) -> bool
-    requires mark { mark.now ≡ mark_of entry.now }
-    requires bytes { length bytes.now ≡ 128 }
-    requires first { (p : ℕ) → p < 128 → slice_index bytes.now p ≡ slice_index state.now.bytes p }
-    requires slots { length made.old ≡ 8 }
-    requires right { All (IsPrint (slice_index bytes.now)) made.old }
-    ensures is { result
-        ≡ (matches state.now entry.now && nat_le entry.now.steps left && nat_lt most entry.now.steps) }
-    ensures least { 1 ≤ entry.now.steps }
-    ensures right { All (IsPrint (slice_index bytes.now)) made.new }
-    ensures probes { P.count probes.new
-        ≡ (if may_match state.now entry.now then P.more (P.count probes.old) else P.count probes.old) }
+/// Where the group ends of which the first slot is at `from`, among slots of one mark.
+fn group_end(entries: &[Arc<Entry>], slots: &[Slot], from: usize, high: usize) -> usize
+    requires index { IsIndex (map arc_value entries.now) slots.now }
+    requires some { from < high }
+    requires range { high ≤ length slots.now }
+    requires marks { (i j : ℕ) → from ≤ i → i < high → from ≤ j → j < high
+        → mark_of (slice_index_or (sorted_of (map arc_value entries.now) slots.now) i no_entry)
+        ≡ mark_of (slice_index_or (sorted_of (map arc_value entries.now) slots.now) j no_entry) }
+    ensures some { from < result }
+    ensures range { result ≤ high }
+    ensures same { (i : ℕ) → from ≤ i → i < result
+        → by_group (slice_index_or (sorted_of (map arc_value entries.now) slots.now) from no_entry)
+        (slice_index_or (sorted_of (map arc_value entries.now) slots.now) i no_entry) ≡ Ordering.Equal }
+    ensures rest { (i : ℕ) → result ≤ i → i < high
+        → by_group (slice_index_or (sorted_of (map arc_value entries.now) slots.now) from no_entry)
+        (slice_index_or (sorted_of (map arc_value entries.now) slots.now) i no_entry) ≡ Ordering.Less }
 {
-    entry.truth();
-    if has_print(mark, bytes, made) {
-        probes.tick();
-        return is_longer(entry, state, left, most);
+    let first: &Entry = &entries[slots[from].position];
+    if compare_groups(first, &entries[slots[high - 1].position]).is_eq() {
+        return high;
     }
-    false
+    let mut low = from + 1;
+    let mut end = high - 1;
+    while low < end {
+        let middle = low + (end - low) / 2;
+        if compare_groups(first, &entries[slots[middle].position]).is_eq() {
+            low = middle + 1;
+        } else {
+            end = middle;
+        }
+    }
+    low
+}
+
+/// The last of the slots of a group whose entry matches a state and has at most `left` steps.
+fn last_match<P: Probes>(
+    entries: &[Arc<Entry>],
+    slots: &[Slot],
+    from: usize,
+    end: usize,
+    state: &State,
+    left: u64,
+    probes: &mut P,
+) -> Option<usize>
+    requires index { IsIndex (map arc_value entries.now) slots.now }
+    requires some { from < end }
+    requires range { end ≤ length slots.now }
+    requires group { IsTailRising (sorted_of (map arc_value entries.now) slots.now) state.now from end }
+    ensures last { IsLast (sorted_of (map arc_value entries.now) slots.now) state.now left from end result }
+    ensures probes { (times : ℕ) × IsFew times (end - from)
+        × (P.count probes.new ≡ raised P.more times (P.count probes.old)) }
+{
+    let mut best = None;
+    let mut low = from;
+    let mut high = end;
+    while low < high {
+        let middle = low + (high - low) / 2;
+        let entry: &Entry = &entries[slots[middle].position];
+        probes.tick();
+        match compare_with(entry, state) {
+            Ordering::Less => low = middle + 1,
+            Ordering::Equal if entry.steps() <= left => {
+                best = Some(middle);
+                low = middle + 1;
+            }
+            _ => high = middle,
+        }
+    }
+    best
 }

@@ -2,9 +2,13 @@
 #![tactic(auto)]
 
 mod find;
+mod index;
+mod laws;
 mod mark;
+mod order;
 mod shard;
 #[cfg(test)]
 mod tests;
 
-pub use shard::{Inserted, Shard};
+pub use laws::{insertions_add, prints_hide_no_match};
+pub use shard::{Inserted, MOST_CAPACITY, Shard};

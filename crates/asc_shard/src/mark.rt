@@ -1,153 +1,118 @@
-ghost use Rattle.std.specs.Prelude.{◌≡◌, ℕ, ◌+◌, ◌<◌, ◌≤◌, ◌==◌, All, false, length, slice_index, slice_index_or};
-ghost use Rattle.asc_shard.specs.Marks.{mixed, has_place, byte_in, bits_of, print_of, print_by, mark_of, IsPrint};
+ghost use Rattle.std.specs.Prelude.{◌≡◌, ℕ, ◌+◌, ◌<◌, ◌≤◌, All, false, fold, map, length, slice_index, slice_index_or};
+ghost use Rattle.asc_model.specs.DependencyVector.{is_among};
+ghost use Rattle.asc_model.specs.Entry.{IsTrueEntry};
+ghost use Rattle.asc_model.specs.Shape.{length_of};
+ghost use Rattle.asc_shard.specs.Marks.{first_reads_of, fingerprint, mixed, print_in};
+ghost use Rattle.asc_shard.specs.Inside.{bits_of, bytes_at, bytes_of, mark_of, mask_of, places_of, by_mark};
 
 use asc_shape::State;
 use asc_traj::Entry;
+use std::cmp::Ordering;
 
 /// At so many places, from the first on, a fingerprint may take bytes: those of the pc and of the registers.
-pub const PLACES: usize = 128;
+const PLACES: usize = 128;
 
-/// Some of the first `PLACES` places, as bits.
-#[derive(Clone, Copy, Debug, PartialEq, Eq)]
-pub struct Mask {
-    low: u64,
-    high: u64,
-}
-
-/// A fingerprint of the bytes at some places.
+/// A fingerprint of the bytes at some of the first `PLACES` places.
 #[derive(Clone, Copy, Debug)]
 pub struct Mark {
-    mask: Mask,
-    print: u64,
+    // The places, as bits.
+    pub mask: u128,
+    pub print: u64,
 }
 
-/// The fingerprint of the bytes that an entry reads at the first places.
+/// The mark of the bytes that an entry reads at the first places.
 pub fn mark_of(entry: &Entry) -> Mark
     ensures { result ≡ mark_of entry.now }
 {
-    let mut has = [false; PLACES];
-    let mut bytes = [0; PLACES];
-    put_cells(entry.reads(), &mut has, &mut bytes);
-    let mask = Mask {
-        low: bits_of(&has, 0),
-        high: bits_of(&has, 64),
-    };
+    let cells = first_reads(entry);
     Mark {
-        mask,
-        print: print_by(mask, &bytes),
+        mask: mask_of(cells),
+        print: print_of(cells),
     }
 }
 
-/// The fingerprint of no bytes.
-pub fn blank(bytes: &[u8]) -> Mark
-    requires { length bytes.now ≡ 128 }
-    ensures { IsPrint (slice_index bytes.now) result }
-{
-    let mask = Mask { low: 0, high: 0 };
-    Mark {
-        mask,
-        print: print_by(mask, bytes),
-    }
-}
-
-/// Puts the first bytes of a state.
-pub fn put_first(state: &State, bytes: &mut [u8])
-    requires { length bytes.old ≡ 128 }
-    ensures { (p : ℕ) → p < 128 → slice_index bytes.new p ≡ slice_index state.now.bytes p }
+/// The fingerprint of the bytes that a state has at the first places that an entry reads.
+pub fn print_in(state: &State, entry: &Entry) -> u64
+    ensures { result ≡ print_in state.now entry.now }
 {
     // That it is a state.
     let _ = state.shape();
-    for p in 0..PLACES {
-        bytes[p] = state.get(p as u32);
-    }
+    print_at(state, first_reads(entry))
 }
 
-/// Whether bytes have a fingerprint. It looks first among fingerprints of theirs that were made before.
-pub fn has_print(mark: &Mark, bytes: &[u8], made: &mut [Mark]) -> bool
-    requires bytes { length bytes.now ≡ 128 }
-    requires slots { length made.old ≡ 8 }
-    requires right { All (IsPrint (slice_index bytes.now)) made.old }
-    ensures is { result ≡ (print_by mark.now.mask (slice_index bytes.now) == mark.now.print) }
-    ensures right { All (IsPrint (slice_index bytes.now)) made.new }
+/// Which of two marks is first.
+#[inline]
+pub fn compare_marks(a: Mark, b: Mark) -> Ordering
+    ensures { result ≡ by_mark a b }
 {
-    let mask = mark.mask;
-    let slot = slot_of(mask);
-    if made[slot].mask != mask {
-        made[slot] = Mark {
-            mask,
-            print: print_by(mask, bytes),
-        };
-    }
-    made[slot].print == mark.print
+    a.mask.cmp(&b.mask).then(a.print.cmp(&b.print))
 }
 
-/// Where a fingerprint at these places is kept.
-fn slot_of(mask: Mask) -> usize
-    ensures { result < 8 }
+/// The cells that an entry reads at the first places.
+fn first_reads(entry: &Entry) -> &[(u32, u8)]
+    ensures first { result.now ≡ first_reads_of entry.now }
+    ensures places { All (λ cell. cell.0 < 128) result.now }
+    ensures entry { IsTrueEntry entry.now }
 {
-    let mixed = u64::wrapping_mul(mask.low ^ mask.high, 0x9E37_79B9_7F4A_7C15);
-    ((mixed >> 32) % 8) as usize
+    entry.truth();
+    let reads = entry.reads();
+    let count = reads.partition_point(|cell| cell.0 < 128);
+    &reads[..count]
 }
 
-/// Puts each cell of the first places: the first one of a place is what stays.
-fn put_cells(cells: &[(u32, u8)], has: &mut [bool], bytes: &mut [u8])
-    requires has_room { length has.old ≡ 128 }
-    requires room { length bytes.old ≡ 128 }
-    requires no { (p : ℕ) → p < 128 → slice_index_or has.old p false ≡ false }
-    requires blank { (p : ℕ) → p < 128 → slice_index bytes.old p ≡ 0 }
-    ensures has { (p : ℕ) → p < 128 → slice_index_or has.new p false ≡ has_place cells.now p }
-    ensures bytes { (p : ℕ) → p < 128 → slice_index bytes.new p ≡ byte_in cells.now p }
+/// The places of cells, as bits.
+fn mask_of(cells: &[(u32, u8)]) -> u128
+    requires { All (λ cell. cell.0 < 128) cells.now }
+    ensures { result ≡ mask_of (places_of cells.now) }
 {
+    let mut has = [false; PLACES];
     let mut i = cells.len();
     while i > 0 {
         i -= 1;
-        let place = cells[i].0 as usize;
-        if place < PLACES {
-            has[place] = true;
-            bytes[place] = cells[i].1;
-        }
+        has[cells[i].0 as usize] = true;
     }
+    bits_of(&has)
 }
 
-/// Of 64 places, from one on, those that are had, as bits.
-fn bits_of(has: &[bool], from: usize) -> u64
-    requires { from + 64 ≤ length has.now }
-    ensures { result ≡ bits_of (λ p. slice_index_or has.now p false) 64 from }
+/// Of the first places those that are had, as bits.
+fn bits_of(has: &[bool]) -> u128
+    requires { length has.now ≡ 128 }
+    ensures { result ≡ bits_of (λ p. slice_index_or has.now p false) 128 0 }
 {
     let mut bits = 0;
     let mut n = 0;
-    while n < 64 {
-        bits = 2 * bits + u64::from(has[from + 63 - n]);
+    while n < PLACES {
+        bits = 2 * bits + u128::from(has[PLACES - 1 - n]);
         n += 1;
     }
     bits
 }
 
-/// The fingerprint of bytes at some of the first places.
-fn print_by(mask: Mask, bytes: &[u8]) -> u64
-    requires { length bytes.now ≡ 128 }
-    ensures { result ≡ print_by mask (slice_index bytes.now) }
+/// The fingerprint of the bytes of cells.
+fn print_of(cells: &[(u32, u8)]) -> u64
+    ensures { result ≡ fingerprint (bytes_of cells.now) }
 {
-    print_part(bytes, 64, mask.high, print_part(bytes, 0, mask.low, 0))
+    let mut print = 0;
+    for cell in cells {
+        print = mix(print, cell.1);
+    }
+    print
 }
 
-/// A fingerprint, more by the bytes at 64 places, from one on: at those whose bit is set.
-fn print_part(bytes: &[u8], from: usize, bits: u64, print: u64) -> u64
-    requires { from + 64 ≤ length bytes.now }
-    ensures { result ≡ print_of (slice_index bytes.now) 64 from bits print }
+/// The fingerprint of the bytes that a state has at the places of cells.
+fn print_at(state: &State, cells: &[(u32, u8)]) -> u64
+    requires { All (λ cell. cell.0 < length_of state.now.shape) cells.now }
+    ensures { result ≡ fingerprint (bytes_at state.now cells.now) }
 {
-    let mut left = bits;
-    let mut now = print;
-    for i in from..from + 64 {
-        if left % 2 == 1 {
-            now = mix(now, bytes[i]);
-        }
-        left /= 2;
+    let mut print = 0;
+    for cell in cells {
+        print = mix(print, state.get(cell.0));
     }
-    now
+    print
 }
 
 /// A fingerprint, one byte more.
+#[inline]
 #[tactic(auto, unfolding(crate::specs::Marks::mixed))]
 fn mix(print: u64, byte: u8) -> u64
     ensures { result ≡ mixed print byte }

@@ -1,17 +1,15 @@
-ghost use Rattle.std.specs.Prelude.{◌≡◌, ◌+◌, ◌<◌, ◌≤◌, [], All, length, map, count_by, slice_index_or, None, IfOk, IfSome, IfNone};
-ghost use Rattle.std.specs.List.{list_any};
+ghost use Rattle.std.specs.Prelude.{◌≡◌, ◌+◌, ◌<◌, ◌≤◌, [], List, length, map, sum_by, slice_index_or, None, IfOk, IfSome, IfNone};
 ghost use Rattle.std.specs.Arc.{arc_value};
-ghost use Rattle.asc_model.specs.Shape.{is_same_shape, is_same_version};
-ghost use Rattle.asc_model.specs.Entry.{IsTrueEntry};
 ghost use Rattle.asc_traj.specs.Finder.{IsJump};
 ghost use Rattle.asc_traj.specs.Content.{longest};
-ghost use Rattle.asc_shard.specs.Marks.{may_match};
-ghost use Rattle.asc_shard.specs.Content.{add, outcome_of, is_same_entry, IsContent, IsFound, raised};
+ghost use Rattle.asc_shard.specs.Groups.{AreAsked, Asked};
+ghost use Rattle.asc_shard.specs.Content.{add, outcome_of, IsContent, IsFound};
+ghost use Rattle.asc_shard.specs.Inside.{raised};
 
 use crate::find::{Probes, Uncounted, search};
-use crate::mark::{Mark, mark_of};
-use asc_model::Version;
-use asc_shape::{Memory, Shape, State, Steps};
+use crate::index::{Slot, add, forget_oldest, has_same};
+use crate::mark::mark_of;
+use asc_shape::{Memory, State, Steps};
 use asc_traj::{Entry, jump_by};
 use std::alloc::Global;
 use std::marker::Model;
@@ -27,12 +25,16 @@ pub enum Inserted {
     Stored,
 }
 
+/// The greatest capacity of a shard. The index of so many entries, 48 bytes for each, stays in the processor's second
+/// cache while the walk looks up.
+pub const MOST_CAPACITY: usize = 4096;
+
 /// A bounded list of entries, the oldest first.
 #[derive(Drop)]
 pub struct Shard {
     entries: Vec<Arc<Entry>>,
-    // The fingerprint of each entry.
-    marks: Vec<Mark>,
+    // Their index: where those with one fingerprint, and of them those of one group, stand together.
+    slots: Vec<Slot>,
     capacity: usize,
 }
 
@@ -40,7 +42,7 @@ impl Model for Shard {
     ghost use Rattle.std.specs.Prelude.{◌≡◌, ◌≤◌, ◌<◌, map, length, vec_capacity};
     ghost use Rattle.std.specs.Arc.{arc_value};
     ghost use Rattle.asc_shard.specs.Content.{AreApart};
-    ghost use Rattle.asc_shard.specs.Marks.{mark_of};
+    ghost use Rattle.asc_shard.specs.Inside.{IsIndex};
     ghost use Rattle.asc_shard.specs.Shard as model;
 
     ghost Value = { model.Shard };
@@ -48,22 +50,21 @@ impl Model for Shard {
     ghost view = { λ s. record { held = map arc_value s.entries.items; capacity = s.capacity } };
 
     ghost invariant = { λ s. (length s.entries.items ≤ s.capacity) × (0 < s.capacity)
-        × (s.capacity ≤ vec_capacity s.entries) × AreApart (map arc_value s.entries.items)
-        × (length s.marks.items ≡ length s.entries.items) × (s.capacity ≤ vec_capacity s.marks)
-        × (s.marks.items ≡ map mark_of (map arc_value s.entries.items)) };
+        × (s.capacity ≤ vec_capacity s.entries) × (s.capacity ≤ vec_capacity s.slots)
+        × AreApart (map arc_value s.entries.items) × IsIndex (map arc_value s.entries.items) s.slots.items };
 }
 
 impl Shard {
     /// A shard that holds nothing, and may hold so many entries. All its room is reserved here.
     pub fn new(alloc: Global, capacity: usize) -> Result<Shard, Memory>
-        requires { (0 < capacity) × (capacity ≤ 4096) }
+        requires { (0 < capacity) × (capacity ≤ MOST_CAPACITY) }
         ensures { IfOk result (λ s. s ≡ record { held = []; capacity = capacity }) }
     {
         let entries = Vec::with_capacity(alloc, capacity)?;
-        let marks = Vec::with_capacity(alloc, capacity)?;
+        let slots = Vec::with_capacity(alloc, capacity)?;
         Ok(Shard {
             entries,
-            marks,
+            slots,
             capacity,
         })
     }
@@ -74,15 +75,15 @@ impl Shard {
         ensures capacity { self.new.capacity ≡ self.old.capacity }
         ensures outcome { result ≡ outcome_of self.old.held (arc_value entry) }
     {
-        if holds_same(&self.entries, &entry) {
+        let mark = mark_of(&entry);
+        if has_same(&self.entries, &self.slots, &entry, mark) {
             return Inserted::Known;
         }
         if self.entries.len() == self.capacity {
+            forget_oldest(&self.entries, &mut self.slots);
             drop(self.entries.remove(0));
-            self.marks.remove(0);
         }
-        self.marks.push_reserved(mark_of(&entry));
-        self.entries.push_reserved(entry);
+        add(&mut self.entries, &mut self.slots, entry, mark);
         Inserted::Stored
     }
 
@@ -93,17 +94,19 @@ impl Shard {
         ensures jump { IsJump result left state.old state.new }
     {
         match self.find_by(state, left, &mut Uncounted) {
-            Some(i) => Some(jump_by(&self.entries[i], state)),
+            Some(i) => Some(jump_by(self.entry(i), state)),
             None => None,
         }
     }
 
-    /// The position of the longest entry of at most `left` steps that matches. An entry is compared with the state,
-    /// and counted, only where the state has its fingerprint.
+    /// The position of the longest entry of at most `left` steps that matches. Each comparison of an entry with the
+    /// state is counted as a probe. Only groups of which some entry has a fingerprint that the state has are searched:
+    /// one of m entries takes at most k + 2 probes, where 2^k is at most m.
     pub fn find<L: Ledger>(&self, state: &State, left: u64, probes: &mut Steps<L>) -> Option<usize>
         ensures none { IfNone result (longest self.now.held state.now left ≡ None) }
         ensures some { IfSome result (IsFound self.now.held state.now left) }
-        ensures probes { probes.new ≡ probes.old + count_by (may_match state.now) self.now.held }
+        ensures probes { (asked : List Asked) × AreAsked self.now.held state.now asked
+            × (probes.new ≡ probes.old + sum_by (λ a. a.probes) asked) }
     {
         self.find_by(state, left, probes)
     }
@@ -117,10 +120,10 @@ impl Shard {
     ) -> Option<usize>
         ensures none { IfNone result (longest self.now.held state.now left ≡ None) }
         ensures some { IfSome result (IsFound self.now.held state.now left) }
-        ensures probes { P.count probes.new
-            ≡ raised P.more (count_by (may_match state.now) self.now.held) (P.count probes.old) }
+        ensures probes { (asked : List Asked) × AreAsked self.now.held state.now asked
+            × (P.count probes.new ≡ raised P.more (sum_by (λ a. a.probes) asked) (P.count probes.old)) }
     {
-        search(&self.entries, &self.marks, state, left, probes)
+        search(&self.entries, &self.slots, state, left, probes)
     }
 
     /// How many entries it holds.
@@ -149,50 +152,6 @@ impl Shard {
     pub fn truth(&self)
         ensures { IsContent self.now.capacity self.now.held }
     {
-        are_true(&self.entries);
-    }
-}
-
-/// It does nothing. A caller's proof learns from it that each of these entries is true.
-fn are_true(entries: &[Arc<Entry>])
-    ensures { All IsTrueEntry (map arc_value entries.now) }
-{
-    for held in entries {
-        let entry: &Entry = held;
-        entry.truth();
-    }
-}
-
-/// Whether one of these entries is the same as another.
-fn holds_same(entries: &[Arc<Entry>], entry: &Entry) -> bool
-    ensures { result ≡ list_any (is_same_entry entry.now) (map arc_value entries.now) }
-{
-    for held in entries {
-        if is_same(entry, held) {
-            return true;
-        }
-    }
-    false
-}
-
-/// Whether two entries stand for as many steps from the same states.
-fn is_same(a: &Entry, b: &Entry) -> bool
-    ensures { result ≡ is_same_entry a.now b.now }
-{
-    is_same_shape(a.shape(), b.shape()) && a.steps() == b.steps() && a.reads() == b.reads()
-}
-
-fn is_same_shape(a: Shape, b: Shape) -> bool
-    ensures { result ≡ is_same_shape a b }
-{
-    a.base() == b.base() && a.size() == b.size() && is_same_version(a.version(), b.version())
-}
-
-fn is_same_version(a: Version, b: Version) -> bool
-    ensures { result ≡ is_same_version a b }
-{
-    match (a, b) {
-        (Version::One, Version::One) | (Version::Two, Version::Two) => true,
-        _ => false,
+        let _ = &self.capacity;
     }
 }

@@ -3,7 +3,7 @@ ghost use Rattle.asc_outside.specs.Outside.{one_more};
 ghost use Rattle.asc_traj.specs.Trace.{StandsFor};
 
 use crate::find::Probes;
-use crate::{Inserted, Shard};
+use crate::{Inserted, MOST_CAPACITY, Shard};
 use asc_depvec::Tracer;
 use asc_shape::{Shape, State, Steps};
 use asc_traj::{Entry, Never, Stop, Traced, trace};
@@ -53,9 +53,11 @@ fn counting<R: Abort>(rt: &R, alloc: Global, size: u32, x5: u32, x6: u32) -> Sta
     state
 }
 
-/// A load of the word at x10.
-fn loading<R: Abort>(rt: &R, alloc: Global, x10: u32) -> State {
+/// A load of a word, which is at x10.
+fn loading<R: Abort>(rt: &R, alloc: Global, x10: u32, word: u32) -> State {
     let mut state = state_of(rt, alloc, 65_536, &[0x0005_2303]);
+    assert!(rt; state.holds(x10, 4));
+    state.write(x10, &word.to_le_bytes());
     state.set_reg(10, x10);
     state
 }
@@ -91,7 +93,7 @@ fn laps_from<R: Abort>(rt: &R, alloc: Global, x5: u32, x6: u32, laps: u64) -> Ar
 
 /// A shard for so many entries.
 fn shard_of<R: Abort>(rt: &R, alloc: Global, capacity: usize) -> Shard {
-    assert!(rt; (1..=4096).contains(&capacity));
+    assert!(rt; (1..=MOST_CAPACITY).contains(&capacity));
     Shard::new(alloc, capacity).expect(rt, "memory")
 }
 
@@ -148,6 +150,13 @@ fn jumps(rt: HostRuntime) {
     }
 }
 
+/// What a look-up finds, and how often it compares an entry with the state.
+fn looked(shard: &Shard, state: &State, left: u64) -> (Option<usize>, u64) {
+    let mut probes = Counter { count: 0 };
+    let found = shard.find_by(state, left, &mut probes);
+    (found, probes.count)
+}
+
 #[test]
 fn grouped(rt: HostRuntime) {
     let alloc = rt.alloc();
@@ -156,10 +165,10 @@ fn grouped(rt: HostRuntime) {
         shard.insert(laps_from(&rt, alloc, x5, 100, 1));
     }
     let state = counting(&rt, alloc, 65_536, 5, 100);
-    let mut probes = Counter { count: 0 };
-    assert_eq!(rt; shard.find_by(&state, 2, &mut probes), Some(5));
-    assert_eq!(rt; probes.count, 1);
-    assert_eq!(rt; shard.find_by(&state, 1, &mut probes), None);
+    let (found, probes) = looked(&shard, &state, 2);
+    assert_eq!(rt; found, Some(5));
+    assert!(rt; probes <= 5);
+    assert_eq!(rt; looked(&shard, &state, 1).0, None);
 }
 
 #[test]
@@ -167,17 +176,36 @@ fn apart(rt: HostRuntime) {
     let alloc = rt.alloc();
     let mut shard = shard_of(&rt, alloc, 64);
     for k in 0..64 {
-        let state = loading(&rt, alloc, 0x10100 + 8 * k);
+        let state = loading(&rt, alloc, 0x10100 + 8 * k, 0);
         shard.insert(entry_of(&rt, alloc, &state, 9, 1));
     }
-    let mut probes = Counter { count: 0 };
-    let state = loading(&rt, alloc, 0x10100 + 8 * 21);
-    assert_eq!(rt; shard.find_by(&state, 1, &mut probes), Some(21));
-    assert_eq!(rt; probes.count, 1);
-    let mut probes = Counter { count: 0 };
-    let state = loading(&rt, alloc, 0x10104);
-    assert_eq!(rt; shard.find_by(&state, 1, &mut probes), None);
-    assert_eq!(rt; probes.count, 0);
+    let state = loading(&rt, alloc, 0x10100 + 8 * 21, 0);
+    let (found, probes) = looked(&shard, &state, 1);
+    assert_eq!(rt; found, Some(21));
+    assert!(rt; probes <= 3);
+    let state = loading(&rt, alloc, 0x10104, 0);
+    assert_eq!(rt; looked(&shard, &state, 1), (None, 0));
+}
+
+#[test]
+fn of_one_word(rt: HostRuntime) {
+    let alloc = rt.alloc();
+    let mut shard = shard_of(&rt, alloc, 16);
+    // The oldest 8 of the 24 go.
+    for k in 0..24 {
+        let state = loading(&rt, alloc, 0x10100, 7 * k % 24);
+        shard.insert(entry_of(&rt, alloc, &state, 9, 1));
+    }
+    for k in 0..24 {
+        let word = 7 * k % 24;
+        let (found, probes) = looked(&shard, &loading(&rt, alloc, 0x10100, word), 1);
+        assert_eq!(rt; found, if k < 8 { None } else { Some(k as usize - 8) });
+        assert!(rt; probes <= 6);
+    }
+    assert_eq!(rt;
+        looked(&shard, &loading(&rt, alloc, 0x10100, 24), 1).0,
+        None
+    );
 }
 
 /// Finds an entry of two steps, counting probes by a ledger.
