@@ -7,3 +7,4 @@ pub mod Runs
 pub mod Matching
 pub mod Looks
 pub mod Finding
+pub mod HaltSteps
