@@ -15,20 +15,20 @@ use std::sync::Arc;
 // - a flag's load gives 1, and it answers yes (`loads_one`);
 // - a flag's seat is split off the halter's, before any load (`splits`).
 
-/// What a seat at the word knows. No value of it is made.
-pub struct Sight {
-    /// Whether it is the halter's.
-    pub halts: bool,
-    /// Whether it has stored 1.
-    pub halted: bool,
-    /// How often it has loaded the word.
-    pub asks: u64,
-    /// How many of its loads gave 1, up to 2^64 - 1.
-    pub count: u64,
+// What a seat at the word knows. No value of it is made.
+struct Sight {
+    // Whether it is the halter's.
+    halts: bool,
+    // Whether it has stored 1.
+    halted: bool,
+    // How often it has loaded the word.
+    asks: u64,
+    // How many of its loads gave 1, up to 2^64 - 1.
+    count: u64,
 }
 
-/// The rule of the word: it is 1 where the halter has asked to stop, and else 0. Until then no flag has answered yes.
-pub struct Halting;
+// The rule of the word: it is 1 where the halter has asked to stop, and else 0. Until then no flag has answered yes.
+struct Halting;
 
 impl TableRule<(), Sight, ()> for Halting {
     ghost use Rattle.asc_traj.specs.Halting.{HaltRule, first_sight};
@@ -156,5 +156,30 @@ impl Halt for Flag {
         ensures patience { LosesPatience None None result }
     {
         self.word.shared.load::<Loads>(&mut self.seat, 0) == 1
+    }
+}
+
+#[cfg(test)]
+mod tests {
+    use super::Halter;
+    use crate::Halt;
+    use std::test::Fail;
+
+    /// It does nothing. Its call shows that threads may share values of a type, and hand them on.
+    fn is_shared<T: Send + Sync>(_value: &T) {}
+
+    #[test]
+    fn halts(rt: HostRuntime) -> Result<(), Fail> {
+        let (mut halter, mut flags) = Halter::open(rt.alloc(), 2)?;
+        is_shared(&halter);
+        is_shared(&flags);
+        for flag in &mut flags {
+            assert!(rt; !flag.asked());
+        }
+        halter.halt();
+        for flag in &mut flags {
+            assert!(rt; flag.asked() && flag.asked());
+        }
+        Ok(())
     }
 }
