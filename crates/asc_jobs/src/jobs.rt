@@ -11,9 +11,11 @@ use std::alloc::Global;
 use std::marker::Model;
 use std::sync::{Arc, Wait};
 
-// The steps at the queue are of these kinds. Each keeps the rule, by a lemma of its own in proofs/Moves.antt:
-// - a push puts a job behind the others (`pushes`);
-// - a pop takes the job at the front (`pops`);
+// The steps at the queue are of six kinds. Each keeps the rule, by a lemma of its own in proofs/Moves.antt:
+// - a push lands behind the other jobs, and the giver knows of one job more (`pushes`);
+// - a push finds the queue full, and nothing changes (`holds_no_more` says what is learned);
+// - a pop takes the job at the front, and its taker's list gains it (`pops`);
+// - a pop finds the queue empty, and nothing changes (`has_all` says what is learned);
 // - a taker's pass is split off the giver's, before any push (`forks`);
 // - a pass takes in another, which then has no part (`merges`).
 
@@ -174,7 +176,8 @@ impl Giver {
         self.next
     }
 
-    /// Pushes a job, and answers its ticket. Where the queue is full, nothing is pushed.
+    /// Pushes a job, and answers its ticket. Where the queue is full, nothing is pushed. The queue itself ends after
+    /// 2^62 pushes.
     pub fn push<R: Wait>(
         &mut self,
         rt: &R,
@@ -183,7 +186,7 @@ impl Giver {
         ahead: u32,
         kind: Kind,
     ) -> Result<u64, Full>
-        requires { length self.old.pushed + 1 < 2 ^ 64 }
+        requires { length self.old.pushed < 2 ^ 61 }
         ensures ticket { IfOk result (λ n. n ≡ length self.old.pushed) }
         ensures pushed { IfOk result (λ n. self.new ≡ after_push self.old (record {
           ticket = n;
