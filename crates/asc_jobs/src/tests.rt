@@ -54,13 +54,19 @@ fn tickets<R: Wait>(rt: &R, alloc: Global, mut taker: Taker) -> Result<Vec<u64>,
 fn is_shared<T: Send + Sync>(_value: &T) {}
 
 #[test]
+fn shared(rt: HostRuntime) -> Result<(), Fail> {
+    let (giver, mut takers) = Jobs::open(rt.alloc(), 1, 1)?;
+    is_shared(&giver);
+    is_shared(&takers.pop().expect(&rt, "a taker"));
+    Ok(())
+}
+
+#[test]
 fn two_jobs(rt: HostRuntime) -> Result<(), Fail> {
     let pair = snapshot(&rt, rt.alloc());
     let (mut giver, mut takers) = Jobs::open(rt.alloc(), 2, 2)?;
     let mut other = takers.pop().expect(&rt, "two takers");
     let mut taker = takers.pop().expect(&rt, "two takers");
-    is_shared(&giver);
-    is_shared(&taker);
     for ticket in [Ok(0), Ok(1), Err(Full)] {
         assert_eq!(rt; push(&rt, &mut giver, &pair), ticket);
     }

@@ -8,3 +8,4 @@ pub mod Matching
 pub mod Looks
 pub mod Finding
 pub mod HaltSteps
+pub mod HaltShared
