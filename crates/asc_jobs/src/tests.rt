@@ -67,12 +67,12 @@ fn two_jobs(rt: HostRuntime) -> Result<(), Fail> {
     let (mut giver, mut takers) = Jobs::open(rt.alloc(), 2, 2)?;
     let mut other = takers.pop().expect(&rt, "two takers");
     let mut taker = takers.pop().expect(&rt, "two takers");
-    for ticket in [Ok(0), Ok(1), Err(Full)] {
-        assert_eq!(rt; push(&rt, &mut giver, &pair), ticket);
-    }
-    for ticket in [Some(0), Some(1), None] {
-        assert_eq!(rt; pop(&rt, &mut taker), ticket);
-    }
+    assert_eq!(rt; push(&rt, &mut giver, &pair), Ok(0));
+    assert_eq!(rt; push(&rt, &mut giver, &pair), Ok(1));
+    assert_eq!(rt; push(&rt, &mut giver, &pair), Err(Full));
+    assert_eq!(rt; pop(&rt, &mut taker), Some(0));
+    assert_eq!(rt; pop(&rt, &mut taker), Some(1));
+    assert_eq!(rt; pop(&rt, &mut taker), None);
     assert_eq!(rt; push(&rt, &mut giver, &pair), Ok(2));
     assert_eq!(rt; pop(&rt, &mut other), Some(2));
     taker.join(other);
