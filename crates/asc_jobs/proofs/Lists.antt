@@ -1,5 +1,5 @@
 -- Lists of jobs that rise by ticket, and lists of views.
-use Rattle.std.proofs.Common.{◌≡◌, ◌≢◌, ◌⊎◌, ℕ, Bool, zero, suc, ◌+◌, ◌<◌, ◌≤◌, true, false, true≢false, [], ◌∷◌, ◌++◌, List, length, filter, cond, set, eqb, ◌||◌, sym, refl, ap, ◌∙◌, subst, ⊎_elim, inl, inr, rules, arith, eq-eqb, ne_eqb, append_assoc, length-append, add_assoc}
+use Rattle.std.proofs.Common.{◌≡◌, ◌≢◌, ℕ, Bool, zero, suc, ◌+◌, ◌<◌, ◌≤◌, true, false, true≢false, [], ◌∷◌, ◌++◌, List, length, filter, cond, set, eqb, ◌||◌, sym, refl, ap, ◌∙◌, ⊎_elim, arith, eq-eqb, ne_eqb}
 use lib.Dec.{ltb}
 use mathlib.Core.Option.{some, some-ne-none, some-injective}
 use lib.ListN.{get_elem?}

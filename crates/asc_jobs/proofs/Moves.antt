@@ -1,12 +1,12 @@
 -- Each step at the queue keeps the rule.
-use Rattle.std.proofs.Common.{◌≡◌, ◌≢◌, ◌⊎◌, ℕ, Bool, zero, suc, ◌+◌, ◌<◌, ◌≤◌, true, false, true≢false, [], ◌∷◌, ◌++◌, List, length, filter, cond, set, eqb, ◌||◌, sym, refl, ap, ◌∙◌, subst, ⊎_elim, inl, inr, rules, arith, eq-eqb, ne_eqb, append_assoc, append-nil, length-append}
+use Rattle.std.proofs.Common.{◌≡◌, ◌≢◌, ℕ, Bool, zero, suc, ◌+◌, ◌<◌, ◌≤◌, true, false, true≢false, [], ◌∷◌, ◌++◌, List, length, filter, cond, set, eqb, ◌||◌, sym, refl, ap, ◌∙◌, subst, ⊎_elim, arith, eq-eqb, ne_eqb, append_assoc, append-nil, length-append}
 use mathlib.Core.Option.{some, some-ne-none, some-injective}
 use lib.ListN.{get_elem?}
-use Rattle.std.proofs.lemmas.Bool.{eqb-true, eqb-false, cases_eq, cases_Bool}
+use Rattle.std.proofs.lemmas.Bool.{eqb-true, cases_eq}
 use Rattle.std.proofs.lemmas.List.Elements.{filter-append}
 use Rattle.std.proofs.Math.ListN.{length-set}
 use Rattle.crossbeam_queue.specs.Fifo.{Pushes, Pops, Forks, Merges, Learns}
-use Rattle.crossbeam_queue.proofs.Lists.{at_set, at_snoc, set_again}
+use Rattle.crossbeam_queue.proofs.Lists.{at_set, at_snoc}
 use Rattle.asc_jobs.specs.declared.job.Job.{Job}
 use Rattle.asc_jobs.specs.declared.hand.Hand.{Hand}
 use Rattle.asc_jobs.specs.Hands.{first_hand, new_hand, spent_hand, one_part_more, pushed_by, popped_by, merge_jobs, join_hands}

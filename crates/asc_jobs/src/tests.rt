@@ -95,7 +95,11 @@ fn four_threads(rt: HostRuntime) -> Result<(), Fail> {
     }
     all.sort_unstable();
     assert_eq!(rt; all.len(), 1000);
-    assert!(rt; all.iter().zip(0..1000).all(|(&ticket, number)| ticket == number));
+    assert!(rt;
+        all.iter()
+            .zip(0..1000)
+            .all(|(&ticket, number)| ticket == number)
+    );
     Ok(())
 }
 

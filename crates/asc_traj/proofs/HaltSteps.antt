@@ -1,11 +1,11 @@
 -- Each step at a halt word keeps its rule.
-use Rattle.std.proofs.Common.{◌≡◌, ◌≢◌, ◌⊎◌, ℕ, Bool, zero, suc, ◌+◌, ◌==◌, true, false, true≢false, [], ◌∷◌, List, if◌then◌else◌, set, get_or, sym, refl, ap, ◌∙◌, subst, ⊎_elim}
+use Rattle.std.proofs.Common.{◌≡◌, ◌≢◌, ℕ, Bool, zero, suc, true, false, true≢false, [], ◌∷◌, List, if◌then◌else◌, set, get_or, sym, refl, ap, ◌∙◌, subst, ⊎_elim}
 use mathlib.Core.Option.{some, some-ne-none, some-injective}
 use lib.ListN.{get_elem?}
-use Rattle.atomic_table.specs.Table.{State, Step, Me, Allows, Splits, keeps, opening}
+use Rattle.atomic_table.specs.Table.{Me, Allows, Splits, keeps, opening}
 use Rattle.atomic_table.proofs.Lists.{at_set, at_snoc, set_again}
 use Rattle.asc_traj.specs.declared.halter.Sight.{Sight}
-use Rattle.asc_traj.specs.Halting.{sight, first_sight, new_sight, stored, loaded, IsSighted, HaltRule}
+use Rattle.asc_traj.specs.Halting.{first_sight, new_sight, stored, loaded, IsSighted, HaltRule}
 
 abbrev Views : (ℕ → Sight → Type 0) → List Sight → Type 0
 Views F views = (seat : ℕ) (v : Sight) → get_elem? views seat ≡ some v → F seat v
