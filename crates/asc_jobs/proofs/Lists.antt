@@ -150,6 +150,7 @@ length_insert : (x : Job) (ys : List Job) → length (insert_job x ys) ≡ suc (
 length_insert x [] = refl
 length_insert x (y ∷ ys) = length_cond (ltb x.ticket y.ticket) x y ys (insert_job x ys) (suc (length ys)) (length_insert x ys) refl
 
+-- those who count jobs cite it
 pub length_merge : (xs ys : List Job) → length (merge_jobs xs ys) ≡ length xs + length ys
 length_merge xs [] = omega arith
 length_merge xs (y ∷ ys) = omega (arith, length_insert y (merge_jobs xs ys), length_merge xs ys)

@@ -176,8 +176,8 @@ impl Giver {
         self.next
     }
 
-    /// Pushes a job, and answers its ticket. Where the queue is full, nothing is pushed. The queue itself ends after
-    /// 2^62 pushes.
+    /// Pushes a job, and answers its ticket: 0, 1, 2 and so on. Where the queue is full, nothing is pushed and no
+    /// ticket is used. Past 2^62 jobs the queue below would wait for ever.
     pub fn push<R: Wait>(
         &mut self,
         rt: &R,
