@@ -7,3 +7,5 @@ pub mod Runs
 pub mod Matching
 pub mod Looks
 pub mod Finding
+pub mod HaltSteps
+pub mod HaltShared

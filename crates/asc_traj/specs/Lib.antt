@@ -4,3 +4,4 @@ pub mod Content
 pub mod Finder
 pub mod Serial
 pub mod Finders
+pub mod Halting

@@ -4,6 +4,7 @@
 mod entry;
 mod finder;
 mod halt;
+mod halter;
 mod longest;
 mod noted;
 #[cfg(test)]
@@ -14,6 +15,7 @@ pub use asc_model::Why;
 pub use entry::Entry;
 pub use finder::{Finder, ListFinder, Nothing};
 pub use halt::{Halt, Never};
+pub use halter::{Flag, Halter};
 pub use longest::{is_longer, jump_by, jump_longest, longest_match};
 pub use noted::Noted;
 pub use tracing::{Stop, Traced, trace};

@@ -1,0 +1,4 @@
+pub mod Hands
+pub mod JobRule
+pub mod Jobs
+pub mod Tally

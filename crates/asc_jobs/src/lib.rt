@@ -1,0 +1,16 @@
+//! A bounded queue of jobs with one giver and many takers, each job of which is taken at most once; and tallies of what
+//! became of jobs.
+#![tactic(auto)]
+
+mod hand;
+mod job;
+mod jobs;
+mod kind;
+mod tally;
+#[cfg(test)]
+mod tests;
+
+pub use job::Job;
+pub use jobs::{Full, Giver, Jobs, Taker};
+pub use kind::Kind;
+pub use tally::{Column, Tally};
