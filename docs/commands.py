@@ -58,12 +58,13 @@ def read(document, text, room):
             above, heading = False, part["heading"]
             lacked = None
         elif part["words"]:
-            lacked = lacks(part) or lacked
-            if lacked:
+            missing = lacks(part)
+            if missing:
                 what = f'"{heading}" of {document}' if heading else document
-                print(f"docs/commands.py: no {lacked}: {what} is left out")
-            if lacked and above:
+                print(f"docs/commands.py: no {missing}: {what} is left out")
+            if missing and above:
                 return []
+            lacked = lacked or missing
         elif part["name"]:
             Path(room, part["name"]).write_text(part["body"])
         elif part["kind"] == "sh" and not lacked:

@@ -120,7 +120,8 @@ def elf(code=(0x00100073,), segments=None, entry=0x10054, **fields):
 # Files that are refused, and what is said of each.
 REFUSED = [
     (b"", "it has fewer than 52 bytes: an empty file, or one cut short"),
-    (b"#!/bin/sh\n" + 60 * b"#", "it is no ELF file: asc wants what the linker makes, and no source, script or raw binary"),
+    (b"#!/bin/sh\n" + 60 * b"#",
+     "it is no ELF file: asc wants what the linker makes, and no source, script or raw binary"),
     (elf(ident=b"\x7fELF\2\1\1"), "it is not for 32 bits: build it with -march=rv32im -mabi=ilp32"),
     (elf(ident=b"\x7fELF\1\2\1"), "it is big-endian: built for another machine"),
     (elf(ident=b"\x7fELF\1\1\2"), "its header has another file version: a damaged file"),
@@ -171,7 +172,8 @@ HELLO, ECHO, MATRIX = (IMAGES / name for name in ("hello", "echo", "matrix"))
 LINES = [
     (f'"$@" {HELLO}', None),
     (f'echo 0 | "$@" {MATRIX}', None),
-    (f'"$@" {HELLO} --mem 64', "there is no option --mem: there are --memory, --steps, --machine, and none is abbreviated"),
+    (f'"$@" {HELLO} --mem 64',
+     "there is no option --mem: there are --memory, --steps, --machine, and none is abbreviated"),
     (f'"$@" {HELLO} --memory 63', "--memory 63 is out of range, which is 64 to 65536"),
     (f'"$@" {HELLO} --memory 1M', "--memory wants a number in decimal digits, from 64 to 65536, and '1M' is none"),
     (f'"$@" {HELLO} more', "'more' is one word more than the image"),
@@ -210,7 +212,8 @@ def check_why(program, folder):
         explained(wanted, program, '"$@" image', f"image: {wanted}", folder)
     for code, options, wanted in FAULTS:
         path.write_bytes(elf(code))
-        explained(wanted, program, f'"$@" image {" ".join(options)}', wanted + ("" if "fetch" in wanted else NO_SYMBOLS), folder)
+        more = "" if "fetch" in wanted else NO_SYMBOLS
+        explained(wanted, program, f'"$@" image {" ".join(options)}', wanted + more, folder)
     check_ends(program, folder)
     if has("riscv64-unknown-elf-gcc", "the line of a fault"):
         (folder / "crash.c").write_text("static int height(volatile int *at)\n{\n    return at[1];\n}\n\n"
@@ -224,19 +227,19 @@ def check_why(program, folder):
 
 def check_ends(program, folder):
     """A pipe whose reader has gone, input that would have to be waited for, and a signal."""
-    line = f'{{ "$@" {ECHO} <{ROOT}/README.md; echo $? >status; }} 2>errors | :; cat errors; cat status'
-    told = outcome(["sh", "-c", f"sleep 0.2; {line}", "sh", TOOLS / "asc-why", "--asc", program, "run"], cwd=folder)
-    same("asc-why: a closed pipe", told[0], b"asc: output failed\nasc-why: standard output: it is a pipe whose reader has "
-         b"gone\n74\n")
+    why = [TOOLS / "asc-why", "--asc", program, "run"]
+    gone = b"asc: output failed\nasc-why: standard output: it is a pipe whose reader has gone\n74\n"
+    line = f'{{ sleep 0.3; "$@" {ECHO} <{ROOT}/README.md; echo $? >status; }} 2>errors | :; cat errors status'
+    same("asc-why: a closed pipe", outcome(["sh", "-c", line, "sh", *why], cwd=folder)[0], gone)
     ours, theirs = os.pipe()
     os.set_blocking(ours, False)
-    told = outcome([TOOLS / "asc-why", "--asc", program, "run", ECHO], stdin=ours)
-    same("asc-why: input that is not waited for", told[1:], (b"asc: input failed\nasc-why: standard input: it is set not "
-         b"to wait (O_NONBLOCK), and asc does not ask again\n", 74))
-    told = outcome(["timeout", "0.3", TOOLS / "asc-why", "--asc", program, "run", spin(folder)])
-    same("asc-why: a time that is out", told, (b"", b"", 124))
-    told = outcome(["sh", "-c", 'ulimit -f 0; "$@" >file; echo $?', "sh", TOOLS / "asc-why", "--asc", program, "run", HELLO],
-                   cwd=folder)
+    refused = (b"asc: input failed\nasc-why: standard input: it is set not to wait (O_NONBLOCK), and asc does not ask "
+               b"again\n")
+    same("asc-why: input that is not waited for", outcome([*why, ECHO], stdin=ours), (b"", refused, 74))
+    os.close(ours)
+    os.close(theirs)
+    same("asc-why: a time that is out", outcome(["timeout", "0.3", *why, spin(folder)]), (b"", b"", 124))
+    told = outcome(["sh", "-c", 'ulimit -f 0; "$@" >file; echo $?', "sh", *why, HELLO], cwd=folder)
     same("asc-why: a limit on files", (told[0], told[1].splitlines()[:1]),
          (b"153\n", [b"asc-why: a limit on the size of files (ulimit -f) ended asc"]))
 
