@@ -25,7 +25,7 @@ for folder in "$here"/*/; do
     name=$(basename "$folder")
     if [ -f "$folder/$name.s" ]; then
         sources="$folder/$name.s"
-    elif [ "$name" = life ]; then
+    elif [ "$name" = life ] || [ "$name" = copies ]; then
         sources="$here/start.s $here/memory.c $folder/$name.c"
     elif [ -f "$folder/$name.c" ]; then
         sources="$here/start.s $folder/$name.c"

@@ -104,6 +104,11 @@ def life(data):
     return "".join(row + "\n" for row in rows).encode() + b"generation %d is as %d\n" % (len(boards), latest)
 
 
+def copies(_):
+    """Four functions, at 13 places each for source and target, with 13 sizes."""
+    return b"%d calls right, 0 wrong\n" % (4 * 13**3)
+
+
 def statistics(data):
     numbers = [float(line) for line in data.split()]
     count, total, squares = len(numbers), 0.0, 0.0
@@ -131,7 +136,7 @@ def startup(_):
 
 
 PROGRAMS = {function.__name__: function
-            for function in (hello, echo, word_count, quicksort, sha256, matrix, collatz, ising, adder, life,
+            for function in (hello, echo, word_count, quicksort, sha256, matrix, collatz, ising, adder, life, copies,
                              statistics, frequencies, startup)}
 
 

@@ -12,6 +12,7 @@ import importlib.util
 import os
 import re
 import shutil
+import signal
 import struct
 import subprocess
 import sys
@@ -239,9 +240,20 @@ def check_ends(program, folder):
     os.close(ours)
     os.close(theirs)
     same("asc-why: a time that is out", outcome(["timeout", "0.3", *why, spin(folder)]), (b"", b"", 124))
+    for number, told in ((signal.SIGINT, b""), (signal.SIGKILL, b"asc-why: it was killed, as where the system has no more "
+                                                                b"memory\n")):
+        same(f"asc-why: {number.name}", signalled(number, why, folder), (told, -number))
     told = outcome(["sh", "-c", 'ulimit -f 0; "$@" >file; echo $?', "sh", *why, HELLO], cwd=folder)
     same("asc-why: a limit on files", (told[0], told[1].splitlines()[:1]),
          (b"153\n", [b"asc-why: a limit on the size of files (ulimit -f) ended asc"]))
+
+
+def signalled(number, why, folder):
+    """What is said where this signal ends the program, for which a script stands in, and the status."""
+    stand_in = folder / "stand_in"
+    stand_in.write_text(f"#!/bin/sh\nkill -s {number.name[3:]} $$\n")
+    stand_in.chmod(0o755)
+    return outcome([*why[:2], stand_in, *why[3:]])[1:]
 
 
 def spin(folder):
