@@ -1,4 +1,4 @@
-# Completion of asc's words for bash: `source tools/asc.bash`, or this file as `asc` in
+# Completion of the words of asc and asc-why for bash: `source tools/asc.bash`, or this file as `asc` in
 # ~/.local/share/bash-completion/completions. Numbers that are offered are a range's ends and its default.
 
 _asc() {
@@ -32,4 +32,4 @@ _asc() {
     mapfile -t COMPREPLY < <(compgen -W "$offered" -- "$word")
 }
 
-complete -F _asc asc
+complete -F _asc asc asc-why

@@ -57,7 +57,7 @@ def options():
     rows = re.search(r"^run_arguments =\n(.*?)^ *∷ \[\]", text, re.M | re.S)[1]
     found = {}
     for kind, name, rest in re.findall(r"(\w+) \(codes \"(\w+)\"\)(.*)", rows):
-        numbers = re.fullmatch(r" (\w+|\(2 \^ \d+\)) (\w+|\(2 \^ \d+\)) \(codes \"(\w+)\"\)", rest)
+        numbers = re.fullmatch(r" (\d+|\(2 \^ \d+\)) (\d+|\(2 \^ \d+\)) \(codes \"(\w+)\"\)", rest)
         if kind == "required":
             continue
         if kind != "number_option" or not numbers:
