@@ -240,8 +240,8 @@ def check_ends(program, folder):
     os.close(ours)
     os.close(theirs)
     same("asc-why: a time that is out", outcome(["timeout", "0.3", *why, spin(folder)]), (b"", b"", 124))
-    for number, told in ((signal.SIGINT, b""), (signal.SIGKILL, b"asc-why: it was killed, as where the system has no more "
-                                                                b"memory\n")):
+    killed = b"asc-why: it was killed, as where the system has no more memory\n"
+    for number, told in ((signal.SIGINT, b""), (signal.SIGKILL, killed)):
         same(f"asc-why: {number.name}", signalled(number, why, folder), (told, -number))
     told = outcome(["sh", "-c", 'ulimit -f 0; "$@" >file; echo $?', "sh", *why, HELLO], cwd=folder)
     same("asc-why: a limit on files", (told[0], told[1].splitlines()[:1]),
