@@ -22,6 +22,7 @@ import os
 import random
 import re
 import resource
+import shutil
 import struct
 import subprocess
 import sys
@@ -103,6 +104,10 @@ def main():
     sys.stdout.reconfigure(line_buffering=True)
     rounds = int(sys.argv[1]) if len(sys.argv) > 1 else 3
     program = sys.argv[2] if len(sys.argv) > 2 else str(ROOT / "crates/asc_cli/out/asc_cli")
+    if not os.access(program, os.X_OK):
+        sys.exit(f"bench/examples.py: no program {program}; rt run in crates/asc_cli builds it")
+    if not shutil.which("qemu-riscv32"):
+        sys.exit("bench/examples.py: no qemu-riscv32; Debian's package qemu-user has it")
     single = single_option()
     print(f"{'':12}{'million steps':>14}{'asc, million/s':>16}{'QEMU':>10}{'QEMU ' + single:>23}")
     with tempfile.TemporaryDirectory() as folder:

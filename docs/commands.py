@@ -14,7 +14,8 @@ PROGRAM is the built asc, crates/asc_cli/out/asc_cli where it is not given. Of a
 and this line, which is not shown:
 
     <!-- wants TOOL WORDS: TEXT -->    where the tool is missing, or does not print this text for these words,
-                                       the document is left out, and a line says so
+                                       what stands between this line and the next heading is left out, and a line
+                                       says so. Above the first heading it is for the whole document
 
 The status is 0 where nothing differs, and else 1.
 """
@@ -30,9 +31,9 @@ from pathlib import Path
 
 ROOT = Path(__file__).resolve().parent.parent
 BUILT = "crates/asc_cli/out/asc_cli"
-COPIED = ["README.md", "docs", "examples", "bench", "crates/asc_cli/data"]
-WANTS = re.compile(r"^<!-- wants (.*?): (.*) -->$", re.MULTILINE)
-BLOCK = re.compile(r"^```(\w+)(?: (\S+))?\n(.*?)^```$", re.MULTILINE | re.DOTALL)
+COPIED = ["README.md", "docs", "examples", "tools", "bench", "crates/asc_cli/data"]
+PART = re.compile(r"^```(?P<kind>\w+)(?: (?P<name>\S+))?\n(?P<body>.*?)^```$"
+                  r"|^<!-- wants (?P<words>.*?): (?P<wanted>.*?) -->$|^#+ (?P<heading>.*?)$", re.MULTILINE | re.DOTALL)
 
 
 def copy_to(room, program):
@@ -42,16 +43,34 @@ def copy_to(room, program):
     shutil.copy(program, Path(room, BUILT))
 
 
-def read(text, room):
+def lacks(part):
+    """What is missing of the tool that a part wants, or None."""
+    tool = part["words"].split()
+    has = shutil.which(tool[0]) and subprocess.run(tool, capture_output=True, text=True)
+    return None if has and part["wanted"] in has.stdout else f"{tool[0]} {part['wanted']}"
+
+
+def read(document, text, room):
     """Commands, each with what they are to print; the files of the document are written."""
-    found = []
-    for kind, name, body in BLOCK.findall(text):
-        if kind == "sh":
-            found.append([body, ""])
-        elif kind == "text" and found and not found[-1][1]:
-            found[-1][1] = body
-        elif name:
-            Path(room, name).write_text(body)
+    found, above, lacked, heading = [], True, None, None
+    for part in PART.finditer(text):
+        if part["heading"]:
+            above, heading = False, part["heading"]
+            lacked = None
+        elif part["words"]:
+            missing = lacks(part)
+            if missing:
+                what = f'"{heading}" of {document}' if heading else document
+                print(f"docs/commands.py: no {missing}: {what} is left out")
+            if missing and above:
+                return []
+            lacked = lacked or missing
+        elif part["name"]:
+            Path(room, part["name"]).write_text(part["body"])
+        elif part["kind"] == "sh" and not lacked:
+            found.append([part["body"], ""])
+        elif part["kind"] == "text" and not lacked and found and not found[-1][1]:
+            found[-1][1] = part["body"]
     return found
 
 
@@ -70,18 +89,11 @@ def printed(found, room):
 
 def run(document, program):
     """How many blocks of commands of a document print something else."""
-    text = Path(document).read_text()
-    for words, wanted in WANTS.findall(text):
-        tool = words.split()
-        has = shutil.which(tool[0]) and subprocess.run(tool, capture_output=True, text=True)
-        if not has or wanted not in has.stdout:
-            print(f"docs/commands.py: no {tool[0]} {wanted}: {document} is left out")
-            return 0
     with tempfile.TemporaryDirectory() as room:
         top = os.path.join(room, "top")
         os.mkdir(top)
         copy_to(top, program)
-        found = read(text, top)
+        found = read(document, Path(document).read_text(), top)
         differing = 0
         for (body, wanted), made in zip(found, printed(found, room)):
             if made != wanted:

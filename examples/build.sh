@@ -4,7 +4,7 @@
 #     examples/build.sh [FOLDER]
 #
 # The images go to FOLDER, examples/images where none is given. Where there is no cross compiler this says so,
-# and ends with status 3.
+# and ends with status 3. libc/build.sh builds those over a C library.
 
 here=$(cd "$(dirname "$0")" && pwd) || exit 1
 to=${1:-$here/images}
@@ -25,6 +25,8 @@ for folder in "$here"/*/; do
     name=$(basename "$folder")
     if [ -f "$folder/$name.s" ]; then
         sources="$folder/$name.s"
+    elif [ "$name" = life ] || [ "$name" = copies ]; then
+        sources="$here/start.s $here/memory.c $folder/$name.c"
     elif [ -f "$folder/$name.c" ]; then
         sources="$here/start.s $folder/$name.c"
     else

@@ -1,12 +1,17 @@
 #!/usr/bin/env python3
 """What each example is to write, found without it: with Python's own library, or worked out anew.
+Those over a C library, in examples/libc, are among them.
 
     python3 examples/expected.py            writes each examples/NAME/expected from examples/NAME/input
     python3 examples/expected.py --check    says whether these files are what this script would write
     python3 examples/expected.py NAME       prints what NAME is to write for standard input
 """
 
+import collections
 import hashlib
+import itertools
+import math
+import re
 import sys
 from pathlib import Path
 
@@ -77,8 +82,66 @@ def ising(data):
     return b"least energy %d at lattice %d\n" % (min(found), found.index(min(found)))
 
 
+def adder(data):
+    sums = itertools.accumulate(map(int, data.split()))
+    return b"> " + b"".join(b"%d\n> " % number for number in sums) + b"\n"
+
+
+def life(data):
+    """A board is the set of the cells that live."""
+    side = 24
+    board = {(row, column) for row, cells in enumerate(data.decode().split("\n")[:side])
+             for column, cell in enumerate(cells[:side]) if cell == "#"}
+    boards = []
+    while board not in boards[-8:]:
+        boards.append(board)
+        around = collections.Counter(
+            ((row + below) % side, (column + beside) % side) for row, column in board
+            for below, beside in itertools.product((-1, 0, 1), repeat=2) if below or beside)
+        board = {cell for cell, count in around.items() if count == 3 or (count == 2 and cell in board)}
+    rows = ["".join(".#"[(row, column) in board] for column in range(side)) for row in range(side)]
+    latest = max(k for k, kept in enumerate(boards) if kept == board)
+    return "".join(row + "\n" for row in rows).encode() + b"generation %d is as %d\n" % (len(boards), latest)
+
+
+def copies(_):
+    """Four functions, at 13 places each for source and target, with 13 sizes."""
+    return b"%d calls right, 0 wrong\n" % (4 * 13**3)
+
+
+def statistics(data):
+    numbers = [float(line) for line in data.split()]
+    count, total, squares = len(numbers), 0.0, 0.0
+    for number in numbers:
+        total += number
+    mean = total / count
+    for number in numbers:
+        squares += (number - mean) * (number - mean)
+    numbers.sort()
+    median = (numbers[(count - 1) // 2] + numbers[count // 2]) / 2
+    return b"%d numbers\nmean      %15.6f\ndeviation %15.6e\nmedian    %15.6g\n" % (
+        count, mean, math.sqrt(squares / count), median)
+
+
+def frequencies(data):
+    found = collections.Counter(re.findall(rb"[a-z]+", data.lower()))
+    shown = sorted(found.items(), key=lambda item: (-item[1], item[0]))[:10]
+    return b"".join(b"%5d %-12s|\n" % (count, word) for word, count in shown)
+
+
+def startup(_):
+    """What C says of each line."""
+    return (b"before main: 41\nof the thread: 42 and 0, of the program: 5\nstrtod: 1, Result too large\n"
+            b"malloc: 1, Not enough space\nfree: 1\nbehind main: 42; exit writes this line, which has no end")
+
+
 PROGRAMS = {function.__name__: function
-            for function in (hello, echo, word_count, quicksort, sha256, matrix, collatz, ising)}
+            for function in (hello, echo, word_count, quicksort, sha256, matrix, collatz, ising, adder, life, copies,
+                             statistics, frequencies, startup)}
+
+
+def folder_of(name):
+    return next(folder for folder in (HERE / name, HERE / "libc" / name) if folder.exists())
 
 
 def main():
@@ -86,7 +149,7 @@ def main():
         sys.stdout.buffer.write(PROGRAMS[sys.argv[1]](sys.stdin.buffer.read()))
         return
     for name, function in PROGRAMS.items():
-        given, kept = HERE / name / "input", HERE / name / "expected"
+        given, kept = folder_of(name) / "input", folder_of(name) / "expected"
         made = function(given.read_bytes() if given.exists() else b"")
         if sys.argv[1:]:
             if not kept.exists() or kept.read_bytes() != made:

@@ -1,5 +1,8 @@
 /* The guest calls of asc for C programs, and a few helpers on top of them. A call has its number in a7 and
-   its arguments in a0 to a2, as in Linux for RISC-V, so the same programs run under qemu-riscv32. */
+   its arguments in a0 to a2, as in Linux for RISC-V, so the same programs run under qemu-riscv32.
+
+   A program that people type to defines TYPED_INPUT before it includes this. A read waits until it has all the
+   bytes that it asks for, so input is then read one byte a call, and what was put is written before each. */
 
 #ifndef GUEST_H
 #define GUEST_H
@@ -36,6 +39,15 @@ static inline _Noreturn void guest_exit(int status)
     guest_call(EXIT, status, 0, 0);
     __builtin_unreachable();
 }
+
+/* ---- Memory ---- */
+
+/* gcc and clang call these by themselves, as for a large struct. examples/memory.c has them, for programs without a
+   C library. */
+void *memcpy(void *to, const void *from, __SIZE_TYPE__ size);
+void *memmove(void *to, const void *from, __SIZE_TYPE__ size);
+void *memset(void *to, int byte, __SIZE_TYPE__ size);
+int memcmp(const void *first, const void *second, __SIZE_TYPE__ size);
 
 /* Memory that the program did not have before, or 0 where there is no more. Nothing is given back. */
 static inline void *take_memory(unsigned size)
@@ -107,12 +119,21 @@ static inline _Noreturn void give_up(const char *line)
 
 /* ---- Input ---- */
 
-static struct { unsigned char bytes[4096]; int size, next; } guest_input;
+#ifdef TYPED_INPUT
+enum { INPUT_PIECE = 1 };
+#else
+enum { INPUT_PIECE = 4096 };
+#endif
+
+static struct { unsigned char bytes[INPUT_PIECE]; int size, next; } guest_input;
 
 /* The next byte of standard input, or -1 at its end. */
 static inline int get_byte(void)
 {
     if (guest_input.next == guest_input.size) {
+#ifdef TYPED_INPUT
+        flush();
+#endif
         guest_input.next = 0;
         guest_input.size = guest_read(guest_input.bytes, sizeof guest_input.bytes);
         if (guest_input.size <= 0) {

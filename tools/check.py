@@ -1,0 +1,327 @@
+#!/usr/bin/env python3
+"""Tries the tools of this folder and the man page on the built program.
+
+    python3 tools/check.py [PROGRAM]
+
+PROGRAM is the built asc, crates/asc_cli/out/asc_cli where none is given. What wants bash, groff or the cross compiler
+is left out where these are missing, and a line says so. The status is 0 where all is as it is to be, and else 1.
+"""
+
+import importlib.machinery
+import importlib.util
+import os
+import re
+import shutil
+import signal
+import struct
+import subprocess
+import sys
+import tempfile
+from pathlib import Path
+
+TOOLS = Path(__file__).resolve().parent
+ROOT = TOOLS.parent
+IMAGES = ROOT / "examples/images"
+failed = tried = 0
+
+
+def same(what, found, wanted):
+    global failed, tried
+    tried += 1
+    if found != wanted:
+        failed += 1
+        print(f"tools/check.py: {what}: {found!r} in place of {wanted!r}")
+
+
+def has(tool, what):
+    if shutil.which(tool):
+        return True
+    print(f"tools/check.py: no {tool}: {what} is left out")
+    return False
+
+
+def module(path):
+    """A tool as a module of Python."""
+    sys.dont_write_bytecode = True
+    loader = importlib.machinery.SourceFileLoader(path.name.replace("-", "_"), str(path))
+    made = importlib.util.module_from_spec(importlib.util.spec_from_loader(loader.name, loader))
+    loader.exec_module(made)
+    return made
+
+
+# ---- the options of asc, which the man page, asc-why and the completion repeat
+
+def options():
+    """Each option of `asc run` with its range and its default, from the definition of the command line."""
+    text = (ROOT / "crates/asc_words/specs/Command.antt").read_text()
+    rows = re.search(r"^run_arguments =\n(.*?)^ *∷ \[\]", text, re.M | re.S)[1]
+    found = {}
+    for kind, name, rest in re.findall(r"(\w+) \(codes \"(\w+)\"\)(.*)", rows):
+        numbers = re.fullmatch(r" (\d+|\(2 \^ \d+\)) (\d+|\(2 \^ \d+\)) \(codes \"(\w+)\"\)", rest)
+        if kind == "required":
+            continue
+        if kind != "number_option" or not numbers:
+            same(f"a row of run_arguments that tools/check.py does not know: {name}", kind, "number_option")
+            continue
+        least, most = (eval(number.replace("^", "**")) for number in numbers.groups()[:2])
+        found[f"--{name}"] = (least, most, int(numbers[3]))
+    return found
+
+
+def check_options(why):
+    known = options()
+    same("options that asc-why knows", why.OPTIONS, {name: (least, most) for name, (least, most, _) in known.items()})
+    same("asc-why's default of --memory", why.DEFAULT_MEMORY, known["--memory"][2])
+    page = (ROOT / "docs/asc.1").read_text()
+    plain = page.replace("\\-", "-")
+    same("options of the man page", re.findall(r"^\.BI (--\w+)", plain, re.M), list(known))
+    same("options of its synopsis", re.findall(r"\[ (--\w+)", plain), list(known))
+    for name, (least, most, default) in known.items():
+        described = re.search(rf"^\.BI {name} .*?(?=^\.TP|^\.SH)", plain, re.M | re.S)
+        wanted = f"from {least} to {most}", f"\n{default} where it is not given."
+        same(f"the man page's range and default of {name}",
+             [text in described[0] for text in wanted] if described else None, [True, True])
+    if has("groff", "the layout of the man page"):
+        run = subprocess.run(["groff", "-man", "-ww", "-z", ROOT / "docs/asc.1"], capture_output=True, text=True)
+        same("groff's warnings of the man page", (run.returncode, run.stderr), (0, ""))
+    return known
+
+
+def check_words(why):
+    """asc-why finds what is wrong in just the command lines that asc refuses, as its own tests list them."""
+    text = (ROOT / "crates/asc_words/src/tests.rt").read_text()
+    table = re.search(r"static LINES.*?\[\n(.*?)\n\];", text, re.S)[1]
+    lines = re.findall(r"\(\"(.*?)\", \"(.*?)\"\),", table)
+    same("rows of command lines", len(lines), int(re.search(r"static LINES: .*; (\d+)\]", text)[1]))
+    for line, meaning in lines:
+        try:
+            image, numbers = why.line_of(line.split(" ")[1:])
+            found = [image] + [str(numbers.get(f"--{name}", default)) for name, default in
+                               (("memory", 1024), ("steps", 2**40), ("machine", 2))]
+            found = " ".join(found)
+        except why.Wrong:
+            found = "refused"
+        same(f"what asc-why makes of `{line}`", found, meaning)
+
+
+# ---- images
+
+def elf(code=(0x00100073,), segments=None, entry=0x10054, **fields):
+    """A file with one program header, or as many as are given, and code behind them; fields are put over it."""
+    body = struct.pack(f"<{len(code)}I", *code)
+    segments = segments or [(1, 0, 0x10000, 84 + len(body), 84 + len(body))]
+    names = "ident type machine version entry phoff shoff flags ehsize phentsize phnum shentsize shnum shstrndx"
+    values = dict(zip(names.split(), [b"\x7fELF\1\1\1", 2, 243, 1, entry, 52, 0, 0, 52, 32, len(segments), 0, 0, 0]))
+    values.update(fields)
+    table = b"".join(struct.pack("<8I", kind, offset, address, address, filled, size, 7, 4096)
+                     for kind, offset, address, filled, size in segments)
+    return struct.pack("<16sHHIIIIIHHHHHH", *values.values()) + table + body
+
+
+# Files that are refused, and what is said of each.
+REFUSED = [
+    (b"", "it has fewer than 52 bytes: an empty file, or one cut short"),
+    (b"#!/bin/sh\n" + 60 * b"#",
+     "it is no ELF file: asc wants what the linker makes, and no source, script or raw binary"),
+    (elf(ident=b"\x7fELF\2\1\1"), "it is not for 32 bits: build it with -march=rv32im -mabi=ilp32"),
+    (elf(ident=b"\x7fELF\1\2\1"), "it is big-endian: built for another machine"),
+    (elf(ident=b"\x7fELF\1\1\2"), "its header has another file version: a damaged file"),
+    (elf(type=1), "it is an object file: link it, which is to build without -c"),
+    (elf(type=3), "it may lie anywhere, or is a library: build it with -static -no-pie, and without -shared"),
+    (elf(machine=40), "it is for another machine than RISC-V: build it with a RISC-V compiler"),
+    (elf(flags=5), "its flags are 0x5: compressed instructions: leave the c out of -march; "
+                   "floating point in arguments: -mabi=ilp32"),
+    (elf(flags=8), "its flags are 0x8: fewer registers: -march=rv32im -mabi=ilp32, and no rv32e"),
+    (elf(phentsize=56), "its program headers do not have 32 bytes: a damaged file"),
+    (elf(phoff=4000), "its program headers pass its end: a file cut short"),
+    (elf(segments=[(3, 0, 0, 0, 0)]), "it asks for dynamic linking: build it with -static"),
+    (elf(segments=[(1, 0, 0x10000, 88, 88), (1, 80, 0x20000, 5000, 6000)]),
+     "header 1 has 5000 bytes from 80 on for 6000 bytes of memory at 0x20000, and the file has 120: a file cut short"),
+    (elf(segments=[(6, 0, 0, 0, 0)]), "it has nothing to load: a linker script without a segment"),
+    (elf(segments=[(1, 0, 0x10000, 88, 2000000)]), "its segments lie from 0x10000 to 0x1f8480: "
+     "--memory 1954 holds them, and --memory 2018 has 64 KiB more for the stack"),
+    (elf(segments=[(1, 0, 0x10000, 88, 88), (1, 0, 0x80000000, 4, 4)]), "its segments lie from 0x10000 to 0x80000004, "
+     "which no --memory holds: a linker script that puts them closer to one another"),
+    (elf(entry=0), "its entry is 0x0: a linker script with neither ENTRY nor a section .text"),
+]
+
+# Code that meets a fault, options, and what is said of it.
+OUTSIDE = ", outside memory, which is 0x10000 to 0x10ffff"
+FAULTS = [
+    ([0x00200513, 0x00050067], [], "a jump to 0x00000002, which is no multiple of 4"),
+    ([0x00000067], [], f"a fetch at 0x00000000{OUTSIDE}: a call through a wrong pointer, or a return address that was "
+                       "written over, or no start-up code"),
+    ([0], [], "0x00000000 is no instruction of this machine: zeros are no code: past its end?"),
+    ([0x00010001], [], "0x00010001 is no instruction of this machine: a compressed one, or no code"),
+    ([0x02B57553], [], "0x02b57553 is no instruction of this machine: floating point: -march=rv32im has none"),
+    ([0xC0002573], [], "0xc0002573 is no instruction of this machine: a control and status register, or a privileged "
+                       "instruction: asc has none"),
+    ([0x00B5252F], ["--machine", "1"], "0x00b5252f is no instruction of this machine: an atomic, for which --machine 2 "
+                                       "is wanted, or one that RV32A on words does not have"),
+    ([0x00402503], [], f"a load from 0x00000004{OUTSIDE}: a null pointer"),
+    ([0x00110537, 0x00052503], [], f"a load from 0x00110000{OUTSIDE}: it lies above, as with too little --memory"),
+    ([0x80000537, 0x00052503], [], f"a load from 0x80000000{OUTSIDE}: a wild pointer"),
+    ([0x000105B7, 0xFEA5AE23], ["--memory=64"], "a store to 0x0000fffc, outside memory, which is 0x10000 to 0x1ffff: "
+                                                "it lies just below, as a stack that grew too far"),
+    ([0x00100073], [], "EBREAK, which gcc puts where a program's behaviour is undefined, and for __builtin_trap"),
+    ([0x00200513, 0x00B5252F], [], "an atomic at 0x00000002, which is no multiple of 4"),
+]
+NO_SYMBOLS = "; an image with symbols, without -s, tells where"
+
+# Command lines in a shell, with what is said of each; "$@" is the program and the word run.
+HELLO, ECHO, MATRIX = (IMAGES / name for name in ("hello", "echo", "matrix"))
+LINES = [
+    (f'"$@" {HELLO}', None),
+    (f'echo 0 | "$@" {MATRIX}', None),
+    (f'"$@" {HELLO} --mem 64',
+     "there is no option --mem: there are --memory, --steps, --machine, and none is abbreviated"),
+    (f'"$@" {HELLO} --memory 63', "--memory 63 is out of range, which is 64 to 65536"),
+    (f'"$@" {HELLO} --memory 1M', "--memory wants a number in decimal digits, from 64 to 65536, and '1M' is none"),
+    (f'"$@" {HELLO} more', "'more' is one word more than the image"),
+    ('"$@"', "there is no image"),
+    ('"$@" none', "there is no file none"),
+    ('"$@" -', "there is no file -; standard input is /dev/stdin"),
+    ('"$@" /', "/ is a folder"),
+    (f'"$@" {HELLO} --steps 3', "a greater --steps lets it go on, up to 1099511627776"),
+    (f'"$@" {HELLO} >/dev/full', "standard output: the device failed, as a full disk"),
+    (f'"$@" {HELLO} >&-', "standard output: it is closed"),
+    (f'"$@" {HELLO} 2>/dev/full >/dev/full', None),
+    (f'"$@" {ECHO} <&-', "standard input: it is closed"),
+    (f'"$@" {ECHO} 0>/dev/null', "standard input: it is open for writing alone"),
+]
+
+
+def outcome(words, **given):
+    run = subprocess.run(words, capture_output=True, stdin=given.pop("stdin", subprocess.DEVNULL), **given)
+    return run.stdout, run.stderr, run.returncode
+
+
+def explained(what, program, line, wanted, folder):
+    """One command line on asc and on asc-why: the same but for a line more, which is as wanted."""
+    alone = outcome(["sh", "-c", line, "sh", program, "run"], cwd=folder)
+    told = outcome(["sh", "-c", line, "sh", TOOLS / "asc-why", "--asc", program, "run"], cwd=folder)
+    added = f"asc-why: {wanted}\n".encode() if wanted else b""
+    same(f"asc-why: {what}", told, (alone[0], alone[1] + added, alone[2]))
+
+
+def check_why(program, folder):
+    for line, wanted in LINES:
+        explained(line, program, line, wanted, folder)
+    path = folder / "image"
+    for file, wanted in REFUSED:
+        path.write_bytes(file)
+        explained(wanted, program, '"$@" image', f"image: {wanted}", folder)
+    for code, options, wanted in FAULTS:
+        path.write_bytes(elf(code))
+        more = "" if "fetch" in wanted else NO_SYMBOLS
+        explained(wanted, program, f'"$@" image {" ".join(options)}', wanted + more, folder)
+    check_ends(program, folder)
+    if has("riscv64-unknown-elf-gcc", "the line of a fault"):
+        (folder / "crash.c").write_text("static int height(volatile int *at)\n{\n    return at[1];\n}\n\n"
+                                        "int main(void)\n{\n    return height(0);\n}\n")
+        subprocess.run(["riscv64-unknown-elf-gcc", "-march=rv32im", "-mabi=ilp32", "-g", "-Og", "-ffreestanding",
+                        "-nostdlib", "-static", "-T", ROOT / "examples/link.ld", "-o", "crash",
+                        ROOT / "examples/start.s", "crash.c"], cwd=folder, check=True)
+        explained("a line of source", program, '"$@" crash', "in height, at crash.c:3, lw a0,4(a0): "
+                  f"a load from 0x00000004{OUTSIDE}: a null pointer", folder)
+
+
+def check_ends(program, folder):
+    """A pipe whose reader has gone, input that would have to be waited for, and a signal."""
+    why = [TOOLS / "asc-why", "--asc", program, "run"]
+    gone = b"asc: output failed\nasc-why: standard output: it is a pipe whose reader has gone\n74\n"
+    line = f'{{ sleep 0.3; "$@" {ECHO} <{ROOT}/README.md; echo $? >status; }} 2>errors | :; cat errors status'
+    same("asc-why: a closed pipe", outcome(["sh", "-c", line, "sh", *why], cwd=folder)[0], gone)
+    ours, theirs = os.pipe()
+    os.set_blocking(ours, False)
+    refused = (b"asc: input failed\nasc-why: standard input: it is set not to wait (O_NONBLOCK), and asc does not ask "
+               b"again\n")
+    same("asc-why: input that is not waited for", outcome([*why, ECHO], stdin=ours), (b"", refused, 74))
+    os.close(ours)
+    os.close(theirs)
+    same("asc-why: a time that is out", outcome(["timeout", "0.3", *why, spin(folder)]), (b"", b"", 124))
+    killed = b"asc-why: it was killed, as where the system has no more memory\n"
+    for number, told in ((signal.SIGINT, b""), (signal.SIGKILL, killed)):
+        same(f"asc-why: {number.name}", signalled(number, why, folder), (told, -number))
+    told = outcome(["sh", "-c", 'ulimit -f 0; "$@" >file; echo $?', "sh", *why, HELLO], cwd=folder)
+    same("asc-why: a limit on files", (told[0], told[1].splitlines()[:1]),
+         (b"153\n", [b"asc-why: a limit on the size of files (ulimit -f) ended asc"]))
+
+
+def signalled(number, why, folder):
+    """What is said where this signal ends the program, for which a script stands in, and the status."""
+    stand_in = folder / "stand_in"
+    stand_in.write_text(f"#!/bin/sh\nkill -s {number.name[3:]} $$\n")
+    stand_in.chmod(0o755)
+    return outcome([*why[:2], stand_in, *why[3:]])[1:]
+
+
+def spin(folder):
+    """A program that does not end: j to itself."""
+    path = folder / "spin"
+    path.write_bytes(elf([0x0000006F]))
+    return path
+
+
+def check_steps(program, folder):
+    def steps(*words, given=b""):
+        return outcome([TOOLS / "asc-steps", "--asc", program, *words], stdin=None, input=given)
+
+    same("asc-steps: hello", steps(HELLO), (b"9\n", b"", 0))
+    # Ten times around two instructions, and then li a7, 93 in two, so that no copy tells the count.
+    path = folder / "loop"
+    path.write_bytes(elf([0x00A00513, 0xFFF50513, 0xFE051EE3, 0x05C00893, 0x00188893, 0x00000073]))
+    same("asc-steps: a loop", steps(path), (b"24\n", b"", 0))
+    # The first call behind li a7, 93 is brk, and the second one ends the program.
+    path.write_bytes(elf([0x05D00893, 0x0D600893, 0x00000073, 0x05D00893, 0x00000013, 0x00000073]))
+    same("asc-steps: a guess that is wrong", steps(path), (b"6\n", b"", 0))
+    same("asc-steps: input is given to each run", steps(ECHO, given=b"text")[1:], (b"", 0))
+    same("asc-steps: a limit", steps(spin(folder), "--steps", "1000"), (b"", b"asc: limit after 1000\n", 75))
+    same("asc-steps: no file", steps(folder / "none"), (b"", b"asc: store failed\n", 66))
+    for name in ("collatz", "word_count"):
+        given = (ROOT / "examples" / name / "input").read_bytes()
+        count = int(steps(IMAGES / name, given=given)[0])
+        statuses = [subprocess.run([program, "run", IMAGES / name, f"--steps={limit}"], input=given,
+                                   capture_output=True).returncode for limit in (count - 1, count)]
+        same(f"asc-steps: {name} with a step less, and with as many", statuses, [75, 0])
+
+
+def check_completion(known):
+    if not has("bash", "the completion"):
+        return
+
+    def offered(*words):
+        script = 'source "$1"; shift; COMP_WORDS=("$@"); COMP_CWORD=$(($# - 1)); _asc; printf "%s\\n" "${COMPREPLY[@]}"'
+        return outcome(["bash", "-c", script, "bash", TOOLS / "asc.bash", *words], cwd=ROOT)[0].decode().split()
+
+    same("the first word", offered("asc", ""), ["run"])
+    same("options", offered("asc", "run", "--"), list(known))
+    same("a part of one", offered("asc", "run", "--st"), ["--steps"])
+    same("files", offered("asc", "run", "examples/images/h"), ["examples/images/hello"])
+    for name, (least, most, default) in known.items():
+        wanted = {str(number) for number in (least, most, default)}
+        same(f"numbers of {name}", set(offered("asc", "run", name, "")), wanted)
+        same(f"numbers of {name}=", set(offered("asc", "run", name, "=")), wanted)
+        same(f"numbers of {name}={default}", offered("asc", "run", name, "=", str(default)), [str(default)])
+
+
+def main():
+    program = str(Path(sys.argv[1] if len(sys.argv) > 1 else ROOT / "crates/asc_cli/out/asc_cli").resolve())
+    if not os.access(program, os.X_OK):
+        sys.exit(f"tools/check.py: no program {program}; rt run in crates/asc_cli builds it")
+    why = module(TOOLS / "asc-why")
+    known = check_options(why)
+    check_words(why)
+    for tool in ("asc-why", "asc-steps"):
+        told = outcome([TOOLS / tool, "--help"])
+        same(f"{tool} --help", (told[0].decode().count(f"    {tool} "), told[1:]), (1, (b"", 0)))
+    with tempfile.TemporaryDirectory() as folder:
+        check_why(program, Path(folder))
+        check_steps(program, Path(folder))
+    check_completion(known)
+    print(f"tools/check.py: {tried} trials, {failed} failed")
+    return 1 if failed else 0
+
+
+if __name__ == "__main__":
+    sys.exit(main())
