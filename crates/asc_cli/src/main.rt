@@ -5,9 +5,10 @@ ghost use Rattle.std.specs.Prelude.{◌≡◌, ◌≢◌, ◌⊎◌, ◌<◌, ma
 ghost use Rattle.std.specs.Process.{exit_status};
 ghost use Rattle.std.specs.String.{string_bytes};
 ghost use Rattle.asc_calls.specs.World.{outside};
-ghost use Rattle.asc_top.specs.Program.{Answer, devices};
 ghost use Rattle.asc_top.specs.Answer.{code_of};
-ghost use Rattle.asc_cli.specs.Status.{IsReported, IsStatus, IsStatusOver};
+ghost use Rattle.asc_top.specs.Answered.{devices};
+ghost use Rattle.asc_top.specs.Reported.{report_with};
+ghost use Rattle.asc_cli.specs.Status.{IsStatus, IsStatusOf, IsStatusOver};
 
 use asc_shape::{Gate, Open, Sink, Source, Steps, Store};
 use asc_streams::{FileStore, StreamSink, StreamSource};
@@ -47,8 +48,8 @@ fn words(rt: &HostRuntime) -> Result<Vec<String>, Answer>
 /// Reports an answer to words that were not read, and gives the exit status.
 fn refuse<R: Sink>(refusal: Answer, report: &mut R) -> ExitCode
     requires { refusal ≢ Answer.ReportFault }
-    ensures { IsReported (record { given = R.given report.old; faults = R.faults report.old })
-        (record { given = R.given report.new; faults = R.faults report.new }) refusal (exit_status result) }
+    ensures { IsStatusOf (report_with (R.given report.old) (R.faults report.old))
+        (report_with (R.given report.new) (R.faults report.new)) refusal (exit_status result) }
 {
     ExitCode::from(reported(refusal, report).code())
 }
@@ -91,8 +92,8 @@ fn status<F: Store, I: Source, O: Sink, E: Sink, R: Sink, G: Gate, L: Ledger>(
         (F.faults store.old) (I.faults input.old) (O.faults out.old) (E.faults err.old))
         (devices (F.files store.new) (F.asked store.new) (outside (I.left input.new) (O.given out.new) (E.given err.new) steps.new)
         (F.faults store.new) (I.faults input.new) (O.faults out.new) (E.faults err.new))
-        (record { given = R.given report.old; faults = R.faults report.old })
-        (record { given = R.given report.new; faults = R.faults report.new }) (exit_status result) }
+        (report_with (R.given report.old) (R.faults report.old))
+        (report_with (R.given report.new) (R.faults report.new)) (exit_status result) }
 {
     ExitCode::from(top(alloc, words, store, input, out, err, report, gate, steps).code())
 }

@@ -4,13 +4,14 @@ use Rattle.clap.specs.Values.{IsUnsignedIn}
 use Rattle.clap.specs.Walk.{Row, Text, first_of, one_of}
 use Rattle.clap.specs.declared.error.kind.ErrorKind.{ErrorKind}
 use Rattle.clap.specs.declared.error.kind.ErrorKind.TheVariants as kinds
+use Rattle.asc_words.specs.declared.answer.Bad.TheVariants.{Words}
 use Rattle.asc_words.specs.declared.line.LineFault.{LineFault}
 use Rattle.asc_words.specs.declared.line.LineFault.TheVariants as faults
 
 -- clap's error as a fault: want of memory, and else wrong words
 abbrev pub line_fault : ErrorKind → LineFault
 line_fault kinds.OutOfMemory = faults.Memory
-line_fault _ = faults.Words
+line_fault _ = faults.Usage Words
 
 -- a number was found for an option, within its range
 pub record HasNumber (id : Text) (least most : ℕ) (rows : List Row) : Type 0 where

@@ -101,18 +101,13 @@ fn words_of(alloc: Global, text: &str) -> Result<Vec<String>, AllocError> {
 // What the words mean, as a text.
 fn meaning_of(alloc: Global, words: &[String]) -> Result<String, AllocError> {
     match parse(alloc, words) {
-        Ok(
-            Line::Run {
-                image,
-                memory,
-                limit,
-                version,
-            },
-        ) => {
-            let version = if version == Version::One { 1 } else { 2 };
+        Ok(Line::Run(line)) => {
+            let image = line.image.as_str();
+            let version = if line.version == Version::One { 1 } else { 2 };
+            let (memory, limit) = (line.memory, line.limit);
             format!(in alloc; "{image} {memory} {limit} {version}")
         }
-        Err(LineFault::Words) => String::from_str(alloc, "refused"),
+        Err(LineFault::Usage(Bad::Words)) => String::from_str(alloc, "refused"),
         Err(LineFault::Memory) => String::from_str(alloc, "out of memory"),
     }
 }
