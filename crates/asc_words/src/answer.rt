@@ -1,4 +1,4 @@
-ghost use Rattle.std.specs.Prelude.{◌≡◌};
+ghost use Rattle.std.specs.Prelude.{◌≡◌, None};
 
 use asc_elf::ElfFault;
 use asc_step::Fault;
@@ -8,6 +8,8 @@ use asc_step::Fault;
 pub enum Bad {
     /// The words are of no command.
     Words,
+    /// The value of `--pc` is no address.
+    Pc,
 }
 
 /// How the program ends.
@@ -37,6 +39,43 @@ pub enum Answer {
     ErrFault,
     /// The report failed, while it took the text of another answer.
     ReportFault,
+}
+
+/// The numbers of a run.
+#[derive(Clone, Copy, Debug, PartialEq, Eq)]
+pub struct Counts {
+    /// Steps done.
+    pub executed: u64,
+    /// Steps jumped over.
+    pub skipped: u64,
+    /// How often a jump was asked for.
+    pub asked: u64,
+    /// Jumps.
+    pub hits: u64,
+    /// Guesses made.
+    pub made: u64,
+    /// How often memory was wanting.
+    pub refused: u64,
+}
+
+/// What the words of a command line come to: an answer, and the numbers of its run where they are reported.
+#[derive(Clone, Copy, Debug, PartialEq, Eq)]
+pub struct Outcome {
+    pub answer: Answer,
+    pub counts: Option<Counts>,
+}
+
+impl Outcome {
+    /// An answer of which no numbers are reported.
+    pub fn of(answer: Answer) -> Outcome
+        ensures answer { result.answer ≡ answer }
+        ensures counts { result.counts ≡ None }
+    {
+        Outcome {
+            answer,
+            counts: None,
+        }
+    }
 }
 
 impl Answer {

@@ -7,7 +7,7 @@ mod laws;
 mod line;
 mod report;
 
-pub use answer::{Answer, Bad};
+pub use answer::{Answer, Bad, Counts, Outcome};
 pub use laws::{lines_are_within, taken_words_have_lines};
 pub use line::{FileName, Line, LineFault, RunLine, parse};
 pub use report::text;

@@ -1,8 +1,8 @@
-ghost use Rattle.std.specs.Prelude.{ℕ, ◌≡◌, IfOk, Ok, Err, map};
+ghost use Rattle.std.specs.Prelude.{ℕ, ◌≡◌, IfOk, Ok, Err, map, option_map};
 ghost use Rattle.std.specs.String.{string_bytes};
 ghost use Rattle.clap.specs.Words.{found_of, rows_of};
-ghost use Rattle.asc_words.specs.Rows.{HasNumber, IsRun};
-ghost use Rattle.asc_words.specs.Line.{IsWithin, line_of, number_in, run_of, version_numbered};
+ghost use Rattle.asc_words.specs.Rows.{HasFlag, HasNumber, IsRun};
+ghost use Rattle.asc_words.specs.Line.{IsWithin, address_of, flag_in, is_address, line_of, number_in, run_of, version_numbered};
 
 use crate::answer::Bad;
 use crate::command::asc_command;
@@ -53,6 +53,10 @@ pub struct RunLine {
     pub limit: u64,
     /// The machine's version.
     pub version: Version,
+    /// The recognised address.
+    pub pc: Option<u32>,
+    /// Whether the numbers of the run are reported.
+    pub report: bool,
 }
 
 /// What a command line asks for: a variant for each subcommand.
@@ -78,6 +82,17 @@ impl From<AllocError> for LineFault {
 
     fn from(_: AllocError) -> LineFault {
         LineFault::Memory
+    }
+}
+
+impl From<Bad> for LineFault {
+    ghost use Rattle.std.specs.Prelude.{◌≡◌};
+    ghost use Rattle.asc_words.specs.declared.line.LineFault.{LineFault};
+
+    ghost from_gives = { λ bad fault. fault ≡ LineFault.Usage bad };
+
+    fn from(bad: Bad) -> LineFault {
+        LineFault::Usage(bad)
     }
 }
 
@@ -112,15 +127,20 @@ pub fn parse(alloc: Global, words: &[String]) -> Result<Line, LineFault>
 }
 
 /// What `asc run` is asked for, of what was found for its arguments.
-fn run_line(alloc: Global, found: &ArgMatches<'_>) -> Result<RunLine, AllocError>
+fn run_line(alloc: Global, found: &ArgMatches<'_>) -> Result<RunLine, LineFault>
     requires { IsRun (rows_of (found_of found.now)) }
-    ensures { IfOk result (λ line. line ≡ run_of (rows_of (found_of found.now))) }
+    ensures line { IfOk result (λ line. run_of (rows_of (found_of found.now)) ≡ Ok (Line.Run line)) }
+    ensures usage { (bad : Bad) → result ≡ Err (LineFault.Usage bad)
+        → run_of (rows_of (found_of found.now)) ≡ Err bad }
 {
+    let pc = address(found.get_str("pc"))?;
     Ok(RunLine {
         image: FileName::new(String::from_str(alloc, found.get_str("image").unwrap())?),
         memory: number(found, "memory") as u32,
         limit: number(found, "steps"),
         version: version_numbered(number(found, "machine")),
+        pc,
+        report: flag(found, "report"),
     })
 }
 
@@ -130,6 +150,32 @@ fn number(found: &ArgMatches<'_>, id: &str) -> u64
     ensures { result ≡ number_in id.now (rows_of (found_of found.now)) }
 {
     found.get_one::<u64>(id).unwrap()
+}
+
+/// Whether a flag was given.
+fn flag(found: &ArgMatches<'_>, id: &str) -> bool
+    requires { HasFlag id.now (rows_of (found_of found.now)) }
+    ensures { result ≡ flag_in id.now (rows_of (found_of found.now)) }
+{
+    found.get_flag(id)
+}
+
+/// The address of an option that may be absent.
+fn address(text: Option<&str>) -> Result<Option<u32>, Bad>
+    ensures { result ≡ address_of (option_map (λ s. s.now) text.entry) }
+{
+    match text {
+        None => Ok(None),
+        Some(text) if is_address(text) => Ok(u32::from_str_radix(text, 16).ok()),
+        Some(_) => Err(Bad::Pc),
+    }
+}
+
+/// Whether a text is an address.
+fn is_address(text: &str) -> bool
+    ensures { result ≡ is_address text.now }
+{
+    !text.is_empty() && text.len() <= 8 && text.bytes().all(|digit| digit.is_ascii_hexdigit())
 }
 
 /// The version of a number that `--machine` takes.

@@ -1,8 +1,9 @@
-use Rattle.std.proofs.Common.{◌≡◌, ◌∙◌, List, Ok, ap, sym, subst}
+use Rattle.std.proofs.Common.{◌≡◌, ◌∙◌, List, Ok, Err, ap, sym, subst}
 use Rattle.clap.specs.Walk.{Row}
 use Rattle.asc_words.specs.declared.line.Line.{Line}
 use Rattle.asc_words.specs.declared.line.Line.TheVariants.{Run}
 use Rattle.asc_words.specs.declared.line.RunLine.{RunLine}
+use Rattle.asc_words.specs.declared.line.LineFault.{LineFault}
 use Rattle.asc_words.specs.Line.{IsWithin, run_of}
 use Rattle.asc_words.specs.Rows.{IsRun}
 use Rattle.asc_words.proofs.Lines.{found, is_met, passed_up, refused_by, run_within, same_name, same_rows}
@@ -38,12 +39,20 @@ returns-clause-line c =
     let parse = c.in_ok-matches.ensures in
     let of = found _ _ c.in_ok-matches.matches c.in_ok-asc_command.ensures parse.kinds parse.matches in
     let same = same_rows _ _ of c.subcommand.result c.unwrap.result c.unwrap.ensures c.subcommand.ensures.rows in
-    of.line ∙ ap (λ (line : RunLine). Ok (Run line)) (ap run_of (sym same) ∙ sym c.in_ok-run_line-in-run.ensures)
+    of.line ∙ ap run_of (sym same) ∙ c.in_ok-run_line-in-run.ensures.line
 
 pub returns-clause-within : goal.returns-clause-within
 returns-clause-within c =
     let parse = c.in_ok-matches.ensures in
     let of = found _ _ c.in_ok-matches.matches c.in_ok-asc_command.ensures parse.kinds parse.matches in
     let same = same_rows _ _ of c.subcommand.result c.unwrap.result c.unwrap.ensures c.subcommand.ensures.rows in
-    subst (λ (line : RunLine). IsWithin (Run line)) (ap run_of (sym same) ∙ sym c.in_ok-run_line-in-run.ensures)
-    (run_within of.rows of.is_run)
+    run_within of.rows of.is_run _ (ap run_of (sym same) ∙ c.in_ok-run_line-in-run.ensures.line)
+
+pub returns-in_err-run_line-in-run-clause-usage : goal.returns-in_err-run_line-in-run-clause-usage
+returns-in_err-run_line-in-run-clause-usage c = λ bad usage.
+    let parse = c.in_ok-matches.ensures in
+    let of = found _ _ c.in_ok-matches.matches c.in_ok-asc_command.ensures parse.kinds parse.matches in
+    let same = same_rows _ _ of c.subcommand.result c.unwrap.result c.unwrap.ensures c.subcommand.ensures.rows in
+    let passed = passed_up _ _ _ c.from_residual-in_err-run_line-in-run.ensures.1 usage in
+    of.line ∙ ap run_of (sym same)
+    ∙ c.run_line.ensures.usage bad (c.in_err-run_line-in-run.was ∙ ap (λ (fault : LineFault). Err fault) passed)
