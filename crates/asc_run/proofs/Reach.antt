@@ -12,10 +12,10 @@ use Rattle.asc_calls.specs.World.{CallState, Outside, World, world, DoesIo, MayC
 use Rattle.asc_calls.specs.Serving.{IsCutShort}
 use Rattle.asc_run.specs.declared.walk.Ended.{Ended}
 use Rattle.asc_run.specs.declared.walk.Ended.TheVariants.{Limit}
-use Rattle.asc_run.specs.Execution.{Position, Progress, On, Off, next_progress, progress, progress_after_step, run_of, first_position, exec}
+use Rattle.asc_run.specs.Execution.{Position, Progress, On, Off, next_progress, progress, progress_after_step, run_of, first_position, exec, device_of}
 use Rattle.asc_run.specs.Turn.{position_in, IsAt, Turns, TurnFails}
 use Rattle.asc_run.specs.Visits.{Course}
-use Rattle.asc_run.specs.Walk.{Follows, StopsAt}
+use Rattle.asc_run.specs.Walk.{Follows, StopsAt, Goes}
 use Rattle.asc_run.proofs.Shapes.{plain-shape}
 use Rattle.asc_run.proofs.Growth.{begins_at_call}
 
@@ -230,3 +230,45 @@ StopsAt-fails Q Q' limit old now new n k device r below t more =
       known = t.known r.known;
       steps = omega (arith, t.steps, r.steps);
     }
+
+-- ---- the plain loop, of which nothing more is said
+
+abbrev Nothing : Course → Type 0
+Nothing _ = Unit {0}
+
+-- a turn that ends it
+pub Goes-turn : (limit : ℕ) (old now new : World) (n d : ℕ) (ended : Ended) → Reaches Nothing old.calls.low old.calls.high old.state old now n 0 → n < limit
+    → (device_of ended ≡ None → Turns now new n d (Some ended)) → ((device : Device) → device_of ended ≡ Some device → TurnFails now new device) → ((device : Device) → device_of ended ≡ Some device → d ≡ n)
+    → Goes limit (λ _. Nothing) old new d 0 ended
+Goes-turn limit old now new n d ended r below turn fails count = record {
+  follows = λ h. Follows-turn Nothing Nothing limit old now new n d 0 ended r below (turn h) (λ _ _ _ _ _ _. tt);
+  stops = λ device h. subst (λ k. StopsAt limit Nothing old new k 0 device) (sym (count device h))
+      (StopsAt-fails Nothing Nothing limit old now new n 0 device r below (fails device h) (λ _ _ _ _ _. tt));
+}
+
+-- its limit
+pub Goes-limit : (limit : ℕ) (old now : World) (n : ℕ) → Reaches Nothing old.calls.low old.calls.high old.state old now n 0 → n ≡ limit → Goes limit (λ _. Nothing) old now n 0 Limit
+Goes-limit limit old now n r e = record {
+  follows = λ _. Follows-limit Nothing Nothing limit old now n 0 r e (λ _ _. tt);
+  stops = λ device h. absurd (cc);
+}
+
+-- what holds of each course holds of it
+pub Goes-says : (limit : ℕ) (Says : ℕ → Course → Type 0) (old new : World) (count skipped : ℕ) (ended : Ended) → ((to : ℕ) (run : Course) → Says to run) → Goes limit (λ _. Nothing) old new count skipped ended
+    → Goes limit Says old new count skipped ended
+Goes-says limit Says old new count skipped ended holds g = record {
+  follows = λ h. let f = g.follows h in
+      record { io = f.io; does = f.does; run = f.run; says = λ _ _. holds _ _; known = f.known; steps = f.steps };
+  stops = λ device h. let f = g.stops device h in record {
+    below = f.below;
+    io = f.io;
+    done = f.done;
+    does = f.does;
+    run = f.run;
+    says = λ _ _. holds _ _;
+    call = f.call;
+    begins = f.begins;
+    known = f.known;
+    steps = f.steps;
+  };
+}

@@ -11,7 +11,7 @@ use Rattle.asc_run.specs.Execution.{device_of}
 use Rattle.asc_run.specs.Turn.{Turns, TurnFails}
 use Rattle.asc_run.specs.Walk.{GoesHelped, HasNotBegun, StopsAt, tally, IsRaisedBy}
 use Rattle.asc_run.specs.Visits.{Course, Visit, is_at, is_mark, with_landing}
-use Rattle.asc_run.specs.Helped.{Aid, Helped, Lands, HasVisits}
+use Rattle.asc_run.specs.Helped.{Aid, HasRoom, Helped, Lands, HasVisits}
 use Rattle.asc_run.proofs.Reach.{Leads, Reaches, Reaches-first_position, Reaches-turn, Reaches-jump, Follows-turn, Follows-limit, StopsAt-fails}
 use Rattle.asc_run.proofs.Landings.{Helped-none, Helped-more, number-more, HasVisits-first, HasVisits-step, HasVisits-jump, HasVisits-end, HasVisits-limit}
 
@@ -117,10 +117,11 @@ walk-limit limit target old now c k number first last w e = record {
 
 -- what was made, and what found no room, is within its bounds
 pub plans-within : (limit : ℕ) (target : Option ℕ) (old now : World) (c k number : ℕ) (first last : Aid) → WalksOn limit target old now c k number first last → number ≤ c → c ≤ limit → limit ≤ 2 ^ 40
-    → first.plan.made < 2 ^ 61 → first.plan.full < 2 ^ 61 → (last.plan.made < 2 ^ 62) × (last.plan.full < 2 ^ 62)
-plans-within limit target old now c k number first last w le le' le'' made full =
+    → HasRoom first → (last.plan.made < 2 ^ 62) × (last.plan.full < 2 ^ 62)
+plans-within limit target old now c k number first last w le le' le'' room =
     let few = w.1.plans.few in let m = w.1.plans.made in let f = w.1.plans.full in let is = w.2.0 in
-    (omega (arith, few, m, f, is), omega (arith, few, m, f, is))
+    let made = room.made in let full = room.full in
+    (omega (arith, few, m, f, is, made, full), omega (arith, few, m, f, is, made, full))
 
 -- a helper's counts that rose by each of a walk's
 pub raised : (walk old new : Tally) → new.asked ≡ old.asked + walk.asked → new.given ≡ old.given + walk.given → new.hits ≡ old.hits + walk.hits → IsRaisedBy walk old new

@@ -1,4 +1,4 @@
-ghost use Rattle.std.specs.Prelude.{◌≡◌, ◌≤◌, ◌<◌, ◌+◌, ◌-◌, ◌^◌, Unit, length, [], Some, None, false};
+ghost use Rattle.std.specs.Prelude.{◌≡◌, ◌≤◌, ◌<◌, ◌+◌, ◌-◌, ◌^◌, length, [], Some, None, false};
 
 use crate::helper::Helper;
 use crate::walk::Ended;
@@ -159,9 +159,8 @@ impl Process {
             device }
         ensures count { (device : Device) → device_of_turn result ≡ Some device → self.new.count ≡ self.old.count }
         ensures grows { self.old.count ≤ self.new.count }
-        ensures skipped { self.new.skipped ≡ self.old.skipped }
-        ensures asked { self.new.asked ≡ self.old.asked }
-        ensures hits { self.new.hits ≡ self.old.hits }
+        ensures tally { tally self.new.asked self.new.skipped self.new.hits
+            ≡ tally self.old.asked self.old.skipped self.old.hits }
         ensures faults { BlamesOnly (device_of_turn result)
             (faults (I.faults input.old) (O.faults out.old) (E.faults err.old))
             (faults (I.faults input.new) (O.faults out.new) (E.faults err.new)) }

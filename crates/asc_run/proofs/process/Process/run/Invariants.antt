@@ -1,5 +1,5 @@
 -- The program has come as far as plain execution in as many steps.
-use Rattle.std.proofs.Common.{◌≡◌, ◌-◌, ◌≤◌, Unit}
+use Rattle.std.proofs.Common.{◌≡◌, ◌-◌, ◌≤◌}
 use Rattle.asc_calls.specs.World.{world}
 use Rattle.asc_run.specs.Faults.{faults}
 use Rattle.asc_run.specs.Walk.{tally}
