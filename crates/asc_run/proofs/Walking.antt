@@ -7,12 +7,12 @@ use Rattle.asc_calls.specs.GuestCall.{Device}
 use Rattle.asc_calls.specs.World.{CallState, World, world}
 use Rattle.asc_run.specs.declared.walk.Ended.{Ended}
 use Rattle.asc_run.specs.declared.walk.Ended.TheVariants.{Limit}
-use Rattle.asc_run.specs.Execution.{device_of}
+use Rattle.asc_run.specs.Execution.{Progress, On, Off, device_of}
 use Rattle.asc_run.specs.Turn.{Turns, TurnFails}
-use Rattle.asc_run.specs.Walk.{GoesHelped, HasNotBegun, StopsAt, tally, IsRaisedBy}
-use Rattle.asc_run.specs.Visits.{Course, Visit, is_at, is_mark, with_landing}
+use Rattle.asc_run.specs.Walk.{Goes, GoesHelped, StopsAt, tally, IsRaisedBy}
+use Rattle.asc_run.specs.Visits.{Course, Visit, is_at, goes_on_at, is_mark, with_landing}
 use Rattle.asc_run.specs.Helped.{Aid, HasRoom, Helped, Lands, HasVisits}
-use Rattle.asc_run.proofs.Reach.{Leads, Reaches, Reaches-first_position, Reaches-turn, Reaches-jump, Follows-turn, Follows-limit, StopsAt-fails}
+use Rattle.asc_run.proofs.Reach.{Leads, Reaches, Reaches-first_position, Reaches-turn, Reaches-jump, Follows-turn, Follows-limit, StopsAt-fails, Goes-says}
 use Rattle.asc_run.proofs.Landings.{Helped-none, Helped-more, number-more, HasVisits-first, HasVisits-step, HasVisits-jump, HasVisits-end, HasVisits-limit}
 
 -- all that a walk says of a run
@@ -129,3 +129,24 @@ raised walk old new asked given hits =
     ap (λ n. tally n new.given new.hits) asked
     ∙ ap (λ n. tally (old.asked + walk.asked) n new.hits) given
     ∙ ap (λ n. tally (old.asked + walk.asked) (old.given + walk.given) n) hits
+
+-- ---- the plain loop is a walk with no address
+
+goes_on_at-none : (p : Progress) → goes_on_at None p ≡ false
+goes_on_at-none (On position) = refl
+goes_on_at-none (Off count ended last) = refl
+
+HasVisits-none : (limit : ℕ) (start : State) (a : Aid) (to : ℕ) (run : Course) → HasVisits limit (is_mark None) start [] a a to run
+HasVisits-none limit start a to run = record {
+  are = λ count _ _. goes_on_at-none (run count);
+  serial = λ m told shape memory. (m, 0, told, refl, ((refl, refl), omega arith));
+}
+
+pub GoesHelped-plain : (limit : ℕ) (address : Option ℕ) (old new : World) (a : Aid) (count : ℕ) (walk : Tally) (ended : Ended) → address ≡ None → walk ≡ tally 0 0 0 → Goes limit (λ _ _. Unit {0}) old new count 0 ended
+    → GoesHelped limit address old new a a count walk.given ended
+GoesHelped-plain limit address old new a count walk ended set none goes =
+    rw (set, none) (record {
+      visits = [];
+      helped = Helped-none a;
+      goes = Goes-says limit (HasVisits limit (is_mark None) old.state [] a a) old new count 0 ended (HasVisits-none limit old.state a) goes;
+    })
