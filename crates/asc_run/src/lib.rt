@@ -4,6 +4,8 @@
 mod helper;
 mod laws;
 mod process;
+#[cfg(test)]
+mod tests;
 mod walk;
 
 pub use helper::{Bare, Helper};

@@ -137,7 +137,7 @@ impl Walk {
         err: &mut E,
         steps: &mut Steps<L>,
     ) -> Ended
-        requires { HasRoom
+        requires { IsNone self.old.ended → HasRoom
             (aid (H.tally helper.old) (H.replies helper.old) (H.plan helper.old) (H.machine helper.old)) }
 
         // The first call goes as plain execution does, or stops where a device failed. The helper's visits are those that
