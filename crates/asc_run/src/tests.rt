@@ -1,5 +1,4 @@
-ghost use Rattle.std.specs.Prelude.{◌≡◌, ◌≤◌, ◌<◌, ◌^◌};
-ghost use Rattle.asc_traj.specs.Trace.{StandsFor};
+ghost use Rattle.std.specs.Prelude.{◌≡◌, ◌<◌};
 ghost use Rattle.asc_run.specs.Helped.{aid, HasRoom};
 
 use crate::{Bare, Counts, Ended, Helper, MOST_STEPS, Settings, Walk};
@@ -7,7 +6,7 @@ use asc_depvec::Tracer;
 use asc_elf::read;
 use asc_shape::{CountSink, Shape, State, Steps, SureSource, Version};
 use asc_step::{Fault, FaultKind};
-use asc_traj::{Entry, Finder, ListFinder, Never, Noted, Nothing, Stop, Traced, trace};
+use asc_traj::{Entry, Finder, ListFinder, Never, Noted, Nothing, Stop, trace};
 use std::alloc::Global;
 use std::marker::Brand;
 use std::process::Abort;
@@ -53,10 +52,10 @@ fn run<H: Helper, L: Ledger, R: Abort>(
     requires name { blank.name ≡ L.name }
     requires parts { blank.parts ≡ L.parts }
     requires some { 0 < L.parts }
-    requires limit { settings.limit ≤ 2 ^ 40 }
     requires room { HasRoom
         (aid (H.tally helper.old) (H.replies helper.old) (H.plan helper.old) (H.machine helper.old)) }
 {
+    assert!(rt; settings.limit <= MOST_STEPS);
     let mut file = HEAD.to_vec(alloc).expect(rt, "memory");
     for word in words {
         file.extend_from_slice(&word.to_le_bytes())
@@ -113,8 +112,8 @@ fn runs(rt: HostRuntime) {
     }
 }
 
-/// The entry of so many laps of the loop that counts, from its begin on.
-fn laps<R: Abort>(rt: &R, alloc: Global, laps: u64) -> Arc<Entry> {
+/// The state at which the loop that counts begins.
+fn counting<R: Abort>(rt: &R, alloc: Global) -> State {
     let shape = Shape::new(0x10000, 65_536).expect(rt, "a shape");
     let mut state = State::new(alloc, shape).expect(rt, "memory");
     let mut at = 0x10000;
@@ -125,24 +124,23 @@ fn laps<R: Abort>(rt: &R, alloc: Global, laps: u64) -> Arc<Entry> {
     }
     state.set_pc(0x10008);
     state.set_reg(6, 4);
-    assert!(rt; laps >= 1);
-    traced(rt, alloc, &state, laps)
+    state
 }
 
-/// The entry of so many laps from a state on.
-fn traced<R: Abort>(rt: &R, alloc: Global, from: &State, laps: u64) -> Arc<Entry>
-    requires { 1 ≤ laps }
-{
+/// The entry of so many laps of it from there on, and so many steps.
+fn entry_of<R: Abort>(rt: &R, alloc: Global, laps: u64, steps: u64) -> Arc<Entry> {
+    assert!(rt; laps >= 1 && steps >= 1);
+    let from = counting(rt, alloc);
     let mut tracer = Tracer::new(alloc, from.shape(), 96).expect(rt, "memory");
-    tracer.start(from);
+    tracer.start(&from);
     let stop = Stop {
         pc: 0x10008,
         laps,
         span: 100,
     };
-    let Traced { steps, .. } = trace(&mut tracer, &stop, &mut Never);
-    assert_eq!(rt; steps, 2 * laps);
-    Entry::of(alloc, &tracer, steps).expect(rt, "memory")
+    let traced = trace(&mut tracer, &stop, &mut Never);
+    assert_eq!(rt; traced.steps, steps);
+    Entry::of(alloc, &tracer, traced.steps).expect(rt, "memory")
 }
 
 #[test]
@@ -177,8 +175,10 @@ fn jumps(rt: HostRuntime) {
     ];
     for (limit, ended, counts, replies) in cases {
         let mut list = Vec::new(alloc);
-        list.push(laps(&rt, alloc, 1)).expect(&rt, "memory");
-        list.push(laps(&rt, alloc, 2)).expect(&rt, "memory");
+        for (laps, steps) in [(1, 2), (2, 4)] {
+            let entry = entry_of(&rt, alloc, laps, steps);
+            list.push(entry).expect(&rt, "memory");
+        }
         let noted = Noted::new(alloc, ListFinder::new(list), 16).expect(&rt, "memory");
         let mut helper = Bare::new(noted);
         let settings = Settings {
