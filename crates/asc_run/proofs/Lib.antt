@@ -1,5 +1,9 @@
 pub mod Growth
+pub mod Shapes
 pub mod Reach
 pub mod Turn
 pub mod Stepped
+pub mod Marks
+pub mod Landings
+pub mod Walking
 pub mod LawsHold

@@ -1,35 +1,40 @@
 -- The program comes as far as plain execution turn by turn, and ends where it does.
-use Rattle.std.proofs.Common.{refl, ◌∙◌, arith}
-use Rattle.asc_run.proofs.Reach.{Reaches-first_position, Reaches-turn, Follows-turn, Follows-limit, StopsAt-fails}
+use Rattle.std.proofs.Common.{refl, ap, ◌∙◌, arith}
+use Rattle.asc_run.specs.Execution.{device_of}
+use Rattle.asc_run.specs.Faults.{faults_after}
+use Rattle.asc_run.proofs.Reach.{Reaches-first_position, Reaches-turn, Goes-turn, Goes-limit}
 use Rattle.asc_run.proofs.process.Process.run.Goals as goal
 
 pub loop-self-init : goal.loop-self-init
-loop-self-init g c = record {
-  reaches = Reaches-first_position _ c.args.self.now.count c.requires.ended c.requires.brk c.requires.count;
-  within = omega arith;
-  input_faults = refl;
-  out_faults = refl;
-  err_faults = refl;
+loop-self-init g c = let start = c.requires in record {
+  reaches = Reaches-first_position _ _ c.args.self.now.count (λ _. tt) start.going start.brk start.none;
+  within = omega (arith, start.none);
+  tally = start.none_told;
+  faults = refl;
 }
 
 pub loop-self-preserved : goal.loop-self-preserved
 loop-self-preserved g c =
-    let turn = c.in_default.ensures.turn refl in
+    let v = c.loop-self.invariant in let t = c.in_default.ensures in
+    let turn = t.turn refl in
     record {
-      reaches = Reaches-turn _ _ _ _ _ _ _ _ c.loop-self.invariant.reaches turn;
+      reaches = Reaches-turn _ _ _ _ _ _ _ _ _ _ _ v.reaches turn (λ _ _ _ _ _. tt);
       within = omega (arith, turn.most);
-      input_faults = c.in_default.ensures.input_faults.stays (λ is. cc) ∙ c.loop-self.invariant.input_faults;
-      out_faults = c.in_default.ensures.out_faults.stays (λ is. cc) ∙ c.loop-self.invariant.out_faults;
-      err_faults = c.in_default.ensures.err_faults.stays (λ is. cc) ∙ c.loop-self.invariant.err_faults;
+      tally = t.tally ∙ v.tally;
+      faults = t.faults ∙ v.faults;
     }
 
 pub returns-in-Some-clause-run : goal.returns-in-Some-clause-run
-returns-in-Some-clause-run g c = λ h.
-    Follows-turn _ _ _ _ _ _ c.in-Some.ended c.loop-self.invariant.reaches (omega arith) (c.in-Some.ensures.turn h)
+returns-in-Some-clause-run g c =
+    let v = c.loop-self.invariant in let t = c.in-Some.ensures in
+    Goes-turn _ _ _ _ _ _ c.in-Some.ended v.reaches c.loop-self-test.true t.turn t.fails t.count
 
-pub returns-in-Some-clause-stops : goal.returns-in-Some-clause-stops
-returns-in-Some-clause-stops g c = λ device h.
-    StopsAt-fails _ _ _ _ _ _ device c.loop-self.invariant.reaches c.loop-self-test.true (c.in-Some.ensures.fails device h) (c.in-Some.ensures.count device h)
+pub returns-in-Some-clause-tally : goal.returns-in-Some-clause-tally
+returns-in-Some-clause-tally g c = c.in-Some.ensures.tally ∙ c.loop-self.invariant.tally
+
+pub returns-in-Some-clause-faults : goal.returns-in-Some-clause-faults
+returns-in-Some-clause-faults g c =
+    c.in-Some.ensures.faults ∙ ap (faults_after (device_of c.in-Some.ended)) c.loop-self.invariant.faults
 
 pub returns-clause-run : goal.returns-clause-run
-returns-clause-run g c = λ _. Follows-limit _ _ _ _ c.loop-self.invariant.reaches (omega arith)
+returns-clause-run g c = Goes-limit _ _ _ _ c.loop-self.invariant.reaches (omega arith)
