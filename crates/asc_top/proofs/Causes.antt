@@ -11,9 +11,10 @@ use Rattle.asc_run.specs.Execution.{Run}
 use Rattle.asc_words.specs.declared.line.RunLine.{RunLine}
 use Rattle.asc_words.specs.declared.answer.Answer.{Answer}
 use Rattle.asc_words.specs.declared.answer.Answer.TheVariants as answers
+use Rattle.asc_words.specs.declared.answer.Outcome.{Outcome}
 use Rattle.asc_words.specs.declared.answer.Bad.{Bad}
 use Rattle.asc_top.specs.Program.{file_limit, load_of, IsNoImage, answer_at, refusal, result_of_load, run_of_image, meaning, Means, Runs}
-use Rattle.asc_top.specs.Kinds.{Ended as RunEnded, kind_of}
+use Rattle.asc_top.specs.Kinds.{Finished, kind_of}
 
 -- a file that is not too long means what its load comes to
 pub meaning-within : (line : RunLine) (content left : List ℕ) → length content ≤ file_limit → meaning line content left ≡ result_of_load line (load_of line content) left
@@ -36,7 +37,7 @@ record RunOf (line : RunLine) (result : Result loader.Image ElfFault) (left : Li
   answer : answered ≡ answer_at (run_of_image line image left).ended (run_of_image line image left).count
 
 -- an answer of a guest that ended by itself is an image's
-run_of-answer : (line : RunLine) (result : Result loader.Image ElfFault) (left : List ℕ) (answered : Answer) → kind_of answered ≡ RunEnded
+run_of-answer : (line : RunLine) (result : Result loader.Image ElfFault) (left : List ℕ) (answered : Answer) → kind_of answered ≡ Finished
     → answered ≡ (result_of_load line result left).answer → RunOf line result left answered
 run_of-answer line (Ok image) left answered ended is = record { image = image; loads = refl; answer = is }
 run_of-answer line (Err fault) left answered ended is = let refused = ap kind_of is in absurd (cc)
@@ -95,15 +96,15 @@ of_fault line (Ok image) left answered none is =
     let ended : end_in answered ≡ Some run.ended = ap end_in is ∙ end_in-answer_at run.ended run.count in
     absurd (cc)
 
-module _ (line : RunLine) (content : List ℕ) (within : length content ≤ file_limit) (old new : Outside) (answered : Answer) (m : Means old new answered line content) where
-  answer : answered ≡ (result_of_load line (load_of line content) m.left).answer
-  answer = subst (λ r. answered ≡ r.answer) (meaning-within line content m.left within) m.gives.answer
+module _ (line : RunLine) (content : List ℕ) (within : length content ≤ file_limit) (old new : Outside) (outcome : Outcome) (m : Means old new outcome line content) where
+  answer : outcome.answer ≡ (result_of_load line (load_of line content) m.left).answer
+  answer = subst (λ r. outcome.answer ≡ r.answer) (meaning-within line content m.left within) m.gives.answer
 
-  runs : (P : Run → Type 0) → kind_of answered ≡ RunEnded
-      → ((image : loader.Image) (left : List ℕ) → answered ≡ answer_at (run_of_image line image left).ended (run_of_image line image left).count → P (run_of_image line image left))
+  runs : (P : Run → Type 0) → kind_of outcome.answer ≡ Finished
+      → ((image : loader.Image) (left : List ℕ) → outcome.answer ≡ answer_at (run_of_image line image left).ended (run_of_image line image left).count → P (run_of_image line image left))
       → Runs old.left P line content
   runs P ended holds =
-      let o = run_of-answer line (load_of line content) m.left answered ended answer in
+      let o = run_of-answer line (load_of line content) m.left outcome.answer ended answer in
       record {
         within = within;
         image = o.image;
@@ -114,34 +115,34 @@ module _ (line : RunLine) (content : List ℕ) (within : length content ≤ file
       }
 
   -- how the run of such an answer ended
-  ends_as : (own : Ended) (known : Answer) → answered ≡ known → end_in known ≡ Some own → (image : loader.Image) (left : List ℕ)
-      → answered ≡ answer_at (run_of_image line image left).ended (run_of_image line image left).count → (run_of_image line image left).ended ≡ own
+  ends_as : (own : Ended) (known : Answer) → outcome.answer ≡ known → end_in known ≡ Some own → (image : loader.Image) (left : List ℕ)
+      → outcome.answer ≡ answer_at (run_of_image line image left).ended (run_of_image line image left).count → (run_of_image line image left).ended ≡ own
   ends_as own known is own_is image left answer =
       let run = run_of_image line image left in
-      end_of run.ended own run.count answered (ap end_in is ∙ own_is) answer
+      end_of run.ended own run.count outcome.answer (ap end_in is ∙ own_is) answer
 
-  pub runs-exit : (code : ℕ) → answered ≡ answers.Exit code → Runs old.left (λ run. run.ended ≡ ends.Exit code) line content
+  pub runs-exit : (code : ℕ) → outcome.answer ≡ answers.Exit code → Runs old.left (λ run. run.ended ≡ ends.Exit code) line content
   unfolding end_in
   runs-exit code is = runs _ (ap kind_of is) (ends_as (ends.Exit code) (answers.Exit code) is refl)
 
-  pub runs-limit : (count : ℕ) → answered ≡ answers.Limit count → Runs old.left (λ run. (run.ended ≡ ends.Limit) × (run.count ≡ count)) line content
+  pub runs-limit : (count : ℕ) → outcome.answer ≡ answers.Limit count → Runs old.left (λ run. (run.ended ≡ ends.Limit) × (run.count ≡ count)) line content
   unfolding end_in
   runs-limit count is = runs _ (ap kind_of is) (λ image left answer.
       let run = run_of_image line image left in
       let ended : run.ended ≡ ends.Limit = ends_as ends.Limit (answers.Limit count) is refl image left answer in
       (ended, limit_of run.ended run.count count ended (sym is ∙ answer)))
 
-  pub runs-fault : (fault : Fault) (count : ℕ) → answered ≡ answers.Fault fault count → Runs old.left (λ run. (run.ended ≡ ends.Fault fault) × (run.count ≡ count)) line content
+  pub runs-fault : (fault : Fault) (count : ℕ) → outcome.answer ≡ answers.Fault fault count → Runs old.left (λ run. (run.ended ≡ ends.Fault fault) × (run.count ≡ count)) line content
   unfolding end_in
   runs-fault fault count is = runs _ (ap kind_of is) (λ image left answer.
       let run = run_of_image line image left in
       let ended : run.ended ≡ ends.Fault fault = ends_as (ends.Fault fault) (answers.Fault fault count) is refl image left answer in
       (ended, fault_of run.ended run.count count fault ended (sym is ∙ answer)))
 
-  unrun : (known : Answer) → answered ≡ known → end_in known ≡ None → IsOfFault (load_of line content) answered
-  unrun known is none = of_fault line (load_of line content) m.left answered (ap end_in is ∙ none) answer
+  unrun : (known : Answer) → outcome.answer ≡ known → end_in known ≡ None → IsOfFault (load_of line content) outcome.answer
+  unrun known is none = of_fault line (load_of line content) m.left outcome.answer (ap end_in is ∙ none) answer
 
-  pub image-is : (fault : ElfFault) → answered ≡ answers.Image fault → IsNoImage fault line content
+  pub image-is : (fault : ElfFault) → outcome.answer ≡ answers.Image fault → IsNoImage fault line content
   unfolding end_in
   image-is fault is =
       let of = unrun (answers.Image fault) is refl in
@@ -149,14 +150,14 @@ module _ (line : RunLine) (content : List ℕ) (within : length content ≤ file
       record { within = within; loads = of.loads ∙ ap (λ (f : ElfFault). Err f) same }
 
   -- answers that no file that was read gives
-  pub usage-never : (bad : Bad) → answered ≡ answers.Usage bad → ⊥
+  pub usage-never : (bad : Bad) → outcome.answer ≡ answers.Usage bad → ⊥
   unfolding end_in
   usage-never bad is = let of = unrun (answers.Usage bad) is refl in cc (of.answer, is)
 
-  pub too_long-never : answered ≡ answers.TooLong → ⊥
+  pub too_long-never : outcome.answer ≡ answers.TooLong → ⊥
   unfolding end_in
   too_long-never is = let of = unrun answers.TooLong is refl in cc (of.answer, is)
 
-  pub store_fault-never : answered ≡ answers.StoreFault → ⊥
+  pub store_fault-never : outcome.answer ≡ answers.StoreFault → ⊥
   unfolding end_in
   store_fault-never is = let of = unrun answers.StoreFault is refl in cc (of.answer, is)

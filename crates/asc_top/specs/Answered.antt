@@ -1,30 +1,24 @@
 -- All that holds of an answer, whatever then becomes of its report.
-use Rattle.std.specs.Prelude.{◌≡◌, ◌≢◌, ◌⊎◌, ℕ, ◌<◌, List, length, Option, Some, None, Ok, Err, IsErr}
+use Rattle.std.specs.Prelude.{◌≡◌, ◌≢◌, ◌⊎◌, ◌↔◌, ℕ, ◌<◌, List, length, Option, Some, None, Result, Ok, Err, IsErr, IsSome, IsTrue}
 use Rattle.asc_model.specs.declared.fault.Fault.{Fault}
-use Rattle.asc_shape.specs.Outside.{File, AsksFor, content_of, one_more}
+use Rattle.asc_shape.specs.Outside.{File, AsksFor, content_of}
 use Rattle.asc_elf.specs.declared.fault.ElfFault.{ElfFault}
-use Rattle.asc_calls.specs.GuestCall.{Device, Input, Out, Err as ErrorOut}
+use Rattle.asc_calls.specs.GuestCall.{Device}
 use Rattle.asc_calls.specs.World.{Outside, Blames}
 use Rattle.asc_run.specs.declared.walk.Ended.TheVariants as ends
+use Rattle.asc_run.specs.Faults.{Faults, faults as faults_of, BlamesOnly}
 use Rattle.asc_words.specs.Line.{line_of}
 use Rattle.asc_words.specs.declared.line.RunLine.{RunLine}
+use Rattle.asc_words.specs.declared.line.Line.{Line}
 use Rattle.asc_words.specs.declared.line.Line.TheVariants as lines
 use Rattle.asc_words.specs.declared.answer.Answer.{Answer}
 use Rattle.asc_words.specs.declared.answer.Answer.TheVariants as answers
+use Rattle.asc_words.specs.declared.answer.Outcome.{Outcome}
 use Rattle.asc_words.specs.declared.answer.Bad.{Bad}
 use Rattle.asc_top.specs.Program.{file_limit, meaning, Gives, Means, HasFile, Runs, IsNoImage, IsStopped}
-use Rattle.asc_top.specs.Kinds.{Completes, ComesOfFile, IsRefusal, device_of_answer}
+use Rattle.asc_top.specs.Kinds.{Finished, kind_of, Completes, ComesOfFile, IsRefusal, device_of_answer}
 
 -- ---- what is told
-
--- how often each device of the guest has failed
-pub record Faults : Type 0 where
-  pub input : ℕ
-  pub out : ℕ
-  pub err : ℕ
-
-abbrev pub device_faults : (input out err : ℕ) → Faults
-device_faults input out err = record { input = input; out = out; err = err }
 
 -- What is told of all that the program meets but its report: the store's files, the names that it was asked for and how
 -- often it has failed, the guest's devices with the counter of steps, and how often each of these has failed.
@@ -41,7 +35,7 @@ devices files asked guest store input out err = record {
   asked = asked;
   store_faults = store;
   guest = guest;
-  faults = device_faults input out err;
+  faults = faults_of input out err;
 }
 
 -- the store tells that it holds a file of that name with this content
@@ -71,49 +65,49 @@ AsksForImage words answered before after =
     ((line : RunLine) × (line_of words ≡ Ok (lines.Run line)) × AsksFor line.image before after)
     ⊎ ((after ≡ before) × (IsErr (line_of words) ⊎ (answered ≡ answers.Memory)))
 
--- the count of the device that failed rose by one, where one did, and the counts of the others stayed
-abbrev pub BlamesOnly : (failed : Option Device) → (old new : Faults) → Type 0
-BlamesOnly None old new = new ≡ old
-BlamesOnly (Some Input) old new = new ≡ record old { input = one_more old.input }
-BlamesOnly (Some Out) old new = new ≡ record old { out = one_more old.out }
-BlamesOnly (Some ErrorOut) old new = new ≡ record old { err = one_more old.err }
+-- these words ask for the numbers of a run
+abbrev pub AskForCounts : Result Line Bad → Type 0
+AskForCounts (Ok (lines.Run line)) = IsTrue line.report
+AskForCounts (Err bad) = ⊥
 
--- All that holds of an answer to these words by itself, whatever then becomes of its report. A cause is a field: that
+-- All that holds of an outcome of these words by itself, whatever then becomes of its report. A cause is a field: that
 -- the answer comes only there. That it comes there, unless a device fails or memory is wanting, is the headline.
-pub record IsAnswerTo (words : List (List ℕ)) (old new : Devices) (answered : Answer) : Type 0 where
-  pub headline : Headline words old new answered
+pub record IsAnswerTo (words : List (List ℕ)) (old new : Devices) (outcome : Outcome) : Type 0 where
+  pub headline : Headline words old new outcome.answer
   -- told or not, it is that of some file and some input, which agree with what is told
-  pub untold : ComesOfFile answered → HasFile words old.files (Means old.guest new.guest answered)
+  pub untold : ComesOfFile outcome.answer → HasFile words old.files (Means old.guest new.guest outcome)
   -- where a device failed under the guest, all is plain execution's up to the call in which that happened
-  pub stopped : (device : Device) → device_of_answer answered ≡ Some device
+  pub stopped : (device : Device) → device_of_answer outcome.answer ≡ Some device
       → HasFile words old.files (IsStopped old.guest new.guest device)
 
   -- Exit: the plain run of the file ends with that code.
-  pub exit : (code : ℕ) → answered ≡ answers.Exit code
+  pub exit : (code : ℕ) → outcome.answer ≡ answers.Exit code
       → HasFile words old.files (Runs old.guest.left (λ run. run.ended ≡ ends.Exit code))
   -- Limit: it is still going on after that many steps, which are the line's limit.
-  pub limit : (count : ℕ) → answered ≡ answers.Limit count
+  pub limit : (count : ℕ) → outcome.answer ≡ answers.Limit count
       → HasFile words old.files (Runs old.guest.left (λ run. (run.ended ≡ ends.Limit) × (run.count ≡ count)))
   -- Fault: it meets that fault after that many steps.
-  pub fault : (fault : Fault) (count : ℕ) → answered ≡ answers.Fault fault count → HasFile words old.files
+  pub fault : (fault : Fault) (count : ℕ) → outcome.answer ≡ answers.Fault fault count → HasFile words old.files
       (Runs old.guest.left (λ run. (run.ended ≡ ends.Fault fault) × (run.count ≡ count)))
   -- Image: the file is no image, for that fault.
-  pub image : (fault : ElfFault) → answered ≡ answers.Image fault → HasFile words old.files (IsNoImage fault)
+  pub image : (fault : ElfFault) → outcome.answer ≡ answers.Image fault → HasFile words old.files (IsNoImage fault)
   -- TooLong: the file is longer than what is read.
-  pub too_long : answered ≡ answers.TooLong
+  pub too_long : outcome.answer ≡ answers.TooLong
       → HasFile words old.files (λ line content. file_limit < length content)
-  -- Usage: that is wrong with the words. Where something is, it is answered, unless memory was wanting.
-  pub usage : (bad : Bad) → answered ≡ answers.Usage bad → line_of words ≡ Err bad
-  pub no_command : (bad : Bad) → line_of words ≡ Err bad → answered ≢ answers.Memory → answered ≡ answers.Usage bad
+  -- Usage: that is wrong with the words. Where something is, it is outcome.answer, unless memory was wanting.
+  pub usage : (bad : Bad) → outcome.answer ≡ answers.Usage bad → line_of words ≡ Err bad
+  pub no_command : (bad : Bad) → line_of words ≡ Err bad → outcome.answer ≢ answers.Memory → outcome.answer ≡ answers.Usage bad
   -- StoreFault: the store failed, and once. Else it did not.
-  pub store_fault : Blames (answered ≡ answers.StoreFault) old.store_faults new.store_faults
+  pub store_fault : Blames (outcome.answer ≡ answers.StoreFault) old.store_faults new.store_faults
   -- ReadFault, WriteFault and ErrFault: that device failed, and once. Every other did not.
-  pub faults : BlamesOnly (device_of_answer answered) old.faults new.faults
-  -- ReportFault is answered in place of it.
-  pub no_report_fault : answered ≢ answers.ReportFault
+  pub faults : BlamesOnly (device_of_answer outcome.answer) old.faults new.faults
+  -- ReportFault is outcome.answer in place of it.
+  pub no_report_fault : outcome.answer ≢ answers.ReportFault
 
+  -- the numbers of a run are told where the words ask for them and the guest came to an end, and else none are
+  pub counts : IsSome outcome.counts ↔ (AskForCounts (line_of words) × (kind_of outcome.answer ≡ Finished))
   -- where the guest was not run, nothing was taken, put or counted
-  pub refused : IsRefusal answered → new.guest ≡ old.guest
+  pub refused : IsRefusal outcome.answer → new.guest ≡ old.guest
   pub files : new.files ≡ old.files
   -- the store was asked for the image of a run, once, and for nothing else
-  pub asked : AsksForImage words answered old.asked new.asked
+  pub asked : AsksForImage words outcome.answer old.asked new.asked

@@ -6,7 +6,7 @@ use Rattle.asc_words.specs.declared.answer.Answer.TheVariants as answers
 
 pub data Kind : Type 0 where
   -- the guest came to its end, its limit or a fault
-  Ended : Kind
+  Finished : Kind
   -- a device failed under the guest
   Stopped : Device → Kind
   -- the file is none that is run
@@ -19,9 +19,9 @@ pub data Kind : Type 0 where
   Unreported : Kind
 
 abbrev pub kind_of : Answer → Kind
-kind_of (answers.Exit code) = Ended
-kind_of (answers.Limit count) = Ended
-kind_of (answers.Fault fault count) = Ended
+kind_of (answers.Exit code) = Finished
+kind_of (answers.Limit count) = Finished
+kind_of (answers.Fault fault count) = Finished
 kind_of answers.ReadFault = Stopped Input
 kind_of answers.WriteFault = Stopped Out
 kind_of answers.ErrFault = Stopped Err
@@ -34,7 +34,7 @@ kind_of answers.ReportFault = Unreported
 
 -- an answer that a file's meaning gives
 abbrev pub ComesOfFile : Answer → Type 0
-ComesOfFile answer = (kind_of answer ≡ Ended) ⊎ (kind_of answer ≡ BadFile)
+ComesOfFile answer = (kind_of answer ≡ Finished) ⊎ (kind_of answer ≡ BadFile)
 
 -- no device failed, and no memory was wanting
 abbrev pub Completes : Answer → Type 0

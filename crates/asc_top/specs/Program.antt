@@ -1,10 +1,12 @@
 -- What a file means as a program, and what was done of it.
-use Rattle.std.specs.Prelude.{◌≡◌, ℕ, ◌+◌, ◌*◌, ◌<◌, ◌≤◌, List, length, Option, Result, Ok, Err, nat_lt, if◌then◌else◌}
+use Rattle.std.specs.Prelude.{◌≡◌, ℕ, Bool, ◌+◌, ◌*◌, ◌<◌, ◌≤◌, List, length, Option, Some, None, Result, Ok, Err, nat_lt, if◌then◌else◌}
 use Rattle.asc_shape.specs.Outside.{File, MayHold}
 use Rattle.asc_elf.specs.declared.fault.ElfFault.{ElfFault}
 use Rattle.asc_elf.specs.Image as loader
 use Rattle.asc_calls.specs.GuestCall.{Io, nothing, then_io, IsBeginning, Device}
 use Rattle.asc_calls.specs.World.{Outside, DoesIo, Agrees}
+use Rattle.asc_traj.specs.Finder.{Plan}
+use Rattle.asc_run.specs.declared.walk.Counts.{Counts as WalkCounts}
 use Rattle.asc_run.specs.declared.walk.Ended.{Ended}
 use Rattle.asc_run.specs.declared.walk.Ended.TheVariants as ends
 use Rattle.asc_run.specs.Execution.{Run, exec, progress, first_position, StandsAtFailure}
@@ -12,6 +14,8 @@ use Rattle.asc_words.specs.Line.{line_of}
 use Rattle.asc_words.specs.declared.line.RunLine.{RunLine}
 use Rattle.asc_words.specs.declared.line.Line.TheVariants as lines
 use Rattle.asc_words.specs.declared.answer.Answer.{Answer}
+use Rattle.asc_words.specs.declared.answer.Counts.{Counts}
+use Rattle.asc_words.specs.declared.answer.Outcome.{Outcome}
 use Rattle.asc_words.specs.declared.answer.Answer.TheVariants as answers
 
 -- ---- what a file means
@@ -36,6 +40,26 @@ answer_at ends.Limit count = answers.Limit count
 answer_at ends.ReadFault count = answers.ReadFault
 answer_at ends.WriteFault count = answers.WriteFault
 answer_at ends.ErrFault count = answers.ErrFault
+
+-- the numbers of a walk, and of what its helper planned
+abbrev pub counts_of : WalkCounts → Plan → Counts
+counts_of walk plan = record {
+  executed = walk.executed;
+  skipped = walk.skipped;
+  asked = walk.asked;
+  hits = walk.hits;
+  made = plan.made;
+  refused = plan.refused;
+}
+
+-- the numbers that a run reports which ended so: none where they are not asked for, or a device stopped it
+abbrev pub reported_counts : (is_asked : Bool) → Ended → Counts → Option Counts
+reported_counts is_asked (ends.Exit code) counts = if is_asked then Some counts else None
+reported_counts is_asked (ends.Fault fault) counts = if is_asked then Some counts else None
+reported_counts is_asked ends.Limit counts = if is_asked then Some counts else None
+reported_counts is_asked ends.ReadFault counts = None
+reported_counts is_asked ends.WriteFault counts = None
+reported_counts is_asked ends.ErrFault counts = None
 
 -- what a program comes to: the answer, what it took and put, and how many steps it did
 pub record ProgramResult : Type 0 where
@@ -79,11 +103,18 @@ pub record HasFile (words : List (List ℕ)) (files : Option (List File)) (P : R
   pub held : MayHold files line.image content
   pub holds : P line content
 
--- over some input that agrees with what is told, the file means what was answered, taken, put and counted
-pub record Means (old new : Outside) (answered : Answer) (line : RunLine) (content : List ℕ) : Type 0 where
+-- where numbers of a run are told, the steps done and the steps jumped over are so many together
+abbrev pub AddUp : Option Counts → (count : ℕ) → Type 0
+AddUp None count = Unit {0}
+AddUp (Some counts) count = counts.executed + counts.skipped ≡ count
+
+-- Over some input that agrees with what is told, the file means what was answered, taken, put and counted. The numbers
+-- add up to its steps.
+pub record Means (old new : Outside) (outcome : Outcome) (line : RunLine) (content : List ℕ) : Type 0 where
   pub left : List ℕ
   pub agrees : Agrees old.left left
-  pub gives : Gives old new answered (meaning line content left)
+  pub gives : Gives old new outcome.answer (meaning line content left)
+  pub total : AddUp outcome.counts (meaning line content left).count
 
 -- a file that is not too long is an image whose plain run, over some input that agrees with what is told, has P
 pub record Runs (told : Option (List ℕ)) (P : Run → Type 0) (line : RunLine) (content : List ℕ) : Type 0 where

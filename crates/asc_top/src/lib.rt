@@ -3,5 +3,5 @@
 
 mod program;
 
-pub use asc_words::{Answer, Bad};
+pub use asc_words::{Answer, Bad, Outcome};
 pub use program::{reported, top};

@@ -1,4 +1,4 @@
-ghost use Rattle.std.specs.Prelude.{◌≡◌, None};
+ghost use Rattle.std.specs.Prelude.{◌≡◌};
 
 use asc_elf::ElfFault;
 use asc_step::Fault;
@@ -66,10 +66,11 @@ pub struct Outcome {
 }
 
 impl Outcome {
+    ghost use Rattle.asc_words.specs.Answer.{outcome_of};
+
     /// An answer of which no numbers are reported.
     pub fn of(answer: Answer) -> Outcome
-        ensures answer { result.answer ≡ answer }
-        ensures counts { result.counts ≡ None }
+        ensures { result ≡ outcome_of answer }
     {
         Outcome {
             answer,

@@ -1,17 +1,24 @@
 -- What holds of the answers of a file that was read, and of one that is too long.
 use Rattle.std.proofs.Common.{◌≡◌, ℕ, List, Ok, ap, subst, sym, arith, ◌∙◌}
 use Rattle.asc_shape.specs.Outside.{AsksFor, MayHold, MayHoldLonger}
+use Rattle.asc_calls.specs.World.{outside}
+use Rattle.asc_words.specs.declared.answer.Outcome.{Outcome}
 use Rattle.asc_top.specs.Program.{file_limit}
+use Rattle.asc_top.specs.Answered.{IsAnswerTo, devices}
 use Rattle.asc_top.proofs.Headline.{answer_of_run, answer_of_long}
 use Rattle.asc_top.proofs.program.run_named.Goals as goal
 
 pub returns-in-Ok-Longer : goal.returns-in-Ok-Longer
 returns-in-Ok-Longer g c = λ words asked.
     let name : c.as_str.result.now ≡ c.args.line.now.image = c.as_str.ensures in
+    let guest = outside (g.I.Source.left c.args.input.now) (g.O.Sink.given c.args.out.now) (g.E.Sink.given c.args.err.now) c.args.steps.now in
     let longer = subst (λ (n : List ℕ). MayHoldLonger (g.F.Store.files c.args.store.now) n file_limit) name
     (c.in-Ok-Longer.ensures.longer (ap (λ x. Ok x) c.in-Ok-Longer.field-0-is)) in
     let names = subst (λ (n : List ℕ). AsksFor n (g.F.Store.asked c.args.store.now) (g.F.Store.asked c.read.new.self)) name c.in-Ok-Longer.ensures.asked in
-    answer_of_long words _ _ _ _ c.args.line.now asked longer c.in-Ok-Longer.ensures.files names c.in-Ok-Longer.ensures.cause.stays
+    let old = devices (g.F.Store.files c.args.store.now) (g.F.Store.asked c.args.store.now) guest (g.F.Store.faults c.args.store.now) (g.I.Source.faults c.args.input.now) (g.O.Sink.faults c.args.out.now) (g.E.Sink.faults c.args.err.now) in
+    let new = devices (g.F.Store.files c.read.new.self) (g.F.Store.asked c.read.new.self) guest (g.F.Store.faults c.read.new.self) (g.I.Source.faults c.args.input.now) (g.O.Sink.faults c.args.out.now) (g.E.Sink.faults c.args.err.now) in
+    subst (λ (outcome : Outcome). IsAnswerTo words old new outcome) (sym c.of-in-Ok-Longer.ensures)
+    (answer_of_long words _ _ _ _ c.args.line.now asked longer c.in-Ok-Longer.ensures.files names c.in-Ok-Longer.ensures.cause.stays)
 
 pub returns : goal.returns
 returns g c = λ words asked.
@@ -28,6 +35,7 @@ returns g c = λ words asked.
       means = c.run_file.ensures.means;
       stopped = c.run_file.ensures.stopped;
       refused = c.run_file.ensures.refused;
+      counts = c.run_file.ensures.counts;
       files = c.in-Ok-Whole.ensures.files;
       names = subst (λ (n : List ℕ). AsksFor n (g.F.Store.asked c.args.store.now) (g.F.Store.asked c.read.new.self)) name c.in-Ok-Whole.ensures.asked;
       store_faults = c.in-Ok-Whole.ensures.cause.stays;
