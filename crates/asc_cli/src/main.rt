@@ -5,14 +5,14 @@ ghost use Rattle.std.specs.Prelude.{◌≡◌, ◌≢◌, ◌⊎◌, ◌<◌, ma
 ghost use Rattle.std.specs.Process.{exit_status};
 ghost use Rattle.std.specs.String.{string_bytes};
 ghost use Rattle.asc_calls.specs.World.{outside};
-ghost use Rattle.asc_top.specs.Answer.{code_of};
+ghost use Rattle.asc_top.specs.Answer.{code_of, outcome_of};
 ghost use Rattle.asc_top.specs.Answered.{devices};
 ghost use Rattle.asc_top.specs.Reported.{report_with};
 ghost use Rattle.asc_cli.specs.Status.{IsStatus, IsStatusOf, IsStatusOver};
 
 use asc_shape::{Gate, Open, Sink, Source, Steps, Store};
 use asc_streams::{FileStore, StreamSink, StreamSource};
-use asc_top::{Answer, Bad, reported, top};
+use asc_top::{Answer, Bad, Outcome, reported, top};
 use std::alloc::Global;
 use std::env;
 use std::io::ErrorKind;
@@ -49,9 +49,9 @@ fn words(rt: &HostRuntime) -> Result<Vec<String>, Answer>
 fn refuse<R: Sink>(refusal: Answer, report: &mut R) -> ExitCode
     requires { refusal ≢ Answer.ReportFault }
     ensures { IsStatusOf (report_with (R.given report.old) (R.faults report.old))
-        (report_with (R.given report.new) (R.faults report.new)) refusal (exit_status result) }
+        (report_with (R.given report.new) (R.faults report.new)) (outcome_of refusal) (exit_status result) }
 {
-    ExitCode::from(reported(refusal, report).code())
+    ExitCode::from(reported(Outcome::of(refusal), report).code())
 }
 
 /// Runs the words over the system, and gives the exit status. The ledger is the one that counts the guest's steps.
@@ -86,7 +86,7 @@ fn status<F: Store, I: Source, O: Sink, E: Sink, R: Sink, G: Gate, L: Ledger>(
     gate: &G,
     steps: &mut Steps<L>,
 ) -> ExitCode
-    // All that holds of the program's answer holds of the one whose code is the status.
+    // All that the program promises holds of an outcome, whose answer, or ReportFault, has the status as its code.
     ensures { IsStatus (map string_bytes words.now)
         (devices (F.files store.old) (F.asked store.old) (outside (I.left input.old) (O.given out.old) (E.given err.old) steps.old)
         (F.faults store.old) (I.faults input.old) (O.faults out.old) (E.faults err.old))
