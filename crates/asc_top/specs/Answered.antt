@@ -79,7 +79,6 @@ pub record IsAnswerTo (words : List (List ℕ)) (old new : Devices) (outcome : O
   -- where a device failed under the guest, all is plain execution's up to the call in which that happened
   pub stopped : (device : Device) → device_of_answer outcome.answer ≡ Some device
       → HasFile words old.files (IsStopped old.guest new.guest device)
-
   -- Exit: the plain run of the file ends with that code.
   pub exit : (code : ℕ) → outcome.answer ≡ answers.Exit code
       → HasFile words old.files (Runs old.guest.left (λ run. run.ended ≡ ends.Exit code))
@@ -103,7 +102,6 @@ pub record IsAnswerTo (words : List (List ℕ)) (old new : Devices) (outcome : O
   pub faults : BlamesOnly (device_of_answer outcome.answer) old.faults new.faults
   -- ReportFault is outcome.answer in place of it.
   pub no_report_fault : outcome.answer ≢ answers.ReportFault
-
   -- the numbers of a run are told where the words ask for them and the guest came to an end, and else none are
   pub counts : IsSome outcome.counts ↔ (AskForCounts (line_of words) × (kind_of outcome.answer ≡ Finished))
   -- where the guest was not run, nothing was taken, put or counted
