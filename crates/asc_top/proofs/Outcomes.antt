@@ -3,14 +3,15 @@ use Rattle.std.proofs.Common.{◌≡◌, ◌↔◌, ℕ, ◌+◌, ◌≤◌, ◌
 use Rattle.asc_shape.specs.Outside.{IsAtEnd, Given}
 use Rattle.asc_elf.specs.declared.fault.ElfFault.{ElfFault}
 use Rattle.asc_elf.specs.Image as loader
-use Rattle.asc_calls.specs.GuestCall.{Device}
+use Rattle.asc_calls.specs.GuestCall.{Device, nothing}
 use Rattle.asc_calls.specs.World.{Outside, outside, World, Agrees, MayCome, KnowsEnd}
 use Rattle.asc_run.specs.declared.walk.Ended.{Ended}
 use Rattle.asc_run.specs.declared.walk.Ended.TheVariants as ends
 use Rattle.asc_run.specs.Execution.{Run, device_of}
 use Rattle.asc_run.specs.declared.walk.Settings.{Settings}
-use Rattle.asc_run.specs.Visits.{Course}
-use Rattle.asc_run.specs.Walk.{Walk, new_walk, world_of, run_from, Follows, StopsAt}
+use Rattle.asc_traj.specs.Finder.{Tally}
+use Rattle.asc_run.specs.Helped.{Aid}
+use Rattle.asc_run.specs.Walk.{Walk, GoesHelped, IsRaisedBy, new_walk, world_of}
 use Rattle.asc_run.proofs.Reach.{DoesIo-nothing}
 use Rattle.asc_run.proofs.Turn.{Agrees-before}
 use Rattle.asc_words.specs.declared.line.RunLine.{RunLine}
@@ -18,8 +19,9 @@ use Rattle.asc_words.specs.declared.answer.Answer.{Answer}
 use Rattle.asc_words.specs.declared.answer.Answer.TheVariants as answers
 use Rattle.asc_words.specs.declared.answer.Counts.{Counts}
 use Rattle.asc_words.specs.Answer.{outcome_of}
-use Rattle.asc_top.specs.Program.{file_limit, load_of, answer_at, refusal, reported_counts, ProgramResult, AddUp, result_of_run, result_of_load, run_of_image, meaning, Gives, Means, IsStopped}
+use Rattle.asc_top.specs.Program.{file_limit, load_of, answer_at, refusal, reported_counts, ProgramResult, AreNumbers, AreNumbersOf, course_of_image, visits_of, result_of_run, result_of_load, run_of_image, meaning, Gives, Means, IsStopped}
 use Rattle.asc_top.specs.Kinds.{Kind, Finished, Stopped, IsRefusal, kind_of, device_of_answer}
+use Rattle.asc_top.proofs.Visited.{asked_where_marked}
 use Rattle.asc_top.proofs.Causes.{meaning-within, meaning-long}
 
 -- an input that may come after a run: it agrees with what is told then
@@ -53,37 +55,53 @@ rest_from w false None is_ended is_left known = record {
 rest_of : (w : World) → KnowsEnd w → Rest w
 rest_of w known = rest_from w w.calls.ended w.left refl refl known
 
--- a walk from an image's start that jumped over nothing did what its file means
-module _ (line : RunLine) (content : List ℕ) (image : loader.Image) (settings : Settings) (walk : Walk) (is : walk ≡ new_walk image settings) (limit : settings.limit ≡ line.limit)
-    (within : length content ≤ file_limit) (loads : load_of line content ≡ Ok image) (told : Option (List ℕ)) (out err : Given) (n : ℕ) where
-  pub means_walk : (Says : Course → Type 0) (new : World) (count skipped : ℕ) (ended : Ended) (counts : Option Counts) → skipped ≡ 0 → AddUp counts count
-      → Follows walk.settings.limit Says (world_of walk told out err n) new count skipped ended
-      → Means (outside told out err n) new.outside (record { answer = answer_at ended count; counts = counts }) line content
-  means_walk Says new count skipped how counts none total follows =
-      let f = subst (λ (w : Walk). Follows w.settings.limit Says (world_of w told out err n) new count skipped how) is follows in
+-- numbers of a result that has this count and these visits
+same_numbers : (counts : Option Counts) (one other : ProgramResult) → one.count ≡ other.count → one.visits ≡ other.visits → AreNumbers one counts → AreNumbers other counts
+same_numbers None one other count visits are = tt
+same_numbers (Some c) one other count visits are =
+    record { total = are.total ∙ count; asked = are.asked ∙ visits; skipped = are.skipped; hits = are.hits; made = are.made; refused = are.refused }
+
+-- how a line asks for a walk
+abbrev pub settings_of : RunLine → Settings
+settings_of line = record { limit = line.limit; pc = line.pc }
+
+-- a walk from an image's start with a helper that gave no jump
+module _ (line : RunLine) (content : List ℕ) (image : loader.Image) (walk : Walk) (is : walk ≡ new_walk image (settings_of line))
+    (within : length content ≤ file_limit) (loads : load_of line content ≡ Ok image) (told : Option (List ℕ)) (out err : Given) (n : ℕ)
+    (new : World) (first last : Aid) (none_before : first.tally.hits ≡ 0) (none_after : last.tally.hits ≡ 0) (walked : Tally) (raised : IsRaisedBy walked first.tally last.tally)
+    (none : walked.given ≡ 0) (count : ℕ) (how : Ended)
+    (goes : GoesHelped walk.settings.limit walk.settings.pc (world_of walk told out err n) new first last count walked.given how) where
+  here : GoesHelped line.limit line.pc (world_of (new_walk image (settings_of line)) told out err n) new first last count walked.given how
+  here = subst (λ (w : Walk). GoesHelped w.settings.limit w.settings.pc (world_of w told out err n) new first last count walked.given how) is goes
+
+  -- it did what its file means
+  pub means_walk : (counts : Option Counts) → ((visits : ℕ) → walked.asked ≡ visits → AreNumbers (result_of_run (record { ended = how; count = count; io = nothing }) visits) counts)
+      → device_of how ≡ None → Means (outside told out err n) new.outside (record { answer = answer_at how count; counts = counts }) line content
+  means_walk counts numbers going =
+      let f = here.goes.follows going in
       let r = rest_of new f.known in
       let left = f.io.taken ++ r.rest in
       let own : Run = record { ended = how; count = count; io = f.io } in
-      let at_limit : run_of_image line image left ≡ run_from settings.limit (world_of (new_walk image settings) told out err n) left =
-      ap (λ (most : ℕ). run_from most (world_of (new_walk image settings) told out err n) left) (sym limit) in
-      let run : run_of_image line image left ≡ own = at_limit ∙ f.run r.rest r.may in
-      let gives : Gives (outside told out err n) new.outside (answer_at how count) (result_of_run own) =
+      let run : run_of_image line image left ≡ own = f.run r.rest r.may in
+      let visits = visits_of line.pc (course_of_image image left) line.limit in
+      let asked : walked.asked ≡ visits =
+      asked_where_marked line.pc (course_of_image image left) line.limit here.visits walked first.tally last.tally none_before none_after raised here.helped.tally (f.says r.rest r.may).are in
+      let gives : Gives (outside told out err n) new.outside (answer_at how count) (result_of_run own visits) =
       record { answer = refl; does = f.does; steps = omega (arith, f.steps) } in
-      let is : meaning line content left ≡ result_of_run own =
-      meaning-within line content left within ∙ ap (λ i. result_of_load line i left) loads ∙ ap (λ (x : Run). result_of_run x) run in
+      let is : meaning line content left ≡ result_of_run own visits =
+      meaning-within line content left within ∙ ap (λ i. result_of_load line i left) loads ∙ ap (λ (x : Run). result_of_run x visits) run in
+      let told_numbers : AreNumbers (result_of_run own visits) counts = same_numbers counts _ _ refl refl (numbers visits asked) in
       record {
         left = left;
         agrees = Agrees-before told new.left f.io.taken r.rest f.does.taken r.agrees;
         gives = subst (λ (x : ProgramResult). Gives (outside told out err n) new.outside (answer_at how count) x) (sym is) gives;
-        total = subst (λ (x : ProgramResult). AddUp counts x.count) (sym is) total;
+        numbers = subst (λ (x : ProgramResult). AreNumbers x counts) (sym is) told_numbers;
       }
 
-  -- one that a device's failure stopped
-  pub stopped_walk : (Says : Course → Type 0) (new : World) (count skipped : ℕ) (device : Device) → skipped ≡ 0
-      → StopsAt walk.settings.limit Says (world_of walk told out err n) new count skipped device → IsStopped (outside told out err n) new.outside device line content
-  stopped_walk Says new count skipped device none stops =
-      let at_start = subst (λ (w : Walk). StopsAt w.settings.limit Says (world_of w told out err n) new count skipped device) is stops in
-      let s = subst (λ (most : ℕ). StopsAt most Says (world_of (new_walk image settings) told out err n) new count skipped device) limit at_start in
+  -- a device's failure stopped it
+  pub stopped_walk : (device : Device) → device_of how ≡ Some device → IsStopped (outside told out err n) new.outside device line content
+  stopped_walk device failed =
+      let s = here.goes.stops device failed in
       let r = rest_of new s.known in
       let agrees = Agrees-before told new.left (s.io.taken ++ s.done.taken) r.rest s.does.taken r.agrees in
       record {
@@ -116,7 +134,7 @@ means_refusal line content answered o refused =
       left = input.0;
       agrees = input.1;
       gives = subst (λ x. Gives o o answered x) (sym (refused input.0)) (record { answer = refl; does = DoesIo-nothing o; steps = omega arith });
-      total = tt;
+      numbers = tt;
     }
 
 -- a file that is no image
@@ -188,18 +206,18 @@ counts-told false ends.ReadFault count counts = no_numbers _ (λ h. let no = h.0
 counts-told false ends.WriteFault count counts = no_numbers _ (λ h. let no = h.0 in cc)
 counts-told false ends.ErrFault count counts = no_numbers _ (λ h. let no = h.0 in cc)
 
--- and they add up
-pub counts-total : (is_asked : Bool) (how : Ended) (counts : Counts) (count : ℕ) → counts.executed + counts.skipped ≡ count
-    → AddUp (reported_counts is_asked how counts) count
-counts-total true (ends.Exit c) counts count total = total
-counts-total true (ends.Fault f) counts count total = total
-counts-total true ends.Limit counts count total = total
-counts-total true ends.ReadFault counts count total = tt
-counts-total true ends.WriteFault counts count total = tt
-counts-total true ends.ErrFault counts count total = tt
-counts-total false (ends.Exit c) counts count total = tt
-counts-total false (ends.Fault f) counts count total = tt
-counts-total false ends.Limit counts count total = tt
-counts-total false ends.ReadFault counts count total = tt
-counts-total false ends.WriteFault counts count total = tt
-counts-total false ends.ErrFault counts count total = tt
+-- and they are the run's
+pub counts-numbers : (is_asked : Bool) (how : Ended) (counts : Counts) (result : ProgramResult) → AreNumbersOf result counts
+    → AreNumbers result (reported_counts is_asked how counts)
+counts-numbers true (ends.Exit c) counts result are = are
+counts-numbers true (ends.Fault f) counts result are = are
+counts-numbers true ends.Limit counts result are = are
+counts-numbers true ends.ReadFault counts result are = tt
+counts-numbers true ends.WriteFault counts result are = tt
+counts-numbers true ends.ErrFault counts result are = tt
+counts-numbers false (ends.Exit c) counts result are = tt
+counts-numbers false (ends.Fault f) counts result are = tt
+counts-numbers false ends.Limit counts result are = tt
+counts-numbers false ends.ReadFault counts result are = tt
+counts-numbers false ends.WriteFault counts result are = tt
+counts-numbers false ends.ErrFault counts result are = tt

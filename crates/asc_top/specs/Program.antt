@@ -1,5 +1,5 @@
 -- What a file means as a program, and what was done of it.
-use Rattle.std.specs.Prelude.{◌≡◌, ℕ, Bool, ◌+◌, ◌*◌, ◌<◌, ◌≤◌, List, length, Option, Some, None, Result, Ok, Err, nat_lt, if◌then◌else◌}
+use Rattle.std.specs.Prelude.{◌≡◌, ℕ, zero, suc, Bool, ◌+◌, ◌*◌, ◌<◌, ◌≤◌, List, length, Option, Some, None, Result, Ok, Err, nat_lt, if◌then◌else◌}
 use Rattle.asc_shape.specs.Outside.{File, MayHold}
 use Rattle.asc_elf.specs.declared.fault.ElfFault.{ElfFault}
 use Rattle.asc_elf.specs.Image as loader
@@ -10,6 +10,7 @@ use Rattle.asc_run.specs.declared.walk.Counts.{Counts as WalkCounts}
 use Rattle.asc_run.specs.declared.walk.Ended.{Ended}
 use Rattle.asc_run.specs.declared.walk.Ended.TheVariants as ends
 use Rattle.asc_run.specs.Execution.{Run, exec, progress, first_position, StandsAtFailure}
+use Rattle.asc_run.specs.Visits.{Course, is_mark}
 use Rattle.asc_words.specs.Line.{line_of}
 use Rattle.asc_words.specs.declared.line.RunLine.{RunLine}
 use Rattle.asc_words.specs.declared.line.Line.TheVariants as lines
@@ -31,6 +32,15 @@ load_of line content = loader.image_of content (1024 * line.memory) line.version
 -- the plain run of an image over an input, up to the line's limit
 abbrev pub run_of_image : RunLine → loader.Image → (left : List ℕ) → Run
 run_of_image line image left = exec line.limit image.low (loader.high_of image) image.start left
+
+-- how far that run comes in n steps
+abbrev pub course_of_image : loader.Image → (left : List ℕ) → Course
+course_of_image image left = progress image.low (loader.high_of image) (first_position image.start image.low left)
+
+-- how often a run stands at an address, where one is set, after fewer steps than a limit
+unfoldable pub visits_of : Option ℕ → Course → (limit : ℕ) → ℕ
+visits_of address run zero = 0
+visits_of address run (suc n) = visits_of address run n + (if is_mark address run n then 1 else 0)
 
 -- the answer of a run that ended so after count steps
 abbrev pub answer_at : Ended → ℕ → Answer
@@ -61,23 +71,31 @@ reported_counts is_asked ends.ReadFault counts = None
 reported_counts is_asked ends.WriteFault counts = None
 reported_counts is_asked ends.ErrFault counts = None
 
--- what a program comes to: the answer, what it took and put, and how many steps it did
+-- What a program comes to: the answer, what it took and put, how many steps it did, and how often it stood at the line's
+-- address.
 pub record ProgramResult : Type 0 where
   pub answer : Answer
   pub io : Io
   pub count : ℕ
+  pub visits : ℕ
 
 -- an answer for which the program was not run
 abbrev pub refusal : Answer → ProgramResult
-refusal answer = record { answer = answer; io = nothing; count = 0 }
+refusal answer = record { answer = answer; io = nothing; count = 0; visits = 0 }
 
-abbrev pub result_of_run : Run → ProgramResult
-result_of_run run = record { answer = answer_at run.ended run.count; io = run.io; count = run.count }
+abbrev pub result_of_run : Run → (visits : ℕ) → ProgramResult
+result_of_run run visits = record {
+  answer = answer_at run.ended run.count;
+  io = run.io;
+  count = run.count;
+  visits = visits;
+}
 
 -- what a loaded file comes to over an input
 abbrev pub result_of_load : RunLine → Result loader.Image ElfFault → (left : List ℕ) → ProgramResult
 result_of_load line (Err fault) left = refusal (answers.Image fault)
-result_of_load line (Ok image) left = result_of_run (run_of_image line image left)
+result_of_load line (Ok image) left =
+    result_of_run (run_of_image line image left) (visits_of line.pc (course_of_image image left) line.limit)
 
 -- What a file means as a program, for a line and over an input: one that is too long and one that is no image are
 -- refused, and every other is run plainly.
@@ -103,18 +121,28 @@ pub record HasFile (words : List (List ℕ)) (files : Option (List File)) (P : R
   pub held : MayHold files line.image content
   pub holds : P line content
 
--- where numbers of a run are told, the steps done and the steps jumped over are so many together
-abbrev pub AddUp : Option Counts → (count : ℕ) → Type 0
-AddUp None count = Unit {0}
-AddUp (Some counts) count = counts.executed + counts.skipped ≡ count
+-- the numbers of a run: as yet nothing is guessed, and no jump is found
+pub record AreNumbersOf (result : ProgramResult) (counts : Counts) : Type 0 where
+  -- the steps done and the steps jumped over are all its steps
+  pub total : counts.executed + counts.skipped ≡ result.count
+  -- a jump was asked for wherever it stood at the address
+  pub asked : counts.asked ≡ result.visits
+  pub skipped : counts.skipped ≡ 0
+  pub hits : counts.hits ≡ 0
+  pub made : counts.made ≡ 0
+  pub refused : counts.refused ≡ 0
 
--- Over some input that agrees with what is told, the file means what was answered, taken, put and counted. The numbers
--- add up to its steps.
+abbrev pub AreNumbers : ProgramResult → Option Counts → Type 0
+AreNumbers result None = Unit {0}
+AreNumbers result (Some counts) = AreNumbersOf result counts
+
+-- Over some input that agrees with what is told, the file means what was answered, taken, put and counted, and the
+-- numbers that are told are its run's.
 pub record Means (old new : Outside) (outcome : Outcome) (line : RunLine) (content : List ℕ) : Type 0 where
   pub left : List ℕ
   pub agrees : Agrees old.left left
   pub gives : Gives old new outcome.answer (meaning line content left)
-  pub total : AddUp outcome.counts (meaning line content left).count
+  pub numbers : AreNumbers (meaning line content left) outcome.counts
 
 -- a file that is not too long is an image whose plain run, over some input that agrees with what is told, has P
 pub record Runs (told : Option (List ℕ)) (P : Run → Type 0) (line : RunLine) (content : List ℕ) : Type 0 where

@@ -1,23 +1,22 @@
 -- What a file that is not too long was run as.
 use Rattle.std.proofs.Common.{◌≡◌, ◌↔◌, ℕ, ◌+◌, Option, Some, None, IsNone, IsSome, IsTrue, Ok, Err, refl, sym, ap, subst, arith, ◌∙◌}
-use Rattle.asc_calls.specs.GuestCall.{Device}
+use Rattle.asc_calls.specs.GuestCall.{Device, nothing}
 use Rattle.asc_calls.specs.World.{outside}
 use Rattle.asc_traj.specs.Finder.{Tally}
-use Rattle.asc_run.specs.declared.walk.Settings.{Settings}
 use Rattle.asc_run.specs.Execution.{device_of}
 use Rattle.asc_run.specs.Faults.{BlamesOnly, faults}
 use Rattle.asc_run.specs.Walk.{Walk, device_in, world_of}
 use Rattle.asc_words.specs.declared.answer.Answer.{Answer}
 use Rattle.asc_words.specs.declared.answer.Counts.{Counts}
 use Rattle.asc_words.specs.declared.answer.Outcome.{Outcome}
-use Rattle.asc_top.specs.Program.{Means, answer_at, reported_counts}
+use Rattle.asc_top.specs.Program.{Means, answer_at, reported_counts, result_of_run}
 use Rattle.asc_top.specs.Kinds.{Finished, IsRefusal, device_of_answer, kind_of}
-use Rattle.asc_top.proofs.Outcomes.{means_walk, means_image, stopped_walk, device_of_answer-answer_at, run-not_refused, counts-told, counts-total}
+use Rattle.asc_top.proofs.Outcomes.{means_walk, means_image, stopped_walk, device_of_answer-answer_at, run-not_refused, counts-told, counts-numbers}
 use Rattle.asc_top.proofs.program.run_file.Goals as goal
 
--- a finder of nothing gives no steps
-given_none : (before given : ℕ) → 0 ≡ before + given → given ≡ 0
-given_none before given is = omega arith
+-- a sum that is 0
+none_more : (before more : ℕ) → 0 ≡ before + more → more ≡ 0
+none_more before more is = omega arith
 
 pub returns-in-Err-clause-means : goal.returns-in-Err-clause-means
 returns-in-Err-clause-means g c = λ _ _.
@@ -29,7 +28,6 @@ returns-in-Err-clause-means g c = λ _ _.
 pub returns-clause-means : goal.returns-clause-means
 returns-clause-means g c = λ _ none.
     let line = c.args.line.now in
-    let settings : Settings = record { limit = line.limit; pc = line.pc } in
     let is = c.in-Ok-new.ensures in
     let fresh = subst (λ (w : Walk). IsNone w.ended) (sym is) refl in
     let left = g.I.Source.left c.args.input.now in
@@ -38,33 +36,42 @@ returns-clause-means g c = λ _ none.
     let new = world_of c.go-ended.new.self (g.I.Source.left c.go-ended.new.input) (g.O.Sink.given c.go-ended.new.out) (g.E.Sink.given c.go-ended.new.err) c.go-ended.new.steps in
     let ended = c.go-ended.result in
     let count = c.go-ended.new.self.count in
-    let given : c.go-ended.new.self.tally.given ≡ 0 = given_none _ _ (ap (λ (t : Tally). t.given) (c.go-ended.ensures.helper fresh)) in
+    let tally = c.go-ended.new.self.tally in
+    let raised = c.go-ended.ensures.helper fresh in
+    let given : tally.given ≡ 0 = none_more _ _ (ap (λ (t : Tally). t.given) raised) in
+    let hits : tally.hits ≡ 0 = none_more _ _ (ap (λ (t : Tally). t.hits) raised) in
     let loads = sym c.read.ensures ∙ c.in-Ok.is in
     let answer : answer_at ended count ≡ c.answer_at.result = sym (c.answer_at.ensures ∙ ap (λ (n : ℕ). answer_at ended n) c.counts-counts.ensures.count) in
     let going : device_of ended ≡ None = sym (device_of_answer-answer_at ended count) ∙ ap (λ (a : Answer). device_of_answer a) answer ∙ none in
-    let total : c.counts_of.result.executed + c.counts_of.result.skipped ≡ count =
-    ap (λ (k : Counts). k.executed + k.skipped) c.counts_of.ensures ∙ c.counts-counts.ensures.executed in
-    let means = means_walk line c.args.file.now c.in-Ok.image settings c.in-Ok-new.walk is refl c.requires.file loads left out err c.args.steps.now
-    _ new count c.go-ended.new.self.tally.given ended (reported_counts line.report ended c.counts_of.result) given
-    (counts-total line.report ended c.counts_of.result count total) ((c.go-ended.ensures.first fresh).goes.follows going) in
+    let made = c.counts_of.ensures in
+    let numbers = λ (visits : ℕ) (asked : tally.asked ≡ visits). counts-numbers line.report ended c.counts_of.result (result_of_run (record { ended = ended; count = count; io = nothing }) visits) (record {
+      total = ap (λ (k : Counts). k.executed + k.skipped) made ∙ c.counts-counts.ensures.executed;
+      asked = ap (λ (k : Counts). k.asked) made ∙ c.counts-counts.ensures.asked ∙ asked;
+      skipped = ap (λ (k : Counts). k.skipped) made ∙ c.counts-counts.ensures.skipped ∙ given;
+      hits = ap (λ (k : Counts). k.hits) made ∙ c.counts-counts.ensures.hits ∙ hits;
+      made = ap (λ (k : Counts). k.made) made;
+      refused = ap (λ (k : Counts). k.refused) made;
+    }) in
+    let means = means_walk line c.args.file.now c.in-Ok.image c.in-Ok-new.walk is c.requires.file loads left out err c.args.steps.now new _ _ refl refl tally raised given count ended
+    (c.go-ended.ensures.first fresh) (reported_counts line.report ended c.counts_of.result) numbers going in
     subst (λ (outcome : Outcome). Means (outside left out err c.args.steps.now) new.outside outcome line c.args.file.now)
     (λ i. record { answer = answer i; counts = sym c.reported_counts.ensures i }) means
 
 pub returns-clause-stopped : goal.returns-clause-stopped
 returns-clause-stopped g c = λ device failed.
     let line = c.args.line.now in
-    let settings : Settings = record { limit = line.limit; pc = line.pc } in
     let is = c.in-Ok-new.ensures in
     let fresh = subst (λ (w : Walk). IsNone w.ended) (sym is) refl in
     let new = world_of c.go-ended.new.self (g.I.Source.left c.go-ended.new.input) (g.O.Sink.given c.go-ended.new.out) (g.E.Sink.given c.go-ended.new.err) c.go-ended.new.steps in
     let ended = c.go-ended.result in
-    let count = c.go-ended.new.self.count in
-    let given : c.go-ended.new.self.tally.given ≡ 0 = given_none _ _ (ap (λ (t : Tally). t.given) (c.go-ended.ensures.helper fresh)) in
+    let tally = c.go-ended.new.self.tally in
+    let raised = c.go-ended.ensures.helper fresh in
+    let given : tally.given ≡ 0 = none_more _ _ (ap (λ (t : Tally). t.given) raised) in
     let loads = sym c.read.ensures ∙ c.in-Ok.is in
     let stopped : device_of ended ≡ Some device =
     sym (device_of_answer-answer_at ended _) ∙ ap (λ (a : Answer). device_of_answer a) (sym c.answer_at.ensures) ∙ failed in
-    stopped_walk line c.args.file.now c.in-Ok.image settings c.in-Ok-new.walk is refl c.requires.file loads (g.I.Source.left c.args.input.now) (g.O.Sink.given c.args.out.now) (g.E.Sink.given c.args.err.now) c.args.steps.now
-    _ new count c.go-ended.new.self.tally.given device given ((c.go-ended.ensures.first fresh).goes.stops device stopped)
+    stopped_walk line c.args.file.now c.in-Ok.image c.in-Ok-new.walk is c.requires.file loads (g.I.Source.left c.args.input.now) (g.O.Sink.given c.args.out.now) (g.E.Sink.given c.args.err.now) c.args.steps.now
+    new _ _ refl refl tally raised given c.go-ended.new.self.count ended (c.go-ended.ensures.first fresh) device stopped
 
 pub returns-clause-refused : goal.returns-clause-refused
 returns-clause-refused g c = λ refused.
