@@ -6,10 +6,10 @@ use Rattle.asc_traj.specs.Finder.{Tally, Tells, Plan, tally_after, steps_given, 
 use Rattle.asc_traj.specs.Serial.{Serial, serial_reply}
 use Rattle.asc_run.specs.Serial.{visited, after_tasks, made_at}
 use Rattle.asc_run.specs.Execution.{Position, Progress, On}
-use Rattle.asc_run.specs.Visits.{Course, Visit, is_at, is_mark, with_landing, replies_of}
+use Rattle.asc_run.specs.Visits.{Course, Visit, is_at, is_mark, AreVisits, with_landing, replies_of}
 use Rattle.asc_run.specs.Helped.{Aid, Helped, SerialAt, Lands, KeepsMachine, HasVisits}
 use Rattle.asc_run.proofs.Reach.{Leads, LeadsToEnd}
-use Rattle.asc_run.proofs.Marks.{AreVisits-first, AreVisits-later, AreVisits-step, AreVisits-jump, goes_on_at-on, goes_on_at-off, GoesPlain-on}
+use Rattle.asc_run.proofs.Marks.{AreVisits-first, AreVisits-later, AreVisits-step, AreVisits-jump, AreVisits-none, goes_on_at-on, goes_on_at-off, GoesPlain-on}
 
 Tells-none : (x : Option (List (Option ℕ))) → Tells [] x x
 Tells-none x ys e = (ys, e, sym (append-nil ys))
@@ -137,17 +137,18 @@ HasVisits-jump limit target start s t c k n vs old now new below jump passed sha
       serial = machine-more (is_at target s) limit c k run r s (Some n) vs start old now new e at shape number earlier later lands q.serial;
     }
 
--- the last step
-pub HasVisits-end : (limit : ℕ) (target : Option ℕ) (start s : State) (c k : ℕ) (vs : List Visit) (old now new : Aid) → c < limit → s.shape ≡ start.shape → k ≡ length vs → old.plan.refused ≤ now.plan.refused → now.plan.refused ≤ new.plan.refused
-    → Lands (is_at target s) k s (limit - c) None now new
-    → LeadsToEnd (HasVisits limit (is_mark target) start vs old now c) (HasVisits limit (is_mark target) start (with_landing (is_at target s) c None vs) old new limit) s c
-HasVisits-end limit target start s c k vs old now new below shape number earlier later lands run r e at off q =
-    let w = HasVisits-step limit target start s c k vs old now new shape number earlier later lands run r e at q in record {
-      are = AreVisits-later limit run (is_mark target run) (with_landing (is_at target s) c None vs) (c + 1) limit w.are (omega arith) (λ m le l. goes_on_at-off target (run m) (off m (omega arith)));
-      serial = w.serial;
-    }
+-- the last step: the run has ended then, and has no mark
+pub HasVisits-end : (limit : ℕ) (target : Option ℕ) (start s : State) (c stop : ℕ) (vs : List Visit) (old now : Aid) → c < stop → stop ≤ limit
+    → LeadsToEnd (HasVisits limit (is_mark target) start vs old now stop) (HasVisits limit (is_mark target) start vs old now limit) s c
+HasVisits-end limit target start s c stop vs old now below within run r e at off q = record {
+  are = AreVisits-later limit run (is_mark target run) vs stop limit q.are within (λ m le l. goes_on_at-off target (run m) (off m (omega arith)));
+  serial = q.serial;
+}
 
--- the limit
-pub HasVisits-limit : (limit : ℕ) (target : Option ℕ) (start : State) (c : ℕ) (vs : List Visit) (old now : Aid) → c ≡ limit → (run : Course)
-    → HasVisits limit (is_mark target) start vs old now c run → HasVisits limit (is_mark target) start vs old now limit run
-HasVisits-limit limit target start c vs old now e run q = subst (λ n. HasVisits limit (is_mark target) start vs old now n run) e q
+-- where no address is set, up to any count
+pub HasVisits-none : (limit : ℕ) (target : Option ℕ) (start : State) (vs : List Visit) (old now : Aid) (a b : ℕ) → target ≡ None → (run : Course)
+    → HasVisits limit (is_mark target) start vs old now a run → HasVisits limit (is_mark target) start vs old now b run
+HasVisits-none limit target start vs old now a b none run q = record {
+  are = subst (λ t. AreVisits limit run (is_mark t run) vs b) (sym none) (AreVisits-none limit run vs a b (subst (λ t. AreVisits limit run (is_mark t run) vs a) none q.are));
+  serial = q.serial;
+}

@@ -12,10 +12,10 @@ use Rattle.asc_calls.specs.World.{CallState, Outside, World, world, DoesIo, MayC
 use Rattle.asc_calls.specs.Serving.{IsCutShort}
 use Rattle.asc_run.specs.declared.walk.Ended.{Ended}
 use Rattle.asc_run.specs.declared.walk.Ended.TheVariants.{Limit}
-use Rattle.asc_run.specs.Execution.{Position, Progress, On, Off, next_progress, progress, progress_after_step, run_of, first_position, exec, device_of}
+use Rattle.asc_run.specs.Execution.{Position, Progress, On, Off, next_progress, progress, progress_after_step, run_of, first_position, exec}
 use Rattle.asc_run.specs.Turn.{position_in, IsAt, Turns, TurnFails}
 use Rattle.asc_run.specs.Visits.{Course}
-use Rattle.asc_run.specs.Walk.{Follows, StopsAt, Goes}
+use Rattle.asc_run.specs.Walk.{Follows, StopsAt}
 use Rattle.asc_run.proofs.Shapes.{plain-shape}
 use Rattle.asc_run.proofs.Growth.{begins_at_call}
 
@@ -90,27 +90,33 @@ progress-turn Q low high start old now new n m d k ended r t e rest may =
     rw (first_position-then_io low start r.io t.io rest, r.same_low, r.same_high) before in
     subst (λ p. IsAt ended d (position_in new rest (then_io r.io t.io)) p) (sym same) (t.turn r.io rest may)
 
--- what a run had before a turn, over the bytes taken in it
-before-turn : (Q : Course → Type 0) (low high : ℕ) (start : State) (old now new : World) (n k : ℕ) (r : Reaches Q low high start old now n k) (x : Io) (rest : List ℕ) → MayCome now (x.taken ++ rest)
-    → (Q' : Course → Type 0) → ((run : Course) → run n ≡ On (position_in now (x.taken ++ rest) r.io) → Q run → Q' run)
-    → Q' (progress low high (first_position start low ((then_io r.io x).taken ++ rest)))
-before-turn Q low high start old now new n k r x rest may Q' more =
-    subst (λ p. Q' (progress low high p)) (sym (first_position-then_io low start r.io x rest))
-    (more (progress low high (first_position start low (r.io.taken ++ (x.taken ++ rest)))) (r.run (x.taken ++ rest) may) (r.says (x.taken ++ rest) may))
-
 -- a turn after which the program goes on
-pub Reaches-turn : (Q Q' : Course → Type 0) (low high : ℕ) (start : State) (old now new : World) (n d k : ℕ) → Reaches Q low high start old now n k → Turns now new n d None → Leads Q Q' now.state n
-    → Reaches Q' low high start old new d k
-Reaches-turn Q Q' low high start old now new n d k r t more = record {
+pub Reaches-turn : (Q : Course → Type 0) (low high : ℕ) (start : State) (old now new : World) (n d k : ℕ) → Reaches Q low high start old now n k → Turns now new n d None
+    → Reaches Q low high start old new d k
+Reaches-turn Q low high start old now new n d k r t = record {
   io = then_io r.io t.io;
   does = DoesIo-then_io old.outside now.outside new.outside r.io t.io r.does t.does;
   run = λ rest may. progress-turn Q low high start old now new n d d k None r t (t.one refl) rest may;
-  says = λ rest may. before-turn Q low high start old now new n k r t.io rest (t.came rest may) Q' (λ run at. more run _ refl at);
+  says = λ rest may. subst (λ p. Q (progress low high p)) (sym (first_position-then_io low start r.io t.io rest)) (r.says (t.io.taken ++ rest) (t.came rest may));
   known = t.known r.known;
   same_low = t.low ∙ r.same_low;
   same_high = t.high ∙ r.same_high;
   shape = t.shape ∙ r.shape;
   steps = omega (arith, t.one refl, t.steps, r.steps);
+}
+
+-- more that holds of the run
+pub Reaches-says : (Q Q' : Course → Type 0) (low high : ℕ) (start : State) (old now : World) (n k : ℕ) → Reaches Q low high start old now n k → Leads Q Q' now.state n → Reaches Q' low high start old now n k
+Reaches-says Q Q' low high start old now n k r more = record {
+  io = r.io;
+  does = r.does;
+  run = r.run;
+  says = λ rest may. more _ _ refl (r.run rest may) (r.says rest may);
+  known = r.known;
+  same_low = r.same_low;
+  same_high = r.same_high;
+  shape = r.shape;
+  steps = r.steps;
 }
 
 -- a jump of m plain steps
@@ -230,45 +236,3 @@ StopsAt-fails Q Q' limit old now new n k device r below t more =
       known = t.known r.known;
       steps = omega (arith, t.steps, r.steps);
     }
-
--- ---- the plain loop, of which nothing more is said
-
-abbrev Nothing : Course → Type 0
-Nothing _ = Unit {0}
-
--- a turn that ends it
-pub Goes-turn : (limit : ℕ) (old now new : World) (n d : ℕ) (ended : Ended) → Reaches Nothing old.calls.low old.calls.high old.state old now n 0 → n < limit
-    → (device_of ended ≡ None → Turns now new n d (Some ended)) → ((device : Device) → device_of ended ≡ Some device → TurnFails now new device) → ((device : Device) → device_of ended ≡ Some device → d ≡ n)
-    → Goes limit (λ _. Nothing) old new d 0 ended
-Goes-turn limit old now new n d ended r below turn fails count = record {
-  follows = λ h. Follows-turn Nothing Nothing limit old now new n d 0 ended r below (turn h) (λ _ _ _ _ _ _. tt);
-  stops = λ device h. subst (λ k. StopsAt limit Nothing old new k 0 device) (sym (count device h))
-      (StopsAt-fails Nothing Nothing limit old now new n 0 device r below (fails device h) (λ _ _ _ _ _. tt));
-}
-
--- its limit
-pub Goes-limit : (limit : ℕ) (old now : World) (n : ℕ) → Reaches Nothing old.calls.low old.calls.high old.state old now n 0 → n ≡ limit → Goes limit (λ _. Nothing) old now n 0 Limit
-Goes-limit limit old now n r e = record {
-  follows = λ _. Follows-limit Nothing Nothing limit old now n 0 r e (λ _ _. tt);
-  stops = λ device h. absurd (cc);
-}
-
--- what holds of each course holds of it
-pub Goes-says : (limit : ℕ) (Says : ℕ → Course → Type 0) (old new : World) (count skipped : ℕ) (ended : Ended) → ((to : ℕ) (run : Course) → Says to run) → Goes limit (λ _. Nothing) old new count skipped ended
-    → Goes limit Says old new count skipped ended
-Goes-says limit Says old new count skipped ended holds g = record {
-  follows = λ h. let f = g.follows h in
-      record { io = f.io; does = f.does; run = f.run; says = λ _ _. holds _ _; known = f.known; steps = f.steps };
-  stops = λ device h. let f = g.stops device h in record {
-    below = f.below;
-    io = f.io;
-    done = f.done;
-    does = f.does;
-    run = f.run;
-    says = λ _ _. holds _ _;
-    call = f.call;
-    begins = f.begins;
-    known = f.known;
-    steps = f.steps;
-  };
-}

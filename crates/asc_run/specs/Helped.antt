@@ -1,5 +1,5 @@
 -- What a walk does with its helper.
-use Rattle.std.specs.Prelude.{◌≡◌, ℕ, ◌+◌, ◌-◌, ◌*◌, ◌^◌, ◌≤◌, ◌<◌, Bool, true, false, List, [], ◌∷◌, length, Option, Some}
+use Rattle.std.specs.Prelude.{◌≡◌, ℕ, ◌+◌, ◌-◌, ◌*◌, ◌≤◌, ◌<◌, Bool, true, false, List, [], ◌∷◌, length, Option, Some}
 use Rattle.asc_model.specs.State.{State}
 use Rattle.asc_traj.specs.Finder.{Tally, Tells, Plan}
 use Rattle.asc_traj.specs.Serial.{Serial, serial_reply}
@@ -17,12 +17,12 @@ pub record Aid : Type 0 where
 abbrev pub aid : Tally → Option (List (Option ℕ)) → Plan → Option Serial → Aid
 aid tally replies plan machine = record { tally = tally; replies = replies; plan = plan; machine = machine }
 
--- its counts are so small that one walk may raise them
-pub record HasRoom (a : Aid) : Type 0 where
-  pub asked : a.tally.asked < 2 ^ 61
-  pub given : a.tally.given < 2 ^ 61
-  pub made : a.plan.made < 2 ^ 61
-  pub full : a.plan.full < 2 ^ 61
+-- its counts, of which those of what it gives and makes rise with each visit, are below a bound
+pub record HasRoom (bound : ℕ) (a : Aid) : Type 0 where
+  pub asked : a.tally.asked < bound
+  pub given : a.tally.given < bound
+  pub made : a.plan.made < bound
+  pub full : a.plan.full < bound
 
 -- guesses made, and those that found no room, never fall, and together rise by at most 128 a visit; refusals never fall
 pub record Plans (visits : ℕ) (old new : Plan) : Type 0 where

@@ -1,4 +1,4 @@
-ghost use Rattle.std.specs.Prelude.{◌≡◌, ◌≤◌, ◌<◌, ◌+◌, ◌-◌, ◌^◌, length, [], Some, None, false};
+ghost use Rattle.std.specs.Prelude.{◌≡◌, ◌≤◌, ◌<◌, ◌+◌, ◌^◌, length, [], Some, None, IsNone, false};
 
 use crate::helper::Helper;
 use crate::walk::Ended;
@@ -31,41 +31,17 @@ impl Process {
     ghost use Rattle.asc_run.specs.Turn.{Turns, TurnFails, device_of_turn};
     ghost use Rattle.asc_run.specs.Visits.{is_at, with_landing};
     ghost use Rattle.asc_run.specs.Helped.{aid, HasRoom, Helped, Lands};
-    ghost use Rattle.asc_run.specs.Walk.{tally, HasNotBegun, Goes, GoesHelped, IsRaisedBy};
+    ghost use Rattle.asc_run.specs.Walk.{tally, HasNotBegun, GoesHelped, IsRaisedBy};
 
-    /// Runs a program that has not begun until it ends, a device fails, or `limit` steps are done.
-    pub(crate) fn run<I: Source, O: Sink, E: Sink, L: Ledger>(
+    /// Runs a program that has not begun until it ends, a device fails, or `limit` steps are done or jumped over. Where
+    /// it stands at `pc`, the helper is visited, and asked for a jump.
+    ///
+    /// There is one loop for all, so that a step is inlined into it: where no address is set, it goes as the plain loop
+    /// does, with one comparison a step.
+    pub(crate) fn run<H: Helper, I: Source, O: Sink, E: Sink, L: Ledger>(
         &mut self,
         limit: u64,
-        input: &mut I,
-        out: &mut O,
-        err: &mut E,
-        steps: &mut Steps<L>,
-    ) -> Ended
-        requires { HasNotBegun self.old.count (tally self.old.asked self.old.skipped self.old.hits) self.old.calls }
-        ensures run { Goes limit (λ _ _. Unit {0})
-            (world self.old.state self.old.calls (I.left input.old) (O.given out.old) (E.given err.old) steps.old)
-            (world self.new.state self.new.calls (I.left input.new) (O.given out.new) (E.given err.new) steps.new)
-            self.new.count 0 result }
-        ensures tally { tally self.new.asked self.new.skipped self.new.hits ≡ tally 0 0 0 }
-        ensures limit { self.new.count ≤ limit }
-        ensures faults { BlamesOnly (device_of result)
-            (faults (I.faults input.old) (O.faults out.old) (E.faults err.old))
-            (faults (I.faults input.new) (O.faults out.new) (E.faults err.new)) }
-    {
-        while self.count < limit {
-            if let Some(ended) = self.turn(input, out, err, steps) {
-                return ended;
-            }
-        }
-        Ended::Limit
-    }
-
-    /// Runs it so with a helper, which is visited and asked for a jump wherever the program stands at `pc`.
-    pub(crate) fn walk<H: Helper, I: Source, O: Sink, E: Sink, L: Ledger>(
-        &mut self,
-        limit: u64,
-        pc: u32,
+        pc: Option<u32>,
         helper: &mut H,
         input: &mut I,
         out: &mut O,
@@ -75,9 +51,9 @@ impl Process {
         requires limit { limit ≤ 2 ^ 40 }
         requires start { HasNotBegun self.old.count (tally self.old.asked self.old.skipped self.old.hits)
             self.old.calls }
-        requires room { HasRoom
+        requires room { HasRoom (2 ^ 61)
             (aid (H.tally helper.old) (H.replies helper.old) (H.plan helper.old) (H.machine helper.old)) }
-        ensures walk { GoesHelped limit (Some pc)
+        ensures run { GoesHelped limit pc
             (world self.old.state self.old.calls (I.left input.old) (O.given out.old) (E.given err.old) steps.old)
             (world self.new.state self.new.calls (I.left input.new) (O.given out.new) (E.given err.new) steps.new)
             (aid (H.tally helper.old) (H.replies helper.old) (H.plan helper.old) (H.machine helper.old))
@@ -85,59 +61,60 @@ impl Process {
             self.new.count self.new.skipped result }
         ensures helper { IsRaisedBy (tally self.new.asked self.new.skipped self.new.hits)
             (H.tally helper.old) (H.tally helper.new) }
+        ensures unset { IsNone pc → helper.new ≡ helper.old }
         ensures limit { self.new.count ≤ limit }
         ensures skipped { self.new.skipped ≤ self.new.count }
         ensures faults { BlamesOnly (device_of result)
             (faults (I.faults input.old) (O.faults out.old) (E.faults err.old))
             (faults (I.faults input.new) (O.faults out.new) (E.faults err.new)) }
     {
-        while self.count < limit {
-            let left = limit - self.count;
-            match self.land(pc, helper, left) {
-                Some(n) => {
-                    self.count += n;
-                    self.skipped += n;
-                    self.hits += 1;
+        // Up to this count plain steps are taken, and there the program lands.
+        let mut stop = self.count;
+        loop {
+            if self.count < stop {
+                if let Some(ended) = self.turn(input, out, err, steps) {
+                    return ended;
                 }
-                None => {
-                    if let Some(ended) = self.turn(input, out, err, steps) {
-                        return ended;
-                    }
-                }
+            } else if self.count == limit {
+                return Ended::Limit;
+            } else if let Some(n) = self.land(pc, helper, limit - self.count) {
+                self.count += n;
+                self.skipped += n;
+                self.hits += 1;
+                stop = self.count;
+            } else {
+                stop = if pc.is_some() { self.count + 1 } else { limit };
             }
         }
-        Ended::Limit
     }
 
     /// Where the program stands at `pc`, tells the helper of its state, and asks for a jump.
-    fn land<H: Helper>(&mut self, pc: u32, helper: &mut H, left: u64) -> Option<u64>
+    fn land<H: Helper>(&mut self, pc: Option<u32>, helper: &mut H, left: u64) -> Option<u64>
         requires left { left ≤ 2 ^ 40 }
         requires number { self.old.asked < 2 ^ 40 }
-        requires asked { (H.tally helper.old).asked < 2 ^ 62 }
-        requires given { (H.tally helper.old).given < 2 ^ 62 }
-        requires made { (H.plan helper.old).made < 2 ^ 62 }
-        requires full { (H.plan helper.old).full < 2 ^ 62 }
+        requires room { HasRoom (2 ^ 62)
+            (aid (H.tally helper.old) (H.replies helper.old) (H.plan helper.old) (H.machine helper.old)) }
         ensures jump { IsJump result left self.old.state self.new.state }
-        ensures calls { self.new.calls ≡ self.old.calls }
-        ensures count { self.new.count ≡ self.old.count }
-        ensures skipped { self.new.skipped ≡ self.old.skipped }
-        ensures hits { self.new.hits ≡ self.old.hits }
-        ensures passed { is_at (Some pc) self.old.state ≡ false → result ≡ None }
+        ensures kept { self.new ≡ record self.old { state = self.new.state; asked = self.new.asked } }
+        ensures passed { is_at pc self.old.state ≡ false → result ≡ None }
+        ensures unset { IsNone pc → helper.new ≡ helper.old }
         ensures number { self.new.asked ≡ self.old.asked
-            + length (with_landing (is_at (Some pc) self.old.state) self.old.count result []) }
-        ensures helped { Helped (with_landing (is_at (Some pc) self.old.state) self.old.count result [])
+            + length (with_landing (is_at pc self.old.state) self.old.count result []) }
+        ensures helped { Helped (with_landing (is_at pc self.old.state) self.old.count result [])
             (aid (H.tally helper.old) (H.replies helper.old) (H.plan helper.old) (H.machine helper.old))
             (aid (H.tally helper.new) (H.replies helper.new) (H.plan helper.new) (H.machine helper.new)) }
-        ensures machine { Lands (is_at (Some pc) self.old.state) self.old.asked self.old.state left result
+        ensures machine { Lands (is_at pc self.old.state) self.old.asked self.old.state left result
             (aid (H.tally helper.old) (H.replies helper.old) (H.plan helper.old) (H.machine helper.old))
             (aid (H.tally helper.new) (H.replies helper.new) (H.plan helper.new) (H.machine helper.new)) }
     {
-        if self.state.pc() != pc {
-            return None;
+        match pc {
+            Some(pc) if self.state.pc() == pc => {
+                self.asked += 1;
+                helper.visit(&self.state, self.asked);
+                helper.jump(&mut self.state, left)
+            }
+            _ => None,
         }
-        self.asked += 1;
-        helper.visit(&self.state, self.asked);
-        helper.jump(&mut self.state, left)
     }
 
     /// One step, or one guest call. It answers how the run ended, if it did.

@@ -1,4 +1,4 @@
-ghost use Rattle.std.specs.Prelude.{◌≡◌, ◌<◌};
+ghost use Rattle.std.specs.Prelude.{◌≡◌, ◌<◌, ◌^◌};
 ghost use Rattle.asc_run.specs.Helped.{aid, HasRoom};
 
 use crate::{Bare, Counts, Ended, Helper, MOST_STEPS, Settings, Walk};
@@ -52,7 +52,7 @@ fn run<H: Helper, L: Ledger, R: Abort>(
     requires name { blank.name ≡ L.name }
     requires parts { blank.parts ≡ L.parts }
     requires some { 0 < L.parts }
-    requires room { HasRoom
+    requires room { HasRoom (2 ^ 61)
         (aid (H.tally helper.old) (H.replies helper.old) (H.plan helper.old) (H.machine helper.old)) }
 {
     assert!(rt; settings.limit <= MOST_STEPS);

@@ -137,7 +137,7 @@ impl Walk {
         err: &mut E,
         steps: &mut Steps<L>,
     ) -> Ended
-        requires { IsNone self.old.ended → HasRoom
+        requires { IsNone self.old.ended → HasRoom (2 ^ 61)
             (aid (H.tally helper.old) (H.replies helper.old) (H.plan helper.old) (H.machine helper.old)) }
 
         // The first call goes as plain execution does, or stops where a device failed. The helper's visits are those that
@@ -149,9 +149,10 @@ impl Walk {
             (aid (H.tally helper.new) (H.replies helper.new) (H.plan helper.new) (H.machine helper.new))
             self.new.count self.new.tally.given result }
 
-        // The helper's counts rise by the walk's.
+        // The helper's counts rise by the walk's. Where no address is set, the helper stays as it was.
         ensures helper { IsNone self.old.ended
             → IsRaisedBy self.new.tally (H.tally helper.old) (H.tally helper.new) }
+        ensures unset { IsNone self.old.settings.pc → helper.new ≡ helper.old }
         ensures limit { self.new.count ≤ self.old.settings.limit }
         ensures settings { self.new.settings ≡ self.old.settings }
         ensures kept { self.new.ended ≡ Some result }
@@ -169,13 +170,8 @@ impl Walk {
         if let Some(ended) = self.ended {
             return ended;
         }
-        let limit = self.settings.limit;
-        let ended = match self.settings.pc {
-            None => self.process.run(limit, input, out, err, steps),
-            Some(pc) => self
-                .process
-                .walk(limit, pc, helper, input, out, err, steps),
-        };
+        let Settings { limit, pc } = self.settings;
+        let ended = self.process.run(limit, pc, helper, input, out, err, steps);
         self.ended = Some(ended);
         ended
     }
