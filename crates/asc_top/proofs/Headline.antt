@@ -3,7 +3,7 @@ use Rattle.std.proofs.Common.{◌≡◌, ◌↔◌, ◌≢◌, ℕ, ◌+◌, ◌
 use Rattle.std.proofs.lemmas.List.{length-replicate}
 use Rattle.asc_shape.specs.Outside.{File, MayHold, MayHoldLonger, AsksFor}
 use Rattle.asc_calls.specs.GuestCall.{Device}
-use Rattle.asc_calls.specs.World.{Outside, Agrees}
+use Rattle.asc_calls.specs.World.{Agrees}
 use Rattle.asc_words.specs.Line.{line_of}
 use Rattle.asc_words.specs.declared.line.RunLine.{RunLine}
 use Rattle.asc_words.specs.declared.line.Line.{Line}
@@ -15,8 +15,8 @@ use Rattle.asc_words.specs.declared.answer.Bad.{Bad}
 use Rattle.asc_words.specs.Answer.{outcome_of}
 use Rattle.asc_run.specs.Faults.{BlamesOnly}
 use Rattle.asc_top.specs.Program.{file_limit, meaning, Gives, Means, HasFile, IsStopped}
-use Rattle.asc_top.specs.Kinds.{Finished, Completes, ComesOfFile, IsRefusal, kind_of, device_of_answer, device_of_kind}
-use Rattle.asc_top.specs.Answered.{Devices, IsHeld, IsTold, IsAnswerTo, AskForCounts, Headline}
+use Rattle.asc_top.specs.Kinds.{Finished, Completes, IsRefusal, kind_of, device_of_answer, device_of_kind}
+use Rattle.asc_top.specs.Answered.{Devices, IsHeld, IsAnswerTo, AskForCounts, Headline}
 use Rattle.asc_top.proofs.Causes.{runs-exit, runs-limit, runs-fault, image-is, usage-never, too_long-never, store_fault-never}
 use Rattle.asc_top.proofs.Outcomes.{means_long}
 

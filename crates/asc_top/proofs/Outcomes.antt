@@ -1,5 +1,5 @@
 -- What a walk did, as what its file means.
-use Rattle.std.proofs.Common.{◌≡◌, ◌↔◌, ℕ, ◌+◌, ◌≤◌, ◌<◌, Bool, true, false, Option, Some, None, List, [], ◌++◌, length, IsTrue, IsSome, MatchBool, Ok, Err, refl, sym, ◌∙◌, ap, subst, arith, append_assoc, inl, inr}
+use Rattle.std.proofs.Common.{◌≡◌, ◌↔◌, ℕ, ◌≤◌, ◌<◌, Bool, true, false, Option, Some, None, List, [], ◌++◌, length, IsTrue, IsSome, MatchBool, Ok, Err, refl, sym, ◌∙◌, ap, subst, arith, append_assoc, inl, inr}
 use Rattle.asc_shape.specs.Outside.{IsAtEnd, Given}
 use Rattle.asc_elf.specs.declared.fault.ElfFault.{ElfFault}
 use Rattle.asc_elf.specs.Image as loader

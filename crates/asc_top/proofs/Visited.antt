@@ -1,5 +1,5 @@
 -- The visits of a walk to which no jump was given are all the marks of its run.
-use Rattle.std.proofs.Common.{◌≡◌, ◌∙◌, ℕ, zero, suc, ◌+◌, ◌-◌, ◌≤◌, ◌<◌, Bool, cond, true, false, List, [], ◌∷◌, length, Option, Some, None, refl, sym, ap, subst, add-one, arith}
+use Rattle.std.proofs.Common.{◌≡◌, ◌∙◌, ℕ, zero, suc, ◌+◌, ◌-◌, ◌≤◌, true, false, List, [], ◌∷◌, length, Option, Some, None, refl, sym, ap, add-one, arith}
 use Rattle.std.specs.Prelude.{if◌then◌else◌}
 use Rattle.asc_traj.specs.Finder.{Tally, hits_of}
 use Rattle.asc_run.specs.Visits.{AreVisits, Course, HasNoMark, Visit, is_mark, landing, tally_of}

@@ -1,5 +1,5 @@
 -- What becomes of an outcome when its text is put to the report.
-use Rattle.std.specs.Prelude.{◌≡◌, ◌⊎◌, ℕ, List}
+use Rattle.std.specs.Prelude.{◌≡◌, ◌⊎◌, ℕ}
 use Rattle.asc_shape.specs.Outside.{Given, given_after, one_more}
 use Rattle.asc_calls.specs.Filling.{PutsPart}
 use Rattle.asc_words.specs.declared.answer.Answer.{Answer}

@@ -1,5 +1,5 @@
 -- What a file that is not too long was run as.
-use Rattle.std.proofs.Common.{◌≡◌, ◌↔◌, ℕ, ◌+◌, Option, Some, None, IsNone, IsSome, IsTrue, Ok, Err, refl, sym, ap, subst, arith, ◌∙◌}
+use Rattle.std.proofs.Common.{◌≡◌, ◌↔◌, ℕ, ◌+◌, Option, Some, None, IsNone, IsSome, IsTrue, refl, sym, ap, subst, arith, ◌∙◌}
 use Rattle.asc_calls.specs.GuestCall.{Device, nothing}
 use Rattle.asc_calls.specs.World.{outside}
 use Rattle.asc_traj.specs.Finder.{Tally}

@@ -1,5 +1,5 @@
 -- What holds of the answers of a file that was read, and of one that is too long.
-use Rattle.std.proofs.Common.{◌≡◌, ℕ, List, Ok, ap, subst, sym, arith, ◌∙◌}
+use Rattle.std.proofs.Common.{◌≡◌, ℕ, List, Ok, ap, subst, sym, arith}
 use Rattle.asc_shape.specs.Outside.{AsksFor, MayHold, MayHoldLonger}
 use Rattle.asc_calls.specs.World.{outside}
 use Rattle.asc_words.specs.declared.answer.Outcome.{Outcome}

@@ -1,4 +1,4 @@
-use Rattle.std.proofs.Common.{◌≡◌, ◌∙◌, ap, sym, Some, Ok, Bor, Option, option_map, List, ℕ}
+use Rattle.std.proofs.Common.{◌∙◌, ap, sym, Ok, Bor, Option, option_map, List, ℕ}
 use Rattle.asc_words.specs.Line.{address_of}
 use Rattle.asc_words.proofs.Addresses.{address_read}
 use Rattle.asc_words.proofs.line.address.Goals as goal

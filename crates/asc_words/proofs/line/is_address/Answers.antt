@@ -1,4 +1,4 @@
-use Rattle.std.proofs.Common.{◌≡◌, ◌∙◌, sym, rules, tests, arith}
+use Rattle.std.proofs.Common.{◌≡◌, ◌∙◌, sym, rules, tests}
 use Rattle.std.specs.Char.{is_ascii_hexdigit}
 use Rattle.std.specs.List.{list_all}
 use Rattle.std.proofs.lemmas.Iterator.Adapters.{YieldsList-from_bytes}

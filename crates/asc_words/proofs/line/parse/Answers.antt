@@ -1,10 +1,7 @@
-use Rattle.std.proofs.Common.{◌≡◌, ◌∙◌, List, Ok, Err, ap, sym, subst}
+use Rattle.std.proofs.Common.{◌∙◌, List, Err, ap, sym, subst}
 use Rattle.clap.specs.Walk.{Row}
-use Rattle.asc_words.specs.declared.line.Line.{Line}
-use Rattle.asc_words.specs.declared.line.Line.TheVariants.{Run}
-use Rattle.asc_words.specs.declared.line.RunLine.{RunLine}
 use Rattle.asc_words.specs.declared.line.LineFault.{LineFault}
-use Rattle.asc_words.specs.Line.{IsWithin, run_of}
+use Rattle.asc_words.specs.Line.{run_of}
 use Rattle.asc_words.specs.Rows.{IsRun}
 use Rattle.asc_words.proofs.Lines.{found, is_met, passed_up, refused_by, run_within, same_name, same_rows}
 use Rattle.asc_words.proofs.line.parse.Goals as goal

@@ -6,7 +6,7 @@ use Rattle.asc_words.specs.declared.line.Line.TheVariants.{Run}
 use Rattle.asc_words.specs.declared.line.RunLine.{RunLine}
 use Rattle.asc_words.specs.declared.line.LineFault.TheVariants as faults
 use Rattle.asc_words.specs.declared.answer.Bad.{Bad}
-use Rattle.asc_words.specs.Line.{address_of, flag_in, number_in, run_at, run_with, text_in, version_numbered}
+use Rattle.asc_words.specs.Line.{address_of, number_in, run_at, run_with, text_in, version_numbered}
 use Rattle.asc_words.proofs.Lines.{passed_up}
 use Rattle.asc_words.proofs.line.run_line.Goals as goal
 

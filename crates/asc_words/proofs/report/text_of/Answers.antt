@@ -1,5 +1,5 @@
-use Rattle.std.proofs.Common.{◌≡◌, append_assoc}
-use Rattle.asc_words.specs.Report.{report_text, answer_text, counts_text}
+use Rattle.std.proofs.Common.{append_assoc}
+use Rattle.asc_words.specs.Report.{report_text, counts_text}
 use Rattle.asc_words.proofs.report.text_of.Goals as goal
 
 pub returns-in-Some : goal.returns-in-Some
