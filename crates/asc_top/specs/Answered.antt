@@ -93,14 +93,15 @@ pub record IsAnswerTo (words : List (List ℕ)) (old new : Devices) (outcome : O
   -- TooLong: the file is longer than what is read.
   pub too_long : outcome.answer ≡ answers.TooLong
       → HasFile words old.files (λ line content. file_limit < length content)
-  -- Usage: that is wrong with the words. Where something is, it is outcome.answer, unless memory was wanting.
+  -- Usage: that is wrong with the words. Where something is, it is answered, unless memory was wanting.
   pub usage : (bad : Bad) → outcome.answer ≡ answers.Usage bad → line_of words ≡ Err bad
-  pub no_command : (bad : Bad) → line_of words ≡ Err bad → outcome.answer ≢ answers.Memory → outcome.answer ≡ answers.Usage bad
+  pub no_command : (bad : Bad) → line_of words ≡ Err bad → outcome.answer ≢ answers.Memory
+      → outcome.answer ≡ answers.Usage bad
   -- StoreFault: the store failed, and once. Else it did not.
   pub store_fault : Blames (outcome.answer ≡ answers.StoreFault) old.store_faults new.store_faults
   -- ReadFault, WriteFault and ErrFault: that device failed, and once. Every other did not.
   pub faults : BlamesOnly (device_of_answer outcome.answer) old.faults new.faults
-  -- ReportFault is outcome.answer in place of it.
+  -- ReportFault is answered in place of this answer, and is none.
   pub no_report_fault : outcome.answer ≢ answers.ReportFault
   -- the numbers of a run are told where the words ask for them and the guest came to an end, and else none are
   pub counts : IsSome outcome.counts ↔ (AskForCounts (line_of words) × (kind_of outcome.answer ≡ Finished))

@@ -37,7 +37,7 @@ run_of_image line image left = exec line.limit image.low (loader.high_of image) 
 abbrev pub course_of_image : loader.Image → (left : List ℕ) → Course
 course_of_image image left = progress image.low (loader.high_of image) (first_position image.start image.low left)
 
--- how often a run stands at an address, where one is set, after fewer steps than a limit
+-- at how many counts below a limit a run goes on and stands at an address, where one is set
 unfoldable pub visits_of : Option ℕ → Course → (limit : ℕ) → ℕ
 visits_of address run zero = 0
 visits_of address run (suc n) = visits_of address run n + (if is_mark address run n then 1 else 0)

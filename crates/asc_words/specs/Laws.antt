@@ -8,8 +8,8 @@ use Rattle.asc_words.specs.declared.line.Line.{Line}
 use Rattle.asc_words.specs.Line.{IsWithin, line_of, run_of}
 use Rattle.asc_words.specs.Rows.{IsRun}
 
--- The words name `run`, each of its arguments has its value, each number within its range, and the line, or what is wrong,
--- is made of these values.
+-- The words name `run`, each of its arguments has its value, each number within its range, and the line, or what is
+-- wrong, is made of these values.
 pub record HaveLine (words : List Text) : Type 0 where
   pub rows : List Row
   pub names : subcommand_of asc_command words ≡ Some (codes "run", rows)
