@@ -1,6 +1,6 @@
--- Values that are computed from the definitions: what the machine makes of the visits of a loop that counts x5 from 0 to
--- 4, two steps a lap, in a small memory.
-use Rattle.std.specs.Prelude.{◌≡◌, ℕ, zero, suc, ◌+◌, true, false, List, [], ◌∷◌, ◌++◌, map, replicate, Some, None}
+-- Values that are computed from the definitions: the visits of a loop that counts x5 from 0 to 4, two steps a lap, in a
+-- small memory, and what the machine makes of them.
+use Rattle.std.specs.Prelude.{◌≡◌, ℕ, zero, suc, ◌+◌, true, false, List, [], ◌∷◌, ◌++◌, map, replicate, Option, Some, None}
 use Rattle.std.specs.List.{flat_map}
 use Rattle.asc_model.specs.declared.version.Version.TheVariants.{One}
 use Rattle.asc_model.specs.Number.{bytes_of}
@@ -10,6 +10,9 @@ use Rattle.asc_model.specs.Step.{At}
 use Rattle.asc_model.specs.Plain.{plain}
 use Rattle.asc_model.specs.Entry.{Entry}
 use Rattle.asc_traj.specs.Serial.{Stride, Guessing, Serial, serial_reply}
+use Rattle.asc_run.specs.Execution.{progress, first_position}
+use Rattle.asc_run.specs.Visits.{Course, Visit, is_mark, AreVisits, replies_of, tally_of}
+use Rattle.asc_run.specs.Walk.{tally}
 use Rattle.asc_run.specs.Serial.{guess_of, targets_of, visited, made_at}
 
 abbrev pub code : List ℕ
@@ -77,3 +80,25 @@ pub record Both : Type 0 where
   pub reply2 : serial_reply (machine_after 2 both_two) (at_loop 1) 100 ≡ Some 2
   pub reply3 : serial_reply (machine_after 3 both_two) (at_loop 2) 100 ≡ Some 2
   pub reply4 : serial_reply (machine_after 4 both_two) (at_loop 3) 100 ≡ Some 4
+
+-- ---- visits
+
+-- how the program goes, with no input
+abbrev pub loop_run : Course
+loop_run = progress 0x11000 0x20000 (first_position (loop_state 0x10000 0 0) 0x11000 [])
+
+abbrev pub visit : ℕ → Option ℕ → Visit
+visit at reply = record { at = at; reply = reply }
+
+-- two visits without a jump, and then two with one; with 11 steps at most the last of these isn't taken
+abbrev pub four_visits : List Visit
+four_visits = visit 8 (Some 4) ∷ visit 6 (Some 2) ∷ visit 4 None ∷ visit 2 None ∷ []
+
+abbrev pub limited_visits : List Visit
+limited_visits = visit 8 None ∷ visit 6 (Some 2) ∷ visit 4 None ∷ visit 2 None ∷ []
+
+pub record Visits : Type 0 where
+  pub four : AreVisits 20 loop_run (is_mark (Some 0x10008) loop_run) four_visits 20
+  pub limited : AreVisits 11 loop_run (is_mark (Some 0x10008) loop_run) limited_visits 11
+  pub replies : replies_of four_visits ≡ None ∷ None ∷ Some 2 ∷ Some 4 ∷ []
+  pub counts : tally_of four_visits (tally 0 0 0) ≡ tally 4 6 2

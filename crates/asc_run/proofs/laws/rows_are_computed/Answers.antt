@@ -1,5 +1,5 @@
-use Rattle.asc_run.proofs.RowsHold.{laps, targets, strides, both}
-use Rattle.asc_run.proofs.laws.machine_is_computed.Goals as goal
+use Rattle.asc_run.proofs.RowsHold.{laps, targets, strides, both, visits}
+use Rattle.asc_run.proofs.laws.rows_are_computed.Goals as goal
 
 pub returns-clause-laps : goal.returns-clause-laps
 returns-clause-laps c = laps
@@ -12,3 +12,6 @@ returns-clause-strides c = strides
 
 pub returns-clause-both : goal.returns-clause-both
 returns-clause-both c = both
+
+pub returns-clause-visits : goal.returns-clause-visits
+returns-clause-visits c = visits
