@@ -1,5 +1,5 @@
 -- A walk so far: one landing more, one turn more, and the end.
-use Rattle.std.proofs.Common.{◌≡◌, ◌≤◌, ◌<◌, ◌+◌, ◌-◌, ◌^◌, ◌⊎◌, inl, inr, ℕ, false, List, [], length, Option, Some, None, refl, sym, ap, ◌∙◌, subst, arith}
+use Rattle.std.proofs.Common.{◌≡◌, ◌≤◌, ◌<◌, ◌+◌, ◌-◌, ◌^◌, ◌⊎◌, inl, inr, ℕ, false, List, [], length, Option, Some, None, sym, ap, ◌∙◌, subst, arith}
 use Rattle.asc_model.specs.State.{State}
 use Rattle.asc_traj.specs.Finder.{IsJump, Tally}
 use Rattle.asc_shape.specs.Outside.{Given}
@@ -12,7 +12,7 @@ use Rattle.asc_run.specs.Turn.{Turns, TurnFails}
 use Rattle.asc_run.specs.Visits.{Course, Visit, is_at, is_mark, with_landing}
 use Rattle.asc_run.specs.Helped.{Aid, HasRoom, Helped, Lands, HasVisits}
 use Rattle.asc_run.specs.Walk.{tally, GoesHelped, StopsAt, IsRaisedBy}
-use Rattle.asc_run.proofs.Reach.{Leads, Reaches, Reaches-first_position, Reaches-turn, Reaches-says, Reaches-jump, Follows-turn, Follows-limit, StopsAt-fails}
+use Rattle.asc_run.proofs.Reach.{Reaches, Reaches-first_position, Reaches-turn, Reaches-says, Reaches-jump, Follows-turn, Follows-limit, StopsAt-fails}
 use Rattle.asc_run.proofs.Landings.{Helped-none, Helped-more, number-more, HasVisits-first, HasVisits-step, HasVisits-jump, HasVisits-end, HasVisits-none}
 
 -- all that a walk says of a run up to a count

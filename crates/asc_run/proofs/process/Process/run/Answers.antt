@@ -1,8 +1,8 @@
 -- The program comes as far as plain execution, landing by landing and turn by turn, and ends where it does.
-use Rattle.std.proofs.Common.{Some, None, refl, sym, ap, ◌∙◌, arith, inl, inr}
+use Rattle.std.proofs.Common.{Some, None, refl, ap, ◌∙◌, arith, inl, inr}
 use Rattle.asc_run.specs.Visits.{is_at}
 use Rattle.asc_run.proofs.Landings.{asked-more, given-more, hits-more, landing-small}
-use Rattle.asc_run.proofs.Walking.{walk-first, walk-jump, walk-step, walk-none, walk-turn, walk-end, walk-limit}
+use Rattle.asc_run.proofs.Walking.{walk-first, walk-jump, walk-step, walk-turn, walk-end, walk-limit}
 use Rattle.asc_run.proofs.process.Process.run.Goals as goal
 
 pub loop-self-init : goal.loop-self-init
