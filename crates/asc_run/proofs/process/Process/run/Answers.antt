@@ -2,7 +2,7 @@
 use Rattle.std.proofs.Common.{Some, None, refl, ap, ◌∙◌, arith, inl, inr}
 use Rattle.asc_run.specs.Visits.{is_at}
 use Rattle.asc_run.proofs.Landings.{asked-more, given-more, hits-more, landing-small}
-use Rattle.asc_run.proofs.Walking.{walk-first, walk-jump, walk-step, walk-turn, walk-end, walk-limit}
+use Rattle.asc_run.proofs.Walking.{is_some-false, walk-first, walk-jump, walk-step, walk-none, walk-turn, walk-end, walk-limit}
 use Rattle.asc_run.proofs.process.Process.run.Goals as goal
 
 pub loop-self-init : goal.loop-self-init
@@ -111,6 +111,34 @@ loop-self-preserved-then-is_some g c =
       asked = (let x = v.asked in omega (arith, x, asked, e.number));
       hits = (let x = v.hits in omega (arith, x, hits, same_hits));
       visits = (let x = v.visits in omega (arith, x, e.number, small, count, here, no));
+      skips = (let x = v.skips in omega (arith, x, skipped, count));
+      hit = (let x = v.hit in omega (arith, x, same_hits, count));
+      unset = λ none. e.unset none ∙ v.unset none;
+      faults = v.faults;
+    }
+
+pub loop-self-preserved : goal.loop-self-preserved
+loop-self-preserved g c =
+    let v = c.loop-self.invariant in let e = c.in_default-land.ensures in
+    let here = v.here in let within = v.within in let no = c.if-self-stop.false in let below = c.if-self-limit.false in
+    let count = ap (λ p. p.count) e.kept in
+    let skipped = ap (λ p. p.skipped) e.kept in
+    let same_hits = ap (λ p. p.hits) e.kept in
+    let none = is_some-false c.args.pc c.if-is_some.ensures in
+    let b = is_at c.args.pc c.loop-self.self.state in
+    let small = landing-small b c.loop-self.self.count None in
+    let asked = asked-more b c.loop-self.self.count None _ _ e.helped in
+    let given = given-more b c.loop-self.self.count None _ _ (λ _. refl) e.helped in
+    let hits = hits-more b c.loop-self.self.count None _ _ (λ _. refl) e.helped in
+    record {
+      walk = walk-none _ c.args.pc _ _ _ _ _ _ _ _ _ none (walk-step _ c.args.pc _ _ _ _ _ _ _ _ _ _ _ _ _ _ _ _ _ _ (ap (λ p. p.calls) e.kept) count skipped _ (omega (arith, here, no)) e.jump v.walk e.number e.helped e.machine);
+      here = omega (arith, count, here, within);
+      within = omega arith;
+      near = inr none;
+      given = (let x = v.given in omega (arith, x, given, skipped));
+      asked = (let x = v.asked in omega (arith, x, asked, e.number));
+      hits = (let x = v.hits in omega (arith, x, hits, same_hits));
+      visits = (let x = v.visits in omega (arith, x, e.number, small, count, here, no, within, below));
       skips = (let x = v.skips in omega (arith, x, skipped, count));
       hit = (let x = v.hit in omega (arith, x, same_hits, count));
       unset = λ none. e.unset none ∙ v.unset none;
