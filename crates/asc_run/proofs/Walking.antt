@@ -1,5 +1,6 @@
 -- A walk so far: one landing more, one turn more, and the end.
 use Rattle.std.proofs.Common.{◌≡◌, ◌≤◌, ◌<◌, ◌+◌, ◌-◌, ◌^◌, ◌⊎◌, inl, inr, ℕ, false, List, [], length, Option, Some, None, refl, sym, ap, ◌∙◌, subst, arith}
+use Rattle.std.specs.Option.{is_some}
 use Rattle.asc_model.specs.State.{State}
 use Rattle.asc_traj.specs.Finder.{IsJump, Tally}
 use Rattle.asc_shape.specs.Outside.{Given}
@@ -12,7 +13,7 @@ use Rattle.asc_run.specs.Turn.{Turns, TurnFails}
 use Rattle.asc_run.specs.Visits.{Course, Visit, is_at, is_mark, with_landing}
 use Rattle.asc_run.specs.Helped.{Aid, HasRoom, Helped, Lands, HasVisits}
 use Rattle.asc_run.specs.Walk.{tally, GoesHelped, StopsAt, IsRaisedBy}
-use Rattle.asc_run.proofs.Reach.{Leads, Reaches, Reaches-first_position, Reaches-turn, Reaches-says, Reaches-jump, Follows-turn, Follows-limit, StopsAt-fails}
+use Rattle.asc_run.proofs.Reach.{Reaches, Reaches-first_position, Reaches-turn, Reaches-says, Reaches-jump, Follows-turn, Follows-limit, StopsAt-fails}
 use Rattle.asc_run.proofs.Landings.{Helped-none, Helped-more, number-more, HasVisits-first, HasVisits-step, HasVisits-jump, HasVisits-end, HasVisits-none}
 
 -- all that a walk says of a run up to a count
@@ -72,6 +73,11 @@ module _ (limit : ℕ) (target : Option ℕ) (old : World) (s t : State) (calls 
               (HasVisits-step limit target old.state s c number w.0 first now new r.shape w.2.0 w.1.plans.refused helped.plans.refused lands),
         ),
       )
+
+-- what is not set is none
+pub is_some-false : (address : Option ℕ) → false ≡ is_some address → address ≡ None
+is_some-false None e = refl
+is_some-false (Some a) e = cc
 
 -- where no address is set it lands at any count next
 pub walk-none : (limit : ℕ) (target : Option ℕ) (old now : World) (c stop stop' k number : ℕ) (first last : Aid) → target ≡ None → WalksOn limit target old now c stop k number first last → WalksOn limit target old now c stop' k number first last

@@ -17,7 +17,7 @@ pub record Aid : Type 0 where
 abbrev pub aid : Tally → Option (List (Option ℕ)) → Plan → Option Serial → Aid
 aid tally replies plan machine = record { tally = tally; replies = replies; plan = plan; machine = machine }
 
--- its counts, of which those of what it gives and makes rise with each visit, are below a bound
+-- the counts that a walk raises are below a bound
 pub record HasRoom (bound : ℕ) (a : Aid) : Type 0 where
   pub asked : a.tally.asked < bound
   pub given : a.tally.given < bound
@@ -65,15 +65,17 @@ KeepsMachine limit start visits old new run = (m : Serial) → old.machine ≡ S
     → (now : Serial) × (made : ℕ) × (new.machine ≡ Some now) × (now.shape ≡ m.shape)
     × (IsSerial limit run m visits now made × (new.plan.made ≡ old.plan.made + made))
 
--- All that a walk says of a run up to a count: these are its visits; and where its helper tells a machine, the replies and
--- the guesses are that machine's.
-pub record HasVisits (limit : ℕ) (mark : Course → ℕ → Bool) (start : State) (visits : List Visit) (old new : Aid) (to : ℕ) (run : Course) : Type 0 where
+-- All that a walk says of a run up to a count: these are its visits; and where its helper tells a machine, the replies
+-- and the guesses are that machine's.
+pub record HasVisits (limit : ℕ) (mark : Course → ℕ → Bool) (start : State) (visits : List Visit) (old new : Aid)
+    (to : ℕ) (run : Course) : Type 0 where
   pub are : AreVisits limit run (mark run) visits to
   pub serial : KeepsMachine limit start visits old new run
 
 -- What a landing in a state does with the helper's machine, where it is told. Where that is a visit, the machine's shape
 -- is the state's, and memory was not wanting, it went on by the state, and gave the reply.
-abbrev pub Lands : (is_visit : Bool) → (before : ℕ) → State → (left : ℕ) → (reply : Option ℕ) → (old new : Aid) → Type 0
+abbrev pub Lands : (is_visit : Bool) → (before : ℕ) → State → (left : ℕ) → (reply : Option ℕ) → (old new : Aid)
+    → Type 0
 Lands false before s left reply old new = (new.machine ≡ old.machine) × (new.plan ≡ old.plan)
 Lands true before s left reply old new = (m : Serial) → old.machine ≡ Some m → s.shape ≡ m.shape
     → new.plan.refused ≡ old.plan.refused → (new.machine ≡ Some (visited (before + 1) s m))

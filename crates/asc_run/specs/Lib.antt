@@ -6,3 +6,4 @@ pub mod Helped
 pub mod Faults
 pub mod Walk
 pub mod Laws
+pub mod Rows

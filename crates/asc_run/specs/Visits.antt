@@ -1,5 +1,5 @@
--- The marks that a walk leaves on the one plain run: the counts at which its helper is told of the state and asked for a
--- jump, each with the reply.
+-- The marks that a walk leaves on the one plain run: the counts at which its helper is told of the state and asked for
+-- a jump, each with the reply.
 use Rattle.std.specs.Prelude.{◌≡◌, ℕ, ◌+◌, ◌≤◌, ◌<◌, Bool, true, false, ◌==◌, List, [], ◌∷◌, ◌++◌, Option, Some, None}
 use Rattle.asc_model.specs.State.{State}
 use Rattle.asc_model.specs.Machine.{view_of}

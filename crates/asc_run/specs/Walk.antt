@@ -13,8 +13,8 @@ use Rattle.asc_run.specs.Execution.{Run, exec, Progress, progress, first_positio
 use Rattle.asc_run.specs.Visits.{Course, Visit, is_mark}
 use Rattle.asc_run.specs.Helped.{Aid, Helped, HasVisits}
 
--- A walk: where its program stands, its settings, the steps done or jumped over so far, what was asked for and given, and
--- how it has ended, once it has.
+-- A walk: where its program stands, its settings, the steps done or jumped over so far, what was asked for and given,
+-- and how it has ended, once it has.
 pub record Walk : Type 0 where
   pub state : State
   pub calls : CallState
@@ -61,7 +61,8 @@ progress_from w left n = progress w.calls.low w.calls.high (first_position w.sta
 -- From old to new a program went as plain execution does, up to a limit. What was taken and put is io: over the bytes
 -- taken, with whatever input may still come behind them, plain execution takes and puts just that, ends so after as many
 -- steps, and goes as is said. Of the steps so many were jumped over.
-pub record Follows (limit : ℕ) (Says : Course → Type 0) (old new : World) (count skipped : ℕ) (ended : Ended) : Type 0 where
+pub record Follows (limit : ℕ) (Says : Course → Type 0) (old new : World) (count skipped : ℕ) (ended : Ended)
+    : Type 0 where
   pub io : Io
   pub does : DoesIo old.outside new.outside io
   pub run : (rest : List ℕ) → MayCome new rest
@@ -70,11 +71,12 @@ pub record Follows (limit : ℕ) (Says : Course → Type 0) (old new : World) (c
   pub known : KnowsEnd new
   pub steps : new.steps + skipped ≡ old.steps + count
 
--- From old to new a program went as plain execution does for count steps, fewer than the limit, and then a device failed
--- in the call at which it stood. The steps took and put io, and what was done of the call is done: over the bytes taken,
--- with whatever input may still come behind them, plain execution limited to these steps takes and puts just io, and up
--- to the limit it begins with io and what was done. It goes as is said.
-pub record StopsAt (limit : ℕ) (Says : Course → Type 0) (old new : World) (count skipped : ℕ) (device : Device) : Type 0 where
+-- From old to new a program went as plain execution does for count steps, fewer than the limit, and then a device
+-- failed in the call at which it stood. The steps took and put io, and what was done of the call is done: over the bytes
+-- taken, with whatever input may still come behind them, plain execution limited to these steps takes and puts just io,
+-- and up to the limit it begins with io and what was done. It goes as is said.
+pub record StopsAt (limit : ℕ) (Says : Course → Type 0) (old new : World) (count skipped : ℕ) (device : Device)
+    : Type 0 where
   pub below : count < limit
   pub io : Io
   pub done : Io
@@ -92,13 +94,15 @@ pub record StopsAt (limit : ℕ) (Says : Course → Type 0) (old new : World) (c
 
 -- From old to new a program went as plain execution does, or stopped where a device failed. Of its run it is said what
 -- holds up to a count: the limit, or the count behind the failing call.
-pub record Goes (limit : ℕ) (Says : (to : ℕ) → Course → Type 0) (old new : World) (count skipped : ℕ) (ended : Ended) : Type 0 where
+pub record Goes (limit : ℕ) (Says : (to : ℕ) → Course → Type 0) (old new : World) (count skipped : ℕ) (ended : Ended)
+    : Type 0 where
   pub follows : device_of ended ≡ None → Follows limit (Says limit) old new count skipped ended
   pub stops : (device : Device) → device_of ended ≡ Some device
       → StopsAt limit (Says (count + 1)) old new count skipped device
 
 -- It went so with a helper, which was asked where the program stood at an address, and came from first to last.
-pub record GoesHelped (limit : ℕ) (address : Option ℕ) (old new : World) (first last : Aid) (count skipped : ℕ) (ended : Ended) : Type 0 where
+pub record GoesHelped (limit : ℕ) (address : Option ℕ) (old new : World) (first last : Aid) (count skipped : ℕ)
+    (ended : Ended) : Type 0 where
   pub visits : List Visit
   pub helped : Helped visits first last
   pub goes : Goes limit (HasVisits limit (is_mark address) old.state visits first last) old new count skipped ended

@@ -9,5 +9,5 @@ mod tests;
 mod walk;
 
 pub use helper::{Bare, Helper};
-pub use laws::{progress_is_plain, replies_determine_visits};
+pub use laws::{progress_is_plain, replies_determine_visits, rows_are_computed};
 pub use walk::{Counts, Ended, MOST_STEPS, Settings, Walk};

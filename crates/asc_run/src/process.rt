@@ -71,13 +71,15 @@ impl Process {
         // Up to this count plain steps are taken, and there the program lands.
         let mut stop = self.count;
         loop {
-            if self.count < stop {
+            while self.count < stop {
                 if let Some(ended) = self.turn(input, out, err, steps) {
                     return ended;
                 }
-            } else if self.count == limit {
+            }
+            if self.count == limit {
                 return Ended::Limit;
-            } else if let Some(n) = self.land(pc, helper, limit - self.count) {
+            }
+            if let Some(n) = self.land(pc, helper, limit - self.count) {
                 self.count += n;
                 self.skipped += n;
                 self.hits += 1;

@@ -98,7 +98,14 @@ fn runs(rt: HostRuntime) {
     ] {
         let mut helper = Bare::new(Nothing::new());
         let settings = Settings { limit, pc };
-        let got = run::<_, Brand, _>(&rt, rt.alloc(), Blank::new(1), &words, settings, &mut helper);
+        let got = run::<_, Brand, _>(
+            &rt,
+            rt.alloc(),
+            Blank::new(1),
+            &words,
+            settings,
+            &mut helper,
+        );
         let counts = Counts {
             count,
             executed: count,

@@ -140,8 +140,8 @@ impl Walk {
         requires { IsNone self.old.ended → HasRoom (2 ^ 61)
             (aid (H.tally helper.old) (H.replies helper.old) (H.plan helper.old) (H.machine helper.old)) }
 
-        // The first call goes as plain execution does, or stops where a device failed. The helper's visits are those that
-        // its replies leave on that run.
+        // The first call goes as plain execution does, or stops where a device failed. The helper's visits are those
+        // that its replies leave on that run.
         ensures first { IsNone self.old.ended → GoesHelped self.old.settings.limit self.old.settings.pc
             (world_of self.old (I.left input.old) (O.given out.old) (E.given err.old) steps.old)
             (world_of self.new (I.left input.new) (O.given out.new) (E.given err.new) steps.new)

@@ -1,5 +1,5 @@
 -- A walk goes and stops where its program does.
-use Rattle.std.proofs.Common.{◌≡◌, subst}
+use Rattle.std.proofs.Common.{subst}
 use Rattle.asc_calls.specs.World.{world}
 use Rattle.asc_run.specs.Helped.{aid}
 use Rattle.asc_run.specs.Walk.{Walk, world_of, GoesHelped}
