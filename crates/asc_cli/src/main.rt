@@ -5,13 +5,14 @@ ghost use Rattle.std.specs.Prelude.{◌≡◌, ◌≢◌, ◌⊎◌, ◌<◌, ma
 ghost use Rattle.std.specs.Process.{exit_status};
 ghost use Rattle.std.specs.String.{string_bytes};
 ghost use Rattle.asc_calls.specs.World.{outside};
-ghost use Rattle.asc_top.specs.Program.{Answer, devices};
-ghost use Rattle.asc_top.specs.Answer.{code_of};
-ghost use Rattle.asc_cli.specs.Status.{IsReported, IsStatus, IsStatusOver};
+ghost use Rattle.asc_top.specs.Answer.{code_of, outcome_of};
+ghost use Rattle.asc_top.specs.Answered.{devices};
+ghost use Rattle.asc_top.specs.Reported.{report_with};
+ghost use Rattle.asc_cli.specs.Status.{IsStatus, IsStatusOf, IsStatusOver};
 
 use asc_shape::{Gate, Open, Sink, Source, Steps, Store};
 use asc_streams::{FileStore, StreamSink, StreamSource};
-use asc_top::{Answer, Bad, reported, top};
+use asc_top::{Answer, Bad, Outcome, reported, top};
 use std::alloc::Global;
 use std::env;
 use std::io::ErrorKind;
@@ -47,10 +48,10 @@ fn words(rt: &HostRuntime) -> Result<Vec<String>, Answer>
 /// Reports an answer to words that were not read, and gives the exit status.
 fn refuse<R: Sink>(refusal: Answer, report: &mut R) -> ExitCode
     requires { refusal ≢ Answer.ReportFault }
-    ensures { IsReported (record { given = R.given report.old; faults = R.faults report.old })
-        (record { given = R.given report.new; faults = R.faults report.new }) refusal (exit_status result) }
+    ensures { IsStatusOf (report_with (R.given report.old) (R.faults report.old))
+        (report_with (R.given report.new) (R.faults report.new)) (outcome_of refusal) (exit_status result) }
 {
-    ExitCode::from(reported(refusal, report).code())
+    ExitCode::from(reported(Outcome::of(refusal), report).code())
 }
 
 /// Runs the words over the system, and gives the exit status. The ledger is the one that counts the guest's steps.
@@ -85,7 +86,7 @@ fn status<F: Store, I: Source, O: Sink, E: Sink, R: Sink, G: Gate, L: Ledger>(
     gate: &G,
     steps: &mut Steps<L>,
 ) -> ExitCode
-    // All that holds of the program's answer holds of the one whose code is the status.
+    // All that the program promises holds of an outcome, whose answer, or ReportFault, has the status as its code.
     ensures { IsStatus (map string_bytes words.now)
         (devices (F.files store.old) (F.asked store.old)
         (outside (I.left input.old) (O.given out.old) (E.given err.old) steps.old)
@@ -93,8 +94,8 @@ fn status<F: Store, I: Source, O: Sink, E: Sink, R: Sink, G: Gate, L: Ledger>(
         (devices (F.files store.new) (F.asked store.new)
         (outside (I.left input.new) (O.given out.new) (E.given err.new) steps.new)
         (F.faults store.new) (I.faults input.new) (O.faults out.new) (E.faults err.new))
-        (record { given = R.given report.old; faults = R.faults report.old })
-        (record { given = R.given report.new; faults = R.faults report.new }) (exit_status result) }
+        (report_with (R.given report.old) (R.faults report.old))
+        (report_with (R.given report.new) (R.faults report.new)) (exit_status result) }
 {
     ExitCode::from(top(alloc, words, store, input, out, err, report, gate, steps).code())
 }

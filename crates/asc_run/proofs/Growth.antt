@@ -5,7 +5,7 @@ use Rattle.asc_model.specs.Step.{Next, At, Call, Bad, next}
 use Rattle.asc_calls.specs.GuestCall.{Io, nothing, then_io, IsBeginning, Device, Input, Out, Err, io_of, guest_call}
 use Rattle.asc_calls.specs.GuestCall as called
 use Rattle.asc_calls.specs.Serving.{IsCutShort}
-use Rattle.asc_run.specs.Execution.{Position, Progress, On, Off, progress_after_call, progress_after_step, next_progress, progress, run_of, exec}
+use Rattle.asc_run.specs.Execution.{Position, Progress, On, Off, progress_after_call, progress_after_step, next_progress, progress, run_of}
 
 -- nothing more behind an io
 pub then_io-nothing : (io : Io) → then_io io nothing ≡ io

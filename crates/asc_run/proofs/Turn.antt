@@ -15,6 +15,7 @@ use Rattle.asc_run.specs.declared.walk.Ended.{Ended}
 use Rattle.asc_run.specs.declared.walk.Ended.TheVariants as ends
 use Rattle.asc_run.specs.Execution.{On, progress_after_step, progress_after_call}
 use Rattle.asc_run.specs.Turn.{position_in, IsAt, Turns, TurnFails, device_of_turn}
+use Rattle.asc_run.proofs.Shapes.{next-shape}
 use Rattle.asc_run.proofs.Growth.{then_io-nothing}
 use Rattle.asc_run.proofs.Reach.{DoesIo-nothing}
 
@@ -36,6 +37,7 @@ Turns-at s t calls left out err n k e = record {
   known = λ known. known;
   low = refl;
   high = refl;
+  shape = next-shape s t e;
   steps = omega arith;
   most = omega arith;
   one = λ _. refl;
@@ -56,6 +58,7 @@ Turns-bad s calls left out err n k fault e = record {
   known = λ known. known;
   low = refl;
   high = refl;
+  shape = refl;
   steps = omega arith;
   most = omega arith;
   one = λ h. absurd (cc);
@@ -146,6 +149,7 @@ Turns-call old new answer k h e s = record {
   known = s.known;
   low = s.low;
   high = s.high;
+  shape = s.shape;
   steps = omega (arith, s.steps, steps_of-one answer h);
   most = omega arith;
   one = λ _. refl;

@@ -35,6 +35,7 @@ pub record Turns (old new : World) (before done : ℕ) (ended : Option Ended) : 
   pub known : KnowsEnd old → KnowsEnd new
   pub low : new.calls.low ≡ old.calls.low
   pub high : new.calls.high ≡ old.calls.high
+  pub shape : new.state.shape ≡ old.state.shape
   pub steps : new.steps + before ≡ old.steps + done
   pub most : done ≤ before + 1
   pub one : IsNone ended → done ≡ before + 1

@@ -1,35 +1,48 @@
 -- What a walk does to the world.
-use Rattle.std.specs.Prelude.{◌≡◌, ℕ, ◌+◌, ◌<◌, List, ◌++◌, Option, None, false}
+use Rattle.std.specs.Prelude.{◌≡◌, ℕ, ◌+◌, ◌<◌, List, ◌++◌, Option, Some, None, false}
 use Rattle.asc_model.specs.State.{State}
 use Rattle.asc_outside.specs.Outside.{Given}
 use Rattle.asc_elf.specs.Image.{Image, high_of}
 use Rattle.asc_calls.specs.GuestCall.{Io, then_io, IsBeginning, Device}
 use Rattle.asc_calls.specs.World.{CallState, World, world, DoesIo, MayCome, KnowsEnd}
+use Rattle.asc_traj.specs.Finder.{Tally}
 use Rattle.asc_run.specs.declared.walk.Ended.{Ended}
+use Rattle.asc_run.specs.declared.walk.Settings.{Settings}
 use Rattle.asc_run.specs.declared.walk.Ended.TheVariants.{Limit}
-use Rattle.asc_run.specs.Execution.{Run, exec, Progress, progress, first_position, StandsAtFailure}
+use Rattle.asc_run.specs.Execution.{Run, exec, Progress, progress, first_position, device_of, StandsAtFailure}
+use Rattle.asc_run.specs.Visits.{Course, Visit, is_mark}
+use Rattle.asc_run.specs.Helped.{Aid, Helped, HasVisits}
 
--- A walk: where its program stands, its limit, the steps done so far, and how it has ended, once it has.
+-- A walk: where its program stands, its settings, the steps done or jumped over so far, what was asked for and given,
+-- and how it has ended, once it has.
 pub record Walk : Type 0 where
   pub state : State
   pub calls : CallState
-  pub limit : ℕ
+  pub settings : Settings
   pub count : ℕ
+  -- the visits, the steps jumped over, and the jumps
+  pub tally : Tally
   pub ended : Option Ended
 
+-- a tally, from its three numbers
+abbrev pub tally : (asked given hits : ℕ) → Tally
+tally asked given hits = record { asked = asked; given = given; hits = hits }
+
 -- a program that has done no step, whose break stands at low, and which has not found the end of its input
-pub record HasNotBegun (count : ℕ) (calls : CallState) : Type 0 where
+pub record HasNotBegun (count : ℕ) (t : Tally) (calls : CallState) : Type 0 where
   pub none : count ≡ 0
+  pub none_told : t ≡ tally 0 0 0
   pub brk : calls.brk ≡ calls.low
   pub going : calls.ended ≡ false
 
 -- a walk that has not begun
-abbrev pub new_walk : Image → ℕ → Walk
-new_walk image limit = record {
+abbrev pub new_walk : Image → Settings → Walk
+new_walk image settings = record {
   state = image.start;
   calls = record { low = image.low; high = high_of image; brk = image.low; ended = false };
-  limit = limit;
+  settings = settings;
   count = 0;
+  tally = tally 0 0 0;
   ended = None;
 }
 
@@ -46,31 +59,60 @@ abbrev pub progress_from : World → List ℕ → (n : ℕ) → Progress
 progress_from w left n = progress w.calls.low w.calls.high (first_position w.state w.calls.low left) n
 
 -- From old to new a program went as plain execution does, up to a limit. What was taken and put is io: over the bytes
--- taken, with whatever input may still come behind them, plain execution takes and puts just that, and ends so after as
--- many steps.
-pub record Follows (limit : ℕ) (old new : World) (count : ℕ) (ended : Ended) : Type 0 where
+-- taken, with whatever input may still come behind them, plain execution takes and puts just that, ends so after as many
+-- steps, and goes as is said. Of the steps so many were jumped over.
+pub record Follows (limit : ℕ) (Says : Course → Type 0) (old new : World) (count skipped : ℕ) (ended : Ended)
+    : Type 0 where
   pub io : Io
   pub does : DoesIo old.outside new.outside io
   pub run : (rest : List ℕ) → MayCome new rest
       → run_from limit old (io.taken ++ rest) ≡ record { ended = ended; count = count; io = io }
+  pub says : (rest : List ℕ) → MayCome new rest → Says (progress_from old (io.taken ++ rest))
   pub known : KnowsEnd new
-  pub steps : new.steps ≡ old.steps + count
+  pub steps : new.steps + skipped ≡ old.steps + count
 
--- From old to new a program went as plain execution does for count steps, fewer than the limit, and then a device failed
--- in the call at which it stood. The steps took and put io, and what was done of the call is done: over the bytes taken,
--- with whatever input may still come behind them, plain execution limited to these steps takes and puts just io, and up
--- to the limit it begins with io and what was done.
-pub record StopsAt (limit : ℕ) (old new : World) (count : ℕ) (device : Device) : Type 0 where
+-- From old to new a program went as plain execution does for count steps, fewer than the limit, and then a device
+-- failed in the call at which it stood. The steps took and put io, and what was done of the call is done: over the bytes
+-- taken, with whatever input may still come behind them, plain execution limited to these steps takes and puts just io,
+-- and up to the limit it begins with io and what was done. It goes as is said.
+pub record StopsAt (limit : ℕ) (Says : Course → Type 0) (old new : World) (count skipped : ℕ) (device : Device)
+    : Type 0 where
   pub below : count < limit
   pub io : Io
   pub done : Io
   pub does : DoesIo old.outside new.outside (then_io io done)
   pub run : (rest : List ℕ) → MayCome new rest
       → run_from count old (io.taken ++ (done.taken ++ rest)) ≡ record { ended = Limit; count = count; io = io }
+  pub says : (rest : List ℕ) → MayCome new rest → Says (progress_from old (io.taken ++ (done.taken ++ rest)))
   pub call : (rest : List ℕ) → MayCome new rest
       → StandsAtFailure old.calls.low old.calls.high device done
       (progress_from old (io.taken ++ (done.taken ++ rest)) count)
   pub begins : (rest : List ℕ) → MayCome new rest
       → IsBeginning (then_io io done) (run_from limit old (io.taken ++ (done.taken ++ rest))).io
   pub known : KnowsEnd new
-  pub steps : new.steps ≡ old.steps + count
+  pub steps : new.steps + skipped ≡ old.steps + count
+
+-- From old to new a program went as plain execution does, or stopped where a device failed. Of its run it is said what
+-- holds up to a count: the limit, or the count behind the failing call.
+pub record Goes (limit : ℕ) (Says : (to : ℕ) → Course → Type 0) (old new : World) (count skipped : ℕ) (ended : Ended)
+    : Type 0 where
+  pub follows : device_of ended ≡ None → Follows limit (Says limit) old new count skipped ended
+  pub stops : (device : Device) → device_of ended ≡ Some device
+      → StopsAt limit (Says (count + 1)) old new count skipped device
+
+-- It went so with a helper, which was asked where the program stood at an address, and came from first to last.
+pub record GoesHelped (limit : ℕ) (address : Option ℕ) (old new : World) (first last : Aid) (count skipped : ℕ)
+    (ended : Ended) : Type 0 where
+  pub visits : List Visit
+  pub helped : Helped visits first last
+  pub goes : Goes limit (HasVisits limit (is_mark address) old.state visits first last) old new count skipped ended
+
+-- a helper's counts rose by those of a walk
+abbrev pub IsRaisedBy : Tally → (old new : Tally) → Type 0
+IsRaisedBy walk old new =
+    new ≡ tally (old.asked + walk.asked) (old.given + walk.given) (old.hits + walk.hits)
+
+-- the device that failed in a call of go, where one did: none does once a walk has ended
+abbrev pub device_in : (before : Option Ended) → Ended → Option Device
+device_in None ended = device_of ended
+device_in (Some earlier) ended = None

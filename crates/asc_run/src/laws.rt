@@ -1,11 +1,28 @@
-//! The laws that tie plain execution to the steps of the machine. Each function stands for the law that it ensures, and
-//! does nothing.
+//! The laws that tie plain execution to the steps of the machine, and a walk's visits to its helper's replies. Each
+//! function stands for the laws that it ensures, and does nothing.
 
-ghost use Rattle.asc_run.specs.Laws.{ProgressIsPlain};
+ghost use Rattle.asc_run.specs.Laws.{ProgressIsPlain, RepliesDetermineVisits};
+ghost use Rattle.asc_run.specs.Rows.{Laps, Targets, Strides, Both, Visits};
 
 /// Plain execution without guest calls is plain steps: where `n` plain steps of the state at which a program stands
 /// reach a state, the program comes to that state in `n` steps. It goes on there, its break and the input still to come
 /// are what they were, and it has taken and put nothing more.
 pub fn progress_is_plain()
     ensures { ProgressIsPlain }
+{}
+
+/// A list of replies is that of one walk: where the visits up to a count, and those up to another, have the same
+/// replies, they are the same visits.
+pub fn replies_determine_visits()
+    ensures { RepliesDetermineVisits }
+{}
+
+/// A loop that counts, computed from the definitions: its visits for some replies, and what the machine of a run without
+/// workers makes of its visits, which are the visits guessed, the entries and the replies.
+pub fn rows_are_computed()
+    ensures visits { Visits }
+    ensures laps { Laps }
+    ensures targets { Targets }
+    ensures strides { Strides }
+    ensures both { Both }
 {}

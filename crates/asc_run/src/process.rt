@@ -1,5 +1,6 @@
-ghost use Rattle.std.specs.Prelude.{◌≡◌, ◌≤◌, ◌<◌, ◌+◌, ◌^◌, Some, None, false};
+ghost use Rattle.std.specs.Prelude.{◌≡◌, ◌≤◌, ◌<◌, ◌+◌, ◌^◌, length, [], Some, None, IsNone, false};
 
+use crate::helper::Helper;
 use crate::walk::Ended;
 use asc_calls::{Calls, Served};
 use asc_shape::{Sink, Source, State, Steps};
@@ -11,48 +12,111 @@ use std::sync::ledger::Ledger;
 pub(crate) struct Process {
     pub(crate) state: State,
     pub(crate) calls: Calls,
-    /// Steps done.
+    /// Steps done and steps jumped over.
     pub(crate) count: u64,
+    /// Steps jumped over.
+    pub(crate) skipped: u64,
+    /// Visits, at each of which a jump was asked for.
+    pub(crate) asked: u64,
+    /// Jumps.
+    pub(crate) hits: u64,
 }
 
 impl Process {
     ghost use Rattle.asc_calls.specs.GuestCall.{Device};
-    ghost use Rattle.asc_calls.specs.World.{Blames, world};
+    ghost use Rattle.asc_calls.specs.World.{world};
+    ghost use Rattle.asc_traj.specs.Finder.{IsJump};
     ghost use Rattle.asc_run.specs.Execution.{device_of};
+    ghost use Rattle.asc_run.specs.Faults.{faults, BlamesOnly};
     ghost use Rattle.asc_run.specs.Turn.{Turns, TurnFails, device_of_turn};
-    ghost use Rattle.asc_run.specs.Walk.{Follows, StopsAt};
+    ghost use Rattle.asc_run.specs.Visits.{is_at, with_landing};
+    ghost use Rattle.asc_run.specs.Helped.{aid, HasRoom, Helped, Lands};
+    ghost use Rattle.asc_run.specs.Walk.{tally, HasNotBegun, GoesHelped, IsRaisedBy};
 
-    /// Runs a program that has not begun until it ends, a device fails, or `limit` steps are done.
-    pub(crate) fn run<I: Source, O: Sink, E: Sink, L: Ledger>(
+    /// Runs a program that has not begun until it ends, a device fails, or `limit` steps are done or jumped over. Where
+    /// it stands at `pc`, the helper is visited, and asked for a jump.
+    ///
+    /// There is one loop for all, so that a step is inlined into it: where no address is set, it goes as the plain loop
+    /// does, with one comparison a step.
+    pub(crate) fn run<H: Helper, I: Source, O: Sink, E: Sink, L: Ledger>(
         &mut self,
         limit: u64,
+        pc: Option<u32>,
+        helper: &mut H,
         input: &mut I,
         out: &mut O,
         err: &mut E,
         steps: &mut Steps<L>,
     ) -> Ended
-        requires count { self.old.count ≡ 0 }
-        requires brk { self.old.calls.brk ≡ self.old.calls.low }
-        requires ended { self.old.calls.ended ≡ false }
-        ensures run { device_of result ≡ None → Follows limit
+        requires limit { limit ≤ 2 ^ 40 }
+        requires start { HasNotBegun self.old.count (tally self.old.asked self.old.skipped self.old.hits)
+            self.old.calls }
+        requires room { HasRoom (2 ^ 61)
+            (aid (H.tally helper.old) (H.replies helper.old) (H.plan helper.old) (H.machine helper.old)) }
+        ensures run { GoesHelped limit pc
             (world self.old.state self.old.calls (I.left input.old) (O.given out.old) (E.given err.old) steps.old)
             (world self.new.state self.new.calls (I.left input.new) (O.given out.new) (E.given err.new) steps.new)
-            self.new.count result }
-        ensures stops { (device : Device) → device_of result ≡ Some device → StopsAt limit
-            (world self.old.state self.old.calls (I.left input.old) (O.given out.old) (E.given err.old) steps.old)
-            (world self.new.state self.new.calls (I.left input.new) (O.given out.new) (E.given err.new) steps.new)
-            self.new.count device }
+            (aid (H.tally helper.old) (H.replies helper.old) (H.plan helper.old) (H.machine helper.old))
+            (aid (H.tally helper.new) (H.replies helper.new) (H.plan helper.new) (H.machine helper.new))
+            self.new.count self.new.skipped result }
+        ensures helper { IsRaisedBy (tally self.new.asked self.new.skipped self.new.hits)
+            (H.tally helper.old) (H.tally helper.new) }
+        ensures unset { IsNone pc → helper.new ≡ helper.old }
         ensures limit { self.new.count ≤ limit }
-        ensures input_faults { Blames (result ≡ Ended.ReadFault) (I.faults input.old) (I.faults input.new) }
-        ensures out_faults { Blames (result ≡ Ended.WriteFault) (O.faults out.old) (O.faults out.new) }
-        ensures err_faults { Blames (result ≡ Ended.ErrFault) (E.faults err.old) (E.faults err.new) }
+        ensures skipped { self.new.skipped ≤ self.new.count }
+        ensures faults { BlamesOnly (device_of result)
+            (faults (I.faults input.old) (O.faults out.old) (E.faults err.old))
+            (faults (I.faults input.new) (O.faults out.new) (E.faults err.new)) }
     {
-        while self.count < limit {
-            if let Some(ended) = self.turn(input, out, err, steps) {
-                return ended;
+        // Up to this count plain steps are taken, and there the program lands.
+        let mut stop = self.count;
+        loop {
+            while self.count < stop {
+                if let Some(ended) = self.turn(input, out, err, steps) {
+                    return ended;
+                }
+            }
+            if self.count == limit {
+                return Ended::Limit;
+            }
+            if let Some(n) = self.land(pc, helper, limit - self.count) {
+                self.count += n;
+                self.skipped += n;
+                self.hits += 1;
+                stop = self.count;
+            } else {
+                stop = if pc.is_some() { self.count + 1 } else { limit };
             }
         }
-        Ended::Limit
+    }
+
+    /// Where the program stands at `pc`, tells the helper of its state, and asks for a jump.
+    fn land<H: Helper>(&mut self, pc: Option<u32>, helper: &mut H, left: u64) -> Option<u64>
+        requires left { left ≤ 2 ^ 40 }
+        requires number { self.old.asked < 2 ^ 40 }
+        requires room { HasRoom (2 ^ 62)
+            (aid (H.tally helper.old) (H.replies helper.old) (H.plan helper.old) (H.machine helper.old)) }
+        ensures jump { IsJump result left self.old.state self.new.state }
+        ensures kept { self.new ≡ record self.old { state = self.new.state; asked = self.new.asked } }
+        ensures passed { is_at pc self.old.state ≡ false → result ≡ None }
+        ensures unset { IsNone pc → helper.new ≡ helper.old }
+        ensures number { self.new.asked ≡ self.old.asked
+            + length (with_landing (is_at pc self.old.state) self.old.count result []) }
+        ensures helped { Helped (with_landing (is_at pc self.old.state) self.old.count result [])
+            (aid (H.tally helper.old) (H.replies helper.old) (H.plan helper.old) (H.machine helper.old))
+            (aid (H.tally helper.new) (H.replies helper.new) (H.plan helper.new) (H.machine helper.new)) }
+        ensures machine { Lands (is_at pc self.old.state) self.old.asked self.old.state left result
+            (aid (H.tally helper.old) (H.replies helper.old) (H.plan helper.old) (H.machine helper.old))
+            (aid (H.tally helper.new) (H.replies helper.new) (H.plan helper.new) (H.machine helper.new)) }
+    {
+        match pc {
+            Some(pc) if self.state.pc() == pc => {
+                self.asked += 1;
+                helper.visit(&self.state, self.asked);
+                helper.jump(&mut self.state, left)
+            }
+            _ => None,
+        }
     }
 
     /// One step, or one guest call. It answers how the run ended, if it did.
@@ -73,9 +137,12 @@ impl Process {
             (world self.new.state self.new.calls (I.left input.new) (O.given out.new) (E.given err.new) steps.new)
             device }
         ensures count { (device : Device) → device_of_turn result ≡ Some device → self.new.count ≡ self.old.count }
-        ensures input_faults { Blames (result ≡ Some Ended.ReadFault) (I.faults input.old) (I.faults input.new) }
-        ensures out_faults { Blames (result ≡ Some Ended.WriteFault) (O.faults out.old) (O.faults out.new) }
-        ensures err_faults { Blames (result ≡ Some Ended.ErrFault) (E.faults err.old) (E.faults err.new) }
+        ensures grows { self.old.count ≤ self.new.count }
+        ensures tally { tally self.new.asked self.new.skipped self.new.hits
+            ≡ tally self.old.asked self.old.skipped self.old.hits }
+        ensures faults { BlamesOnly (device_of_turn result)
+            (faults (I.faults input.old) (O.faults out.old) (E.faults err.old))
+            (faults (I.faults input.new) (O.faults out.new) (E.faults err.new)) }
     {
         match step(&mut self.state, steps) {
             Stepped::Went => {

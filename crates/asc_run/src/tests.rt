@@ -1,57 +1,78 @@
-ghost use Rattle.std.specs.Prelude.{◌≡◌, ◌≤◌, ◌<◌, ◌^◌};
+ghost use Rattle.std.specs.Prelude.{◌≡◌, ◌<◌, ◌^◌};
+ghost use Rattle.asc_run.specs.Helped.{aid, HasRoom};
 
-use crate::{Counts, Ended, Settings, Walk};
+use crate::{Bare, Counts, Ended, Helper, MOST_STEPS, Settings, Walk};
+use asc_depvec::Tracer;
 use asc_elf::read;
-use asc_shape::{CountSink, Steps, SureSource, Version};
+use asc_shape::{CountSink, Shape, State, Steps, SureSource, Version};
 use asc_step::{Fault, FaultKind};
+use asc_traj::{Entry, Finder, ListFinder, Never, Noted, Nothing, Stop, trace};
 use std::alloc::Global;
 use std::marker::Brand;
 use std::process::Abort;
+use std::sync::Arc;
 use std::sync::ledger::{Blank, Ledger};
 
-/// An executable whose three words from 0x10000 on, which begin at byte 84 and of which the third is 0x00000073, are
-/// ADDI x17, x0, 93; ADDI x10, x0, 7; ECALL.
-const FIRST: [u8; 96] = [
+/// An executable but for its code, of 28 bytes, which is loaded and entered at 0x10000.
+const HEAD: [u8; 84] = [
     0x7F, 0x45, 0x4C, 0x46, 0x01, 0x01, 0x01, 0x00, 0x00, 0x00, 0x00, 0x00, 0x00, 0x00, 0x00, 0x00,
     0x02, 0x00, 0xF3, 0x00, 0x01, 0x00, 0x00, 0x00, 0x00, 0x00, 0x01, 0x00, 0x34, 0x00, 0x00, 0x00,
     0x00, 0x00, 0x00, 0x00, 0x00, 0x00, 0x00, 0x00, 0x34, 0x00, 0x20, 0x00, 0x01, 0x00, 0x00, 0x00,
     0x00, 0x00, 0x00, 0x00, 0x01, 0x00, 0x00, 0x00, 0x54, 0x00, 0x00, 0x00, 0x00, 0x00, 0x01, 0x00,
-    0x00, 0x00, 0x01, 0x00, 0x0C, 0x00, 0x00, 0x00, 0x0C, 0x00, 0x00, 0x00, 0x07, 0x00, 0x00, 0x00,
-    0x04, 0x00, 0x00, 0x00, 0x93, 0x08, 0xD0, 0x05, 0x13, 0x05, 0x70, 0x00, 0x73, 0x00, 0x00, 0x00,
+    0x00, 0x00, 0x01, 0x00, 0x1C, 0x00, 0x00, 0x00, 0x1C, 0x00, 0x00, 0x00, 0x07, 0x00, 0x00, 0x00,
+    0x04, 0x00, 0x00, 0x00,
 ];
 
-/// Runs a file twice with no input, sees that the second run changes nothing, and gives how it ended, and its count.
-fn run<L: Ledger, R: Abort>(
+/// ADDI x17, x0, 93; ADDI x10, x0, 7; ECALL.
+const EXIT_SEVEN: [u32; 7] = [0x05D0_0893, 0x0070_0513, 0x0000_0073, 0, 0, 0, 0];
+
+/// The same, with no instruction in place of the third.
+const ILLEGAL: [u32; 7] = [0x05D0_0893, 0x0070_0513, 0, 0, 0, 0, 0];
+
+/// A loop of two instructions from 0x10008 on, which counts x5 from 0 to 4, and then an end with code 0.
+const COUNTING: [u32; 7] = [
+    0x0000_0293,
+    0x0040_0313,
+    0x0012_8293,
+    0xFE62_9EE3,
+    0x05D0_0893,
+    0x0000_0513,
+    0x0000_0073,
+];
+
+/// How a program with 64 KiB of memory and no input ends, and its numbers. A second call of `go` changes neither.
+fn run<H: Helper, L: Ledger, R: Abort>(
     rt: &R,
     alloc: Global,
     blank: Blank,
-    file: &[u8],
-    limit: u64,
-) -> (Ended, u64)
+    words: &[u32; 7],
+    settings: Settings,
+    helper: &mut H,
+) -> (Ended, Counts)
     requires name { blank.name ≡ L.name }
     requires parts { blank.parts ≡ L.parts }
     requires some { 0 < L.parts }
-    requires limit { limit ≤ 2 ^ 40 }
+    requires room { HasRoom (2 ^ 61)
+        (aid (H.tally helper.old) (H.replies helper.old) (H.plan helper.old) (H.machine helper.old)) }
 {
-    let image = read(file, 65_536, Version::One).expect(rt, "an image");
-    let mut walk = Walk::new(alloc, &image, Settings { limit }).expect(rt, "memory");
+    assert!(rt; settings.limit <= MOST_STEPS);
+    let mut file = HEAD.to_vec(alloc).expect(rt, "memory");
+    for word in words {
+        file.extend_from_slice(&word.to_le_bytes())
+            .expect(rt, "memory");
+    }
+    let image = read(&file, 65_536, Version::One).expect(rt, "an image");
+    let mut walk = Walk::new(alloc, &image, settings).expect(rt, "memory");
     let mut steps = Steps::<L>::new(blank);
     let mut input = SureSource::new(Vec::new(alloc));
     let mut out = CountSink::new();
     let mut err = CountSink::new();
-    let ended = walk.go(&mut input, &mut out, &mut err, &mut steps);
-    let Counts {
-        count,
-        executed,
-        skipped,
-        asked,
-        hits,
-    } = walk.counts();
-    assert_eq!(rt; (executed, skipped, asked, hits), (count, 0, 0, 0));
-    let again = walk.go(&mut input, &mut out, &mut err, &mut steps);
+    let ended = walk.go(helper, &mut input, &mut out, &mut err, &mut steps);
+    let counts = walk.counts();
+    let again = walk.go(helper, &mut input, &mut out, &mut err, &mut steps);
     assert_eq!(rt; again, ended);
-    assert_eq!(rt; walk.counts().count, count);
-    (ended, count)
+    assert_eq!(rt; walk.counts(), counts);
+    (ended, counts)
 }
 
 #[test]
@@ -61,17 +82,119 @@ fn runs(rt: HostRuntime) {
         pc: 0x10008,
         value: 0,
     };
-    // The lowest byte of the third word and the limit, and then how the run ends, and its count.
-    for (byte, limit, ended, count) in [
-        (0x73, 1 << 40, Ended::Exit(7), 3),
-        (0x73, 3, Ended::Exit(7), 3),
-        (0x73, 2, Ended::Limit, 2),
-        (0x73, 0, Ended::Limit, 0),
-        (0, 3, Ended::Fault(illegal), 2),
+    let pc = Some(0x10008);
+    // The code, the limit and the address, and then how the run ends, its count, and how often a jump was asked for.
+    for (words, limit, pc, ended, count, asked) in [
+        (EXIT_SEVEN, MOST_STEPS, None, Ended::Exit(7), 3, 0),
+        (EXIT_SEVEN, 3, None, Ended::Exit(7), 3, 0),
+        (EXIT_SEVEN, 2, None, Ended::Limit, 2, 0),
+        (EXIT_SEVEN, 0, None, Ended::Limit, 0, 0),
+        (ILLEGAL, 3, None, Ended::Fault(illegal), 2, 0),
+        (ILLEGAL, 3, pc, Ended::Fault(illegal), 2, 1),
+        (COUNTING, MOST_STEPS, None, Ended::Exit(0), 13, 0),
+        (COUNTING, MOST_STEPS, pc, Ended::Exit(0), 13, 4),
+        (COUNTING, 8, pc, Ended::Limit, 8, 3),
+        (COUNTING, MOST_STEPS, Some(0x1001C), Ended::Exit(0), 13, 0),
     ] {
-        let mut file = FIRST;
-        file[92] = byte;
-        let got = run::<Brand, _>(&rt, rt.alloc(), Blank::new(1), &file, limit);
-        assert_eq!(rt; got, (ended, count), "with {byte} and limit {limit}");
+        let mut helper = Bare::new(Nothing::new());
+        let settings = Settings { limit, pc };
+        let got = run::<_, Brand, _>(
+            &rt,
+            rt.alloc(),
+            Blank::new(1),
+            &words,
+            settings,
+            &mut helper,
+        );
+        let counts = Counts {
+            count,
+            executed: count,
+            skipped: 0,
+            asked,
+            hits: 0,
+        };
+        assert_eq!(rt; got, (ended, counts), "with limit {limit} and {pc:?}");
+        assert_eq!(rt; (helper.made(), helper.refused(), helper.full()), (0, 0, 0));
+        assert_eq!(rt; helper.finder().asked(), asked);
+    }
+}
+
+/// The state at which the loop that counts begins.
+fn counting<R: Abort>(rt: &R, alloc: Global) -> State {
+    let shape = Shape::new(0x10000, 65_536).expect(rt, "a shape");
+    let mut state = State::new(alloc, shape).expect(rt, "memory");
+    let mut at = 0x10000;
+    for word in &COUNTING {
+        assert!(rt; state.holds(at, 4));
+        state.write(at, &word.to_le_bytes());
+        at = at.wrapping_add(4);
+    }
+    state.set_pc(0x10008);
+    state.set_reg(6, 4);
+    state
+}
+
+/// The entry of so many laps of it from there on, and so many steps.
+fn entry_of<R: Abort>(rt: &R, alloc: Global, laps: u64, steps: u64) -> Arc<Entry> {
+    assert!(rt; laps >= 1 && steps >= 1);
+    let from = counting(rt, alloc);
+    let mut tracer = Tracer::new(alloc, from.shape(), 96).expect(rt, "memory");
+    tracer.start(&from);
+    let stop = Stop {
+        pc: 0x10008,
+        laps,
+        span: 100,
+    };
+    let traced = trace(&mut tracer, &stop, &mut Never);
+    assert_eq!(rt; traced.steps, steps);
+    Entry::of(alloc, &tracer, traced.steps).expect(rt, "memory")
+}
+
+#[test]
+fn jumps(rt: HostRuntime) {
+    let alloc = rt.alloc();
+    // The limit, and then how the run ends, and its numbers.
+    let cases: [(u64, Ended, Counts, &[Option<u64>]); 2] = [
+        (
+            MOST_STEPS,
+            Ended::Exit(0),
+            Counts {
+                count: 13,
+                executed: 9,
+                skipped: 4,
+                asked: 3,
+                hits: 1,
+            },
+            &[Some(4), None, None],
+        ),
+        (
+            5,
+            Ended::Limit,
+            Counts {
+                count: 5,
+                executed: 3,
+                skipped: 2,
+                asked: 2,
+                hits: 1,
+            },
+            &[Some(2), None],
+        ),
+    ];
+    for (limit, ended, counts, replies) in cases {
+        let mut list = Vec::new(alloc);
+        for (laps, steps) in [(1, 2), (2, 4)] {
+            let entry = entry_of(&rt, alloc, laps, steps);
+            list.push(entry).expect(&rt, "memory");
+        }
+        let noted = Noted::new(alloc, ListFinder::new(list), 16).expect(&rt, "memory");
+        let mut helper = Bare::new(noted);
+        let settings = Settings {
+            limit,
+            pc: Some(0x10008),
+        };
+        let got = run::<_, Brand, _>(&rt, alloc, Blank::new(1), &COUNTING, settings, &mut helper);
+        assert_eq!(rt; got, (ended, counts), "with limit {limit}");
+        assert_eq!(rt; helper.finder().replies(), replies);
+        assert!(rt; helper.finder().are_all());
     }
 }

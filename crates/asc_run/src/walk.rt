@@ -1,5 +1,6 @@
-ghost use Rattle.std.specs.Prelude.{◌≡◌, ◌≤◌, ◌^◌, List, ℕ, IfOk, IfSome, IsNone, Some, None};
+ghost use Rattle.std.specs.Prelude.{◌≡◌, ◌≤◌, ◌+◌, ◌^◌, List, ℕ, IfOk, IfSome, IsNone, Some, None};
 
+use crate::helper::Helper;
 use crate::process::Process;
 use asc_calls::Calls;
 use asc_elf::Image;
@@ -34,16 +35,21 @@ pub const MOST_STEPS: u64 = 1 << 40;
 pub struct Settings {
     /// The greatest number of steps, at most `MOST_STEPS`.
     pub limit: u64,
+    /// The recognised address: where the program stands there the helper is visited, and asked for a jump.
+    pub pc: Option<u32>,
 }
 
 impl Default for Settings {
-    ghost use Rattle.std.specs.Prelude.{◌≡◌, ◌^◌};
+    ghost use Rattle.std.specs.Prelude.{◌≡◌, ◌^◌, None};
 
-    ghost is_default = { λ s. s.limit ≡ 2 ^ 40 };
+    ghost is_default = { λ s. (s.limit ≡ 2 ^ 40) × (s.pc ≡ None) };
 
-    /// The greatest limit on steps.
+    /// The greatest limit on steps, and no address.
     fn default() -> Settings {
-        Settings { limit: MOST_STEPS }
+        Settings {
+            limit: MOST_STEPS,
+            pc: None,
+        }
     }
 }
 
@@ -66,7 +72,7 @@ pub struct Counts {
 #[derive(Drop)]
 pub struct Walk {
     process: Process,
-    limit: u64,
+    settings: Settings,
     ended: Option<Ended>,
 }
 
@@ -79,25 +85,27 @@ impl Model for Walk {
     ghost view = { λ w. record {
       state = w.process.state;
       calls = w.process.calls;
-      limit = w.limit;
+      settings = w.settings;
       count = w.process.count;
+      tally = model.tally w.process.asked w.process.skipped w.process.hits;
       ended = w.ended;
     } };
 
-    ghost invariant = { λ w. (w.limit ≤ 2 ^ 40) × (w.process.count ≤ w.limit)
-        × (w.ended ≡ None → model.HasNotBegun w.process.count w.process.calls) };
+    ghost invariant = { λ w. (w.settings.limit ≤ 2 ^ 40) × (w.process.count ≤ w.settings.limit)
+        × (w.process.skipped ≤ w.process.count)
+        × (w.ended ≡ None → model.HasNotBegun w.process.count
+        (model.tally w.process.asked w.process.skipped w.process.hits) w.process.calls) };
 }
 
 impl Walk {
-    ghost use Rattle.asc_calls.specs.GuestCall.{Device};
-    ghost use Rattle.asc_calls.specs.World.{Blames};
-    ghost use Rattle.asc_run.specs.Execution.{device_of};
-    ghost use Rattle.asc_run.specs.Walk.{new_walk, world_of, Follows, StopsAt};
+    ghost use Rattle.asc_run.specs.Faults.{faults, BlamesOnly};
+    ghost use Rattle.asc_run.specs.Helped.{aid, HasRoom};
+    ghost use Rattle.asc_run.specs.Walk.{new_walk, world_of, device_in, GoesHelped, IsRaisedBy};
 
     /// A walk that has not begun. It takes the memory of one state.
     pub fn new(alloc: Global, image: &Image<'_>, settings: Settings) -> Result<Walk, Memory>
         requires { settings.limit ≤ 2 ^ 40 }
-        ensures { IfOk result (λ walk. walk ≡ new_walk image.now settings.limit) }
+        ensures { IfOk result (λ walk. walk ≡ new_walk image.now settings) }
     {
         let mut state = State::new(alloc, image.shape())?;
         image.put(&mut state);
@@ -106,76 +114,83 @@ impl Walk {
                 state,
                 calls: Calls::new(image.low(), image.high()),
                 count: 0,
+                skipped: 0,
+                asked: 0,
+                hits: 0,
             },
-            limit: settings.limit,
+            settings,
             ended: None,
         })
     }
 
     /// Runs the program to its end, its limit, or a call in which a device fails. No allocator is handed in.
     ///
+    /// Wherever the program stands at the recognised address, the helper is visited and then asked for a jump, each
+    /// once. Where no address is set it is neither visited nor asked.
+    ///
     /// A second call answers as the first did, and changes nothing.
-    pub fn go<I: Source, O: Sink, E: Sink, L: Ledger>(
+    pub fn go<H: Helper, I: Source, O: Sink, E: Sink, L: Ledger>(
         &mut self,
+        helper: &mut H,
         input: &mut I,
         out: &mut O,
         err: &mut E,
         steps: &mut Steps<L>,
     ) -> Ended
-        // The first call goes as plain execution does, where no device fails.
-        ensures follows { IsNone self.old.ended → device_of result ≡ None → Follows self.old.limit
-            (world_of self.old (I.left input.old) (O.given out.old) (E.given err.old) steps.old)
-            (world_of self.new (I.left input.new) (O.given out.new) (E.given err.new) steps.new)
-            self.new.count result }
+        requires { IsNone self.old.ended → HasRoom (2 ^ 61)
+            (aid (H.tally helper.old) (H.replies helper.old) (H.plan helper.old) (H.machine helper.old)) }
 
-        // Where one fails, it goes so up to the call in which that happens.
-        ensures stops { IsNone self.old.ended → (device : Device) → device_of result ≡ Some device
-            → StopsAt self.old.limit
+        // The first call goes as plain execution does, or stops where a device failed. The helper's visits are those
+        // that its replies leave on that run.
+        ensures first { IsNone self.old.ended → GoesHelped self.old.settings.limit self.old.settings.pc
             (world_of self.old (I.left input.old) (O.given out.old) (E.given err.old) steps.old)
             (world_of self.new (I.left input.new) (O.given out.new) (E.given err.new) steps.new)
-            self.new.count device }
-        ensures limit { self.new.count ≤ self.old.limit }
-        ensures same_limit { self.new.limit ≡ self.old.limit }
+            (aid (H.tally helper.old) (H.replies helper.old) (H.plan helper.old) (H.machine helper.old))
+            (aid (H.tally helper.new) (H.replies helper.new) (H.plan helper.new) (H.machine helper.new))
+            self.new.count self.new.tally.given result }
+
+        // The helper's counts rise by the walk's. Where no address is set, the helper stays as it was.
+        ensures helper { IsNone self.old.ended
+            → IsRaisedBy self.new.tally (H.tally helper.old) (H.tally helper.new) }
+        ensures unset { IsNone self.old.settings.pc → helper.new ≡ helper.old }
+        ensures limit { self.new.count ≤ self.old.settings.limit }
+        ensures settings { self.new.settings ≡ self.old.settings }
         ensures kept { self.new.ended ≡ Some result }
 
         // A second one answers the same, and changes nothing.
-        ensures again { IfSome self.old.ended (λ ended. result ≡ ended) }
-        ensures same { IfSome self.old.ended (λ _. self.new ≡ self.old) }
-        ensures same_world { IfSome self.old.ended (λ _.
-            world_of self.new (I.left input.new) (O.given out.new) (E.given err.new) steps.new
-            ≡ world_of self.old (I.left input.old) (O.given out.old) (E.given err.old) steps.old) }
+        ensures again { IfSome self.old.ended (λ ended. (result ≡ ended) × (self.new ≡ self.old)
+            × (helper.new ≡ helper.old) × (input.new ≡ input.old) × (out.new ≡ out.old) × (err.new ≡ err.old)
+            × (steps.new ≡ steps.old)) }
 
-        // A device's count of faults rises by one where the first call blames it, and else it stays.
-        ensures input_faults { Blames (IsNone self.old.ended × (result ≡ Ended.ReadFault))
-            (I.faults input.old) (I.faults input.new) }
-        ensures out_faults { Blames (IsNone self.old.ended × (result ≡ Ended.WriteFault))
-            (O.faults out.old) (O.faults out.new) }
-        ensures err_faults { Blames (IsNone self.old.ended × (result ≡ Ended.ErrFault))
-            (E.faults err.old) (E.faults err.new) }
+        // The count of faults of the device that failed in this call rises by one, and those of the others stay.
+        ensures faults { BlamesOnly (device_in self.old.ended result)
+            (faults (I.faults input.old) (O.faults out.old) (E.faults err.old))
+            (faults (I.faults input.new) (O.faults out.new) (E.faults err.new)) }
     {
         if let Some(ended) = self.ended {
             return ended;
         }
-        let ended = self.process.run(self.limit, input, out, err, steps);
+        let Settings { limit, pc } = self.settings;
+        let ended = self.process.run(limit, pc, helper, input, out, err, steps);
         self.ended = Some(ended);
         ended
     }
 
-    /// The numbers so far. Without a helper every step is executed.
+    /// The numbers so far.
     pub fn counts(&self) -> Counts
         ensures count { result.count ≡ self.now.count }
-        ensures executed { result.executed ≡ self.now.count }
-        ensures skipped { result.skipped ≡ 0 }
-        ensures asked { result.asked ≡ 0 }
-        ensures hits { result.hits ≡ 0 }
+        ensures executed { result.executed + result.skipped ≡ self.now.count }
+        ensures skipped { result.skipped ≡ self.now.tally.given }
+        ensures asked { result.asked ≡ self.now.tally.asked }
+        ensures hits { result.hits ≡ self.now.tally.hits }
     {
-        let count = self.process.count;
+        let process = &self.process;
         Counts {
-            count,
-            executed: count,
-            skipped: 0,
-            asked: 0,
-            hits: 0,
+            count: process.count,
+            executed: process.count - process.skipped,
+            skipped: process.skipped,
+            asked: process.asked,
+            hits: process.hits,
         }
     }
 }

@@ -3,9 +3,10 @@ ghost use Rattle.std.specs.Prelude.{◌≡◌, ◌<◌};
 
 use crate::images::wrap;
 use asc_elf::read;
-use asc_run::{Ended, Settings, Walk};
+use asc_run::{Bare, Ended, Settings, Walk};
 use asc_shape::{CountSink, Steps, SureSource, Version};
 use asc_step::{Fault, FaultKind};
+use asc_traj::Nothing;
 use std::alloc::Global;
 use std::marker::Brand;
 use std::process::Abort;
@@ -27,6 +28,7 @@ fn run<L: Ledger, R: Abort>(
     let image = read(file, 65_536, version).expect(rt, "an image");
     let mut walk = Walk::new(alloc, &image, Settings::default()).expect(rt, "memory");
     let ended = walk.go(
+        &mut Bare::new(Nothing::new()),
         &mut SureSource::new(Vec::new(alloc)),
         &mut CountSink::new(),
         &mut CountSink::new(),

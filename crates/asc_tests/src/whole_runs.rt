@@ -454,6 +454,243 @@ fn whole_runs(rt: HostRuntime) -> Result<(), Fail> {
     Ok(())
 }
 
+/// A loop of two instructions from 0x10008 on, which counts x5 from 0 to 4, and then an end with code 0. It does 13 steps.
+const COUNTS: &[u32] = &[
+    0x0000_0293, // ADDI x5,x0,0
+    0x0040_0313, // ADDI x6,x0,4
+    0x0012_8293, // ADDI x5,x5,1
+    0xFE62_9EE3, // BNE x5,x6,-4
+    0x05D0_0893, // ADDI x17,x0,93
+    0x0000_0513, // ADDI x10,x0,0
+    0x0000_0073, // ECALL
+];
+
+/// The program counts, and the numbers of its run are reported.
+const COUNTING: Row = Row {
+    line: "asc run image --report",
+    program: COUNTS,
+    devices: SOUND,
+    want: Want {
+        report: "asc: executed 13 skipped 0 asked 0 hits 0 made 0 refused 0\n",
+        ..QUIET
+    },
+};
+
+const VISITED: Want = Want {
+    report: "asc: executed 13 skipped 0 asked 4 hits 0 made 0 refused 0\n",
+    ..QUIET
+};
+
+const NO_ADDRESS: Want = Want {
+    answer: Answer::Usage(Bad::Pc),
+    ..USAGE
+};
+
+static NUMBERED: [Row; 26] = [
+    COUNTING,
+    // The recognised address: a jump is asked for at each visit.
+    Row {
+        line: "asc run image --pc 10008 --report",
+        want: VISITED,
+        ..COUNTING
+    },
+    Row {
+        line: "asc run image --pc 10008",
+        want: QUIET,
+        ..COUNTING
+    },
+    Row {
+        line: "asc run --report --pc=0001000c image",
+        want: VISITED,
+        ..COUNTING
+    },
+    Row {
+        line: "asc run image --report --pc 1000C",
+        want: VISITED,
+        ..COUNTING
+    },
+    Row {
+        line: "asc run image --report --pc 10000",
+        want: Want {
+            report: "asc: executed 13 skipped 0 asked 1 hits 0 made 0 refused 0\n",
+            ..QUIET
+        },
+        ..COUNTING
+    },
+    Row {
+        line: "asc run image --report --pc FFFFFFFF",
+        ..COUNTING
+    },
+    // Where the limit is reached the address is not visited.
+    Row {
+        line: "asc run image --pc 10008 --report --steps 6",
+        want: Want {
+            answer: Answer::Limit(6),
+            report: "asc: limit after 6\nasc: executed 6 skipped 0 asked 2 hits 0 made 0 refused 0\n",
+            ..QUIET
+        },
+        ..COUNTING
+    },
+    Row {
+        line: "asc run image --pc 10000 --report --steps 0",
+        want: Want {
+            answer: Answer::Limit(0),
+            report: "asc: limit after 0\nasc: executed 0 skipped 0 asked 0 hits 0 made 0 refused 0\n",
+            ..QUIET
+        },
+        ..COUNTING
+    },
+    // an instruction that meets a fault
+    Row {
+        line: "asc run image --report",
+        program: &[0x0000_0293, 0],
+        want: Want {
+            answer: Answer::Fault(
+                Fault {
+                    kind: FaultKind::Illegal,
+                    pc: 0x10004,
+                    value: 0,
+                },
+                1,
+            ),
+            report: "asc: fault 3 at 00010004 value 00000000 after 1\n\
+                     asc: executed 1 skipped 0 asked 0 hits 0 made 0 refused 0\n",
+            ..QUIET
+        },
+        ..COUNTING
+    },
+    // addresses that are none, and flags that are wrong
+    Row {
+        line: "asc run image --pc 1000g",
+        want: NO_ADDRESS,
+        ..COUNTING
+    },
+    Row {
+        line: "asc run image --pc ",
+        want: NO_ADDRESS,
+        ..COUNTING
+    },
+    Row {
+        line: "asc run image --pc 000010008",
+        want: NO_ADDRESS,
+        ..COUNTING
+    },
+    Row {
+        line: "asc run image --report --pc=+10008",
+        want: NO_ADDRESS,
+        ..COUNTING
+    },
+    Row {
+        line: "asc run image --pc 1000g --steps x",
+        want: USAGE,
+        ..COUNTING
+    },
+    Row {
+        line: "asc run image --report --report",
+        want: USAGE,
+        ..COUNTING
+    },
+    Row {
+        line: "asc run image --report=yes",
+        want: USAGE,
+        ..COUNTING
+    },
+    // The report fails at its first call, and behind the answer's line, when three bytes are put at a time.
+    Row {
+        line: "asc run image --steps 2 --report",
+        devices: Devices {
+            fails: [0, 0, 0, 0, 1],
+            ..SOUND
+        },
+        want: REPORT_FAULT,
+        ..COUNTING
+    },
+    Row {
+        line: "asc run image --steps 2 --report",
+        devices: Devices {
+            fails: [0, 0, 0, 0, 8],
+            ..SOUND
+        },
+        want: Want {
+            report: "asc: limit after 2\nas",
+            ..REPORT_FAULT
+        },
+        ..COUNTING
+    },
+    Row {
+        devices: Devices {
+            fails: [0, 0, 0, 0, 1],
+            ..SOUND
+        },
+        want: REPORT_FAULT,
+        ..COUNTING
+    },
+    // A guest that puts something, and one whose device fails: that has no numbers.
+    Row {
+        program: SAYS_HI,
+        devices: BYTEWISE,
+        want: Want {
+            out: "Hi\n",
+            report: "asc: executed 9 skipped 0 asked 0 hits 0 made 0 refused 0\n",
+            ..QUIET
+        },
+        ..COUNTING
+    },
+    Row {
+        line: "asc run image --steps 8 --report --pc 10014",
+        program: SAYS_HI,
+        want: Want {
+            answer: Answer::Limit(8),
+            out: "Hi\n",
+            report: "asc: limit after 8\nasc: executed 8 skipped 0 asked 1 hits 0 made 0 refused 0\n",
+            ..QUIET
+        },
+        ..COUNTING
+    },
+    Row {
+        program: SAYS_HI,
+        devices: Devices {
+            fails: [0, 0, 1, 0, 0],
+            ..SOUND
+        },
+        want: WRITE_FAULT,
+        ..COUNTING
+    },
+    Row {
+        program: COMPLAINS,
+        devices: Devices {
+            fails: [0, 0, 0, 1, 0],
+            ..SOUND
+        },
+        want: ERR_FAULT,
+        ..COUNTING
+    },
+    // a name that the store has not, and a store that fails
+    Row {
+        line: "asc run imag --report",
+        want: NO_FILE,
+        ..COUNTING
+    },
+    Row {
+        devices: Devices {
+            fails: [1, 0, 0, 0, 0],
+            ..SOUND
+        },
+        want: NO_FILE,
+        ..COUNTING
+    },
+];
+
+#[test]
+fn numbered_runs(rt: HostRuntime) -> Result<(), Fail> {
+    let alloc = rt.alloc();
+    for row in &NUMBERED {
+        let file = wrap(alloc, row.program)?;
+        check(&rt, alloc, row.line, file, &row.devices, &row.want)?;
+    }
+    Ok(())
+}
+
 /// It reads at most four bytes to 0x10100, writes them to file 1, and begins again, until the input ends.
 const ECHO: &[u32] = &[
     0x03F0_0893, // ADDI x17,x0,63
@@ -475,7 +712,7 @@ const ECHO: &[u32] = &[
 
 // The line, the calls of the store, the input, out, err and the report that fail, and then the answer, out and the
 // report. The program does 34 steps, and asks the input four times and out three times, for at most three bytes.
-static ECHOES: [(&str, [u64; 5], Answer, &str, &str); 17] = [
+static ECHOES: [(&str, [u64; 5], Answer, &str, &str); 22] = [
     ("asc run image", [0; 5], Answer::Exit(0), "abcdefg", ""),
     (
         "asc run image",
@@ -588,6 +825,41 @@ static ECHOES: [(&str, [u64; 5], Answer, &str, &str); 17] = [
         Answer::ReportFault,
         "abcd",
         "",
+    ),
+    (
+        "asc run image --report --pc 10000",
+        [0; 5],
+        Answer::Exit(0),
+        "abcdefg",
+        "asc: executed 34 skipped 0 asked 3 hits 0 made 0 refused 0\n",
+    ),
+    (
+        "asc run image --report --steps 33",
+        [0; 5],
+        Answer::Limit(33),
+        "abcdefg",
+        "asc: limit after 33\nasc: executed 33 skipped 0 asked 0 hits 0 made 0 refused 0\n",
+    ),
+    (
+        "asc run image --report",
+        [0, 3, 0, 0, 0],
+        Answer::ReadFault,
+        "abcd",
+        "asc: input failed\n",
+    ),
+    (
+        "asc run image --report",
+        [0, 0, 2, 0, 0],
+        Answer::WriteFault,
+        "abc",
+        "asc: output failed\n",
+    ),
+    (
+        "asc run image --report",
+        [0, 0, 0, 0, 2],
+        Answer::ReportFault,
+        "abcdefg",
+        "asc",
     ),
 ];
 

@@ -1,3 +1,4 @@
 pub mod Causes
+pub mod Visited
 pub mod Outcomes
 pub mod Headline

@@ -2,3 +2,6 @@ pub use Rattle.asc_words.specs.Answer
 pub use Rattle.asc_words.specs.Line
 pub use Rattle.asc_words.specs.Report
 pub mod Program
+pub mod Kinds
+pub mod Answered
+pub mod Reported

@@ -2,7 +2,6 @@
 #![tactic(auto)]
 
 mod program;
-mod run_line;
 
-pub use asc_words::{Answer, Bad};
+pub use asc_words::{Answer, Bad, Outcome};
 pub use program::{reported, top};

@@ -1,21 +1,20 @@
-ghost use Rattle.std.specs.Prelude.{◌≡◌, ◌≢◌, ◌<◌, ◌≤◌, ℕ, List, map, length, Some, None, OnOk, OnErr};
+ghost use Rattle.std.specs.Prelude.{◌≡◌, ◌≢◌, ◌↔◌, ◌≤◌, ℕ, List, map, length, Some, None, Ok, IsSome, IsTrue};
 ghost use Rattle.std.specs.String.{string_bytes};
-ghost use Rattle.asc_model.specs.declared.fault.Fault.{Fault};
-ghost use Rattle.asc_elf.specs.declared.fault.ElfFault.{ElfFault};
-ghost use Rattle.asc_outside.specs.Outside.{HasCause, given_after};
 ghost use Rattle.asc_calls.specs.GuestCall.{Device};
-ghost use Rattle.asc_calls.specs.World.{Blames, outside};
-ghost use Rattle.asc_calls.specs.Filling.{PutsPart};
-ghost use Rattle.asc_words.specs.Line.{IsWithin, Meaning, Run, line_of};
-ghost use Rattle.asc_words.specs.Report.{report_text};
-ghost use Rattle.asc_top.specs.Program.{Gives, Means, HasFile, AsksForImage, Runs, IsHeld, IsNoImage, IsStopped, IsRefusal, IsAnswerTo, ComesOfFile, Completes, devices, device_of_answer, meaning, answer_at, file_limit};
+ghost use Rattle.asc_calls.specs.World.{outside};
+ghost use Rattle.asc_run.specs.Faults.{faults, BlamesOnly};
+ghost use Rattle.asc_words.specs.Line.{IsWithin, line_of};
+ghost use Rattle.asc_top.specs.Program.{Means, IsStopped, answer_at, counts_of, file_limit, reported_counts};
+ghost use Rattle.asc_top.specs.Kinds.{Finished, IsRefusal, device_of_answer, kind_of};
+ghost use Rattle.asc_top.specs.Answered.{Headline, IsAnswerTo, devices};
+ghost use Rattle.asc_top.specs.Reported.{IsReported, report_with};
 
-use crate::run_line::RunLine;
 use asc_calls::put_all;
 use asc_elf::read;
-use asc_run::{Ended, Settings, Walk};
+use asc_run::{Bare, Counts as WalkCounts, Ended, Helper, Settings, Walk};
 use asc_shape::{Failed, Gate, Loaded, Sink, Source, Steps, Store, StoreFault};
-use asc_words::{Answer, Bad, Line, LineFault, parse, text};
+use asc_traj::Nothing;
+use asc_words::{Answer, Counts, Line, LineFault, Outcome, RunLine, parse, text};
 use std::alloc::Global;
 use std::sync::ledger::Ledger;
 
@@ -26,8 +25,8 @@ const FILE_LIMIT: usize = 67_108_864;
 /// the answer to report.
 ///
 /// The words are the program's own name, `run`, the name of an image in the store, and options: the guest's memory, the
-/// most steps that it may do, and the machine's version (`asc_words::parse`). The answer is the first of these that has
-/// a cause: wrong words, the store's failure, a file that is too long, a file that is no image, want of memory, and how
+/// most steps that it may do, the machine's version, the recognised address, and whether the numbers of the run are
+/// reported behind the answer (`asc_words::parse`). The answer is the first of these that has a cause: wrong words, the store's failure, a file that is too long, a file that is no image, want of memory, and how
 /// the run ended. Where report fails, the answer is ReportFault in place of that one.
 pub fn top<F: Store, I: Source, O: Sink, E: Sink, R: Sink, G: Gate, L: Ledger>(
     alloc: Global,
@@ -40,106 +39,44 @@ pub fn top<F: Store, I: Source, O: Sink, E: Sink, R: Sink, G: Gate, L: Ledger>(
     gate: &G,
     steps: &mut Steps<L>,
 ) -> Answer
-    // The headline: for a file and an input that are told, where no device fails, the answer, what is taken and put and
-    // the rise of the counter are plain execution's, with the options that the words ask for.
-    ensures headline { (line : Run) (content left : List ℕ)
-        → line_of (map string_bytes words.now) ≡ Some (Meaning.run line)
-        → IsHeld (F.files store.old) line.image content → I.left input.old ≡ Some left → Completes result
-        → Gives (outside (I.left input.old) (O.given out.old) (E.given err.old) steps.old)
-        (outside (I.left input.new) (O.given out.new) (E.given err.new) steps.new)
-        result (meaning line content left) }
-
-    // Told or not, the answer is that of some file and some input, which agree with what is told.
-    ensures untold { ComesOfFile result → HasFile (map string_bytes words.now) (F.files store.old)
-        (Means (outside (I.left input.old) (O.given out.old) (E.given err.old) steps.old)
-        (outside (I.left input.new) (O.given out.new) (E.given err.new) steps.new)
-        result) }
-
-    // Where a device fails under the guest, all is plain execution's up to the call in which that happens.
-    ensures stopped { (device : Device) → device_of_answer result ≡ Some device
-        → HasFile (map string_bytes words.now) (F.files store.old)
-        (IsStopped (outside (I.left input.old) (O.given out.old) (E.given err.old) steps.old)
-        (outside (I.left input.new) (O.given out.new) (E.given err.new) steps.new)
-        device) }
-
-    // Each answer comes only there. That it comes there, unless a device fails or the answer is Memory, is the headline.
-    ensures exit { (code : ℕ) → result ≡ Answer.Exit code
-        → HasFile (map string_bytes words.now) (F.files store.old)
-        (Runs (I.left input.old) (λ run. run.ended ≡ Ended.Exit code)) }
-    ensures limit { (count : ℕ) → result ≡ Answer.Limit count
-        → HasFile (map string_bytes words.now) (F.files store.old)
-        (Runs (I.left input.old) (λ run. (run.ended ≡ Ended.Limit) × (run.count ≡ count))) }
-    ensures fault { (fault : Fault) (count : ℕ) → result ≡ Answer.Fault fault count
-        → HasFile (map string_bytes words.now) (F.files store.old)
-        (Runs (I.left input.old) (λ run. (run.ended ≡ Ended.Fault fault) × (run.count ≡ count))) }
-    ensures usage { result ≡ Answer.Usage Bad.Words → line_of (map string_bytes words.now) ≡ None }
-    ensures no_command { line_of (map string_bytes words.now) ≡ None → result ≢ Answer.Memory
-        → result ≢ Answer.ReportFault → result ≡ Answer.Usage Bad.Words }
-    ensures image { (fault : ElfFault) → result ≡ Answer.Image fault
-        → HasFile (map string_bytes words.now) (F.files store.old) (IsNoImage fault) }
-    ensures too_long { result ≡ Answer.TooLong → HasFile (map string_bytes words.now) (F.files store.old)
-        (λ line content. file_limit < length content) }
-
-    // Where the guest is not run, nothing is taken, put or counted.
-    ensures refused { IsRefusal result
-        → outside (I.left input.new) (O.given out.new) (E.given err.new) steps.new
-        ≡ outside (I.left input.old) (O.given out.old) (E.given err.old) steps.old }
-    ensures files { F.files store.new ≡ F.files store.old }
-
-    // The store is asked for the image of a run, once, and for nothing else. Where the words are no command it is not
-    // asked, and where memory is wanting it may not have been.
-    ensures asked { result ≢ Answer.ReportFault
-        → AsksForImage (map string_bytes words.now) result (F.asked store.old) (F.asked store.new) }
-
-    // A device's count of faults rises by one where the answer blames it, and else it stays.
-    ensures store_fault { result ≢ Answer.ReportFault
-        → Blames (result ≡ Answer.StoreFault) (F.faults store.old) (F.faults store.new) }
-    ensures read_fault { result ≢ Answer.ReportFault
-        → Blames (result ≡ Answer.ReadFault) (I.faults input.old) (I.faults input.new) }
-    ensures write_fault { result ≢ Answer.ReportFault
-        → Blames (result ≡ Answer.WriteFault) (O.faults out.old) (O.faults out.new) }
-    ensures err_fault { result ≢ Answer.ReportFault
-        → Blames (result ≡ Answer.ErrFault) (E.faults err.old) (E.faults err.new) }
-    ensures report_faults { Blames (result ≡ Answer.ReportFault) (R.faults report.old) (R.faults report.new) }
-
-    // The report is given the answer's text.
-    ensures report { result ≢ Answer.ReportFault
-        → R.given report.new ≡ given_after (R.given report.old) (report_text result) }
-
-    // Where it fails, it was given a beginning of the text of another answer, and not all. Of that answer all holds that
-    // stands above.
-    ensures report_fault { result ≡ Answer.ReportFault → (answer : Answer)
-        × IsAnswerTo (map string_bytes words.now)
+    // The headline. Where the words ask for a run of a file and over an input that are told, no device fails and no
+    // memory is wanting, all that comes of it is plain execution's of what the file means.
+    ensures headline { Headline (map string_bytes words.now)
         (devices (F.files store.old) (F.asked store.old) (outside (I.left input.old) (O.given out.old) (E.given err.old) steps.old)
         (F.faults store.old) (I.faults input.old) (O.faults out.old) (E.faults err.old))
         (devices (F.files store.new) (F.asked store.new) (outside (I.left input.new) (O.given out.new) (E.given err.new) steps.new)
-        (F.faults store.new) (I.faults input.new) (O.faults out.new) (E.faults err.new)) answer
-        × PutsPart (R.given report.old) (R.given report.new) (report_text answer) }
+        (F.faults store.new) (I.faults input.new) (O.faults out.new) (E.faults err.new)) result }
+
+    // There is an outcome of which all holds that an answer to these words promises, and its text was put to report: its
+    // answer is the result. Or report failed, and the result is ReportFault.
+    ensures answer { (outcome : Outcome) × IsAnswerTo (map string_bytes words.now)
+        (devices (F.files store.old) (F.asked store.old) (outside (I.left input.old) (O.given out.old) (E.given err.old) steps.old)
+        (F.faults store.old) (I.faults input.old) (O.faults out.old) (E.faults err.old))
+        (devices (F.files store.new) (F.asked store.new) (outside (I.left input.new) (O.given out.new) (E.given err.new) steps.new)
+        (F.faults store.new) (I.faults input.new) (O.faults out.new) (E.faults err.new)) outcome
+        × IsReported (report_with (R.given report.old) (R.faults report.old))
+        (report_with (R.given report.new) (R.faults report.new)) outcome result }
 {
-    reported(answer(alloc, words, store, input, out, err, steps), report)
+    reported(outcome(alloc, words, store, input, out, err, steps), report)
 }
 
-/// Puts an answer's text to report, and gives the answer, or ReportFault where report fails. Where the answer has no
-/// text report isn't asked. No allocator is handed in.
-pub fn reported<R: Sink>(answer: Answer, report: &mut R) -> Answer
-    requires { answer ≢ Answer.ReportFault }
-    ensures answer { result ≢ Answer.ReportFault → result ≡ answer }
-    ensures report { result ≢ Answer.ReportFault
-        → R.given report.new ≡ given_after (R.given report.old) (report_text answer) }
-    ensures report_fault { result ≡ Answer.ReportFault
-        → PutsPart (R.given report.old) (R.given report.new) (report_text answer) }
-    ensures report_faults { Blames (result ≡ Answer.ReportFault) (R.faults report.old) (R.faults report.new) }
+/// Puts an outcome's text to report, and gives its answer, or ReportFault where report fails. Where there is no text
+/// report isn't asked. No allocator is handed in.
+pub fn reported<R: Sink>(outcome: Outcome, report: &mut R) -> Answer
+    requires { outcome.answer ≢ Answer.ReportFault }
+    ensures { IsReported (report_with (R.given report.old) (R.faults report.old))
+        (report_with (R.given report.new) (R.faults report.new)) outcome result }
 {
     let mut room = [0; 512];
-    let length = text(&answer, &mut room);
+    let length = text(&outcome, &mut room);
     match put_all(report, &room[..length]) {
-        Ok(()) => answer,
+        Ok(()) => outcome.answer,
         Err(Failed) => Answer::ReportFault,
     }
 }
 
-/// The answer to the words, before it is reported.
-fn answer<F: Store, I: Source, O: Sink, E: Sink, L: Ledger>(
+/// What the words come to, before it is reported.
+fn outcome<F: Store, I: Source, O: Sink, E: Sink, L: Ledger>(
     alloc: Global,
     words: &[String],
     store: &mut F,
@@ -147,7 +84,7 @@ fn answer<F: Store, I: Source, O: Sink, E: Sink, L: Ledger>(
     out: &mut O,
     err: &mut E,
     steps: &mut Steps<L>,
-) -> Answer
+) -> Outcome
     ensures { IsAnswerTo (map string_bytes words.now)
         (devices (F.files store.old) (F.asked store.old) (outside (I.left input.old) (O.given out.old) (E.given err.old) steps.old)
         (F.faults store.old) (I.faults input.old) (O.faults out.old) (E.faults err.old))
@@ -155,9 +92,9 @@ fn answer<F: Store, I: Source, O: Sink, E: Sink, L: Ledger>(
         (F.faults store.new) (I.faults input.new) (O.faults out.new) (E.faults err.new)) result }
 {
     match parse(alloc, words) {
-        Err(LineFault::Words) => Answer::Usage(Bad::Words),
-        Err(LineFault::Memory) => Answer::Memory,
-        Ok(line) => run_named(alloc, &RunLine::of(line), store, input, out, err, steps),
+        Err(LineFault::Usage(bad)) => Outcome::of(Answer::Usage(bad)),
+        Err(LineFault::Memory) => Outcome::of(Answer::Memory),
+        Ok(Line::Run(line)) => run_named(alloc, &line, store, input, out, err, steps),
     }
 }
 
@@ -170,9 +107,9 @@ fn run_named<F: Store, I: Source, O: Sink, E: Sink, L: Ledger>(
     out: &mut O,
     err: &mut E,
     steps: &mut Steps<L>,
-) -> Answer
-    requires { IsWithin (Meaning.run line.now) }
-    ensures { (words : List (List ℕ)) → line_of words ≡ Some (Meaning.run line.now) → IsAnswerTo words
+) -> Outcome
+    requires { IsWithin (Line.Run line.now) }
+    ensures { (words : List (List ℕ)) → line_of words ≡ Ok (Line.Run line.now) → IsAnswerTo words
         (devices (F.files store.old) (F.asked store.old) (outside (I.left input.old) (O.given out.old) (E.given err.old) steps.old)
         (F.faults store.old) (I.faults input.old) (O.faults out.old) (E.faults err.old))
         (devices (F.files store.new) (F.asked store.new) (outside (I.left input.new) (O.given out.new) (E.given err.new) steps.new)
@@ -180,9 +117,9 @@ fn run_named<F: Store, I: Source, O: Sink, E: Sink, L: Ledger>(
 {
     let mut file = Vec::new(alloc);
     match store.read(line.image.as_str(), &mut file, FILE_LIMIT) {
-        Err(StoreFault::Failed) => Answer::StoreFault,
-        Err(StoreFault::Memory) => Answer::Memory,
-        Ok(Loaded::Longer) => Answer::TooLong,
+        Err(StoreFault::Failed) => Outcome::of(Answer::StoreFault),
+        Err(StoreFault::Memory) => Outcome::of(Answer::Memory),
+        Ok(Loaded::Longer) => Outcome::of(Answer::TooLong),
         Ok(Loaded::Whole) => run_file(alloc, line, &file, input, out, err, steps),
     }
 }
@@ -196,34 +133,44 @@ fn run_file<I: Source, O: Sink, E: Sink, L: Ledger>(
     out: &mut O,
     err: &mut E,
     steps: &mut Steps<L>,
-) -> Answer
-    requires line { IsWithin (Meaning.run line.now) }
+) -> Outcome
+    requires line { IsWithin (Line.Run line.now) }
     requires file { length file.now ≤ file_limit }
-    ensures means { result ≢ Answer.Memory → device_of_answer result ≡ None
+    ensures means { result.answer ≢ Answer.Memory → device_of_answer result.answer ≡ None
         → Means (outside (I.left input.old) (O.given out.old) (E.given err.old) steps.old)
         (outside (I.left input.new) (O.given out.new) (E.given err.new) steps.new)
         result line.now file.now }
-    ensures stopped { (device : Device) → device_of_answer result ≡ Some device
+    ensures stopped { (device : Device) → device_of_answer result.answer ≡ Some device
         → IsStopped (outside (I.left input.old) (O.given out.old) (E.given err.old) steps.old)
         (outside (I.left input.new) (O.given out.new) (E.given err.new) steps.new)
         device line.now file.now }
-    ensures refused { IsRefusal result
+    ensures refused { IsRefusal result.answer
         → outside (I.left input.new) (O.given out.new) (E.given err.new) steps.new
         ≡ outside (I.left input.old) (O.given out.old) (E.given err.old) steps.old }
-    ensures read_fault { Blames (result ≡ Answer.ReadFault) (I.faults input.old) (I.faults input.new) }
-    ensures write_fault { Blames (result ≡ Answer.WriteFault) (O.faults out.old) (O.faults out.new) }
-    ensures err_fault { Blames (result ≡ Answer.ErrFault) (E.faults err.old) (E.faults err.new) }
-    ensures no_report_fault { result ≢ Answer.ReportFault }
+    ensures counts { IsSome result.counts ↔ (IsTrue line.now.report × (kind_of result.answer ≡ Finished)) }
+    ensures faults { BlamesOnly (device_of_answer result.answer)
+        (faults (I.faults input.old) (O.faults out.old) (E.faults err.old))
+        (faults (I.faults input.new) (O.faults out.new) (E.faults err.new)) }
+    ensures no_report_fault { result.answer ≢ Answer.ReportFault }
 {
     let image = match read(file, 1024 * line.memory, line.version) {
         Ok(image) => image,
-        Err(fault) => return Answer::Image(fault),
+        Err(fault) => return Outcome::of(Answer::Image(fault)),
     };
-    let Ok(mut walk) = Walk::new(alloc, &image, Settings { limit: line.limit }) else {
-        return Answer::Memory;
+    let settings = Settings {
+        limit: line.limit,
+        pc: line.pc,
     };
-    let ended = walk.go(input, out, err, steps);
-    answer_at(ended, walk.counts().count)
+    let Ok(mut walk) = Walk::new(alloc, &image, settings) else {
+        return Outcome::of(Answer::Memory);
+    };
+    let mut helper = Bare::new(Nothing::new());
+    let ended = walk.go(&mut helper, input, out, err, steps);
+    let counts = walk.counts();
+    Outcome {
+        answer: answer_at(ended, counts.count),
+        counts: reported_counts(line.report, ended, counts_of(counts, &helper)),
+    }
 }
 
 /// The answer of a run that ended so after `count` steps.
@@ -237,5 +184,29 @@ fn answer_at(ended: Ended, count: u64) -> Answer
         Ended::ReadFault => Answer::ReadFault,
         Ended::WriteFault => Answer::WriteFault,
         Ended::ErrFault => Answer::ErrFault,
+    }
+}
+
+/// The numbers that a run reports which ended so: none where they aren't asked for, or a device stopped it.
+fn reported_counts(is_asked: bool, ended: Ended, counts: Counts) -> Option<Counts>
+    ensures { result ≡ reported_counts is_asked ended counts }
+{
+    match ended {
+        Ended::Exit(_) | Ended::Fault(_) | Ended::Limit if is_asked => Some(counts),
+        _ => None,
+    }
+}
+
+/// The numbers of a walk and of its helper.
+fn counts_of<H: Helper>(walk: WalkCounts, helper: &H) -> Counts
+    ensures { result ≡ counts_of walk (H.plan helper.now) }
+{
+    Counts {
+        executed: walk.executed,
+        skipped: walk.skipped,
+        asked: walk.asked,
+        hits: walk.hits,
+        made: helper.made(),
+        refused: helper.refused(),
     }
 }

@@ -15,7 +15,7 @@ use Rattle.clap.specs.Takes.{is_given}
 use Rattle.clap.specs.Kinds.{Kinds, or_else, range_kinds, request_kinds, value_kinds}
 use Rattle.clap.specs.Faults.{action_fault, bundle_fault, bundle_step_fault, default_fault, defaults_fault, given_default_fault, stray_fault, flag_word_fault, flags_fault, long_fault, option_fault, other_fault, positional_fault, react_fault, repeat_fault, settle_fault, short_fault, step_fault, turn_fault, use_fault, values_fault, walk_fault, word_fault}
 use Rattle.clap.specs.declared.builder.action.ArgAction.{ArgAction}
-use Rattle.clap.specs.declared.builder.action.ArgAction.TheVariants.{Set}
+use Rattle.clap.specs.declared.builder.action.ArgAction.TheVariants.{Set, SetTrue}
 use Rattle.clap.specs.declared.error.kind.ErrorKind.{ErrorKind}
 use Rattle.clap.specs.declared.error.kind.ErrorKind.TheVariants as kind
 use Rattle.clap.specs.declared.parser.matches.ValueSource.{ValueSource}
@@ -39,10 +39,16 @@ passed false k none = cc
 
 -- ---- rows
 
--- an argument that takes values, of which a later use does not replace an earlier one
+-- some values where at least one is wanted
+abbrev pub IsGiven : List Text → Type 0
+IsGiven [] = ⊥
+IsGiven (first ∷ rest) = Unit {0}
+
+-- An argument of which a later use does not replace an earlier one. Each use has a value: it takes some, or it is a flag,
+-- for which one stands.
 pub record IsOption (a : Rule) : Type 0 where
-  pub sets : action_of a ≡ Set
-  pub some : 0 < (unwrap_or_range a.range).start_inclusive
+  pub sets : (action_of a ≡ Set) ⊎ (action_of a ≡ SetTrue)
+  pub some : (0 < (unwrap_or_range a.range).start_inclusive) ⊎ IsGiven a.missing
 
 -- the row is this argument's, and its first value passed the argument's parser
 pub record Fits (a : Rule) (row : Row) : Type 0 where
@@ -121,11 +127,6 @@ not_empty first rest = ne_eqb (length (first ∷ rest)) 0 (λ e. absurd (omega a
 
 -- ---- one use of an argument
 
--- some values where at least one is wanted
-abbrev IsGiven : List Text → Type 0
-IsGiven [] = ⊥
-IsGiven (first ∷ rest) = Unit {0}
-
 some_given : (least most : ℕ) (values : List Text) → 0 < least → range_kinds least most (length values) ≡ [] → IsGiven values
 some_given least most [] some none = go (nat_lt 0 least) (lt-ltb 0 least some) none
   where
@@ -135,14 +136,21 @@ some_given least most [] some none = go (nat_lt 0 least) (lt-ltb 0 least some) n
     go false e n = cc
 some_given least most (first ∷ rest) some none = tt
 
+-- a use that is not refused has values
+used_with : (a : Rule) (values : List Text) → (0 < (unwrap_or_range a.range).start_inclusive) ⊎ IsGiven a.missing
+    → range_kinds (unwrap_or_range a.range).start_inclusive (most_values a) (length values) ≡ [] → IsGiven (values_or_missing a values)
+used_with a [] (inl some) none = absurd (some_given _ _ [] some none)
+used_with a [] (inr missing) none = missing
+used_with a (first ∷ rest) some none = tt
+
 no_repeat : (again held : Bool) → again ≡ false → cond (held && not again) (kind.ArgumentConflict ∷ []) [] ≡ [] → held ≡ false
 no_repeat again false once none = refl
 no_repeat again true once none = let repeated = rw once at none in cc
 
 module _ (rules : List Rule) (again : Bool) (once : again ≡ false) (options : AreOptions rules) where
   set_fits : (a : Rule) (values : List Text) (rows : List Row) → IsOf rules a → IsGiven values
-      → or_else (repeat_fault again a.id rows) (values_fault a (values_or_missing a values)) ≡ []
-      → AllFit rules rows → AllFit rules (with_values a.id (reading_by a) CommandLine (values_or_missing a values) (without a.id rows))
+      → or_else (repeat_fault again a.id rows) (values_fault a values) ≡ []
+      → AllFit rules rows → AllFit rules (with_values a.id (reading_by a) CommandLine values (without a.id rows))
   set_fits a [] rows one given none all = absurd given
   set_fits a (first ∷ rest) rows one given none all =
       let parts = neither (repeat_fault again a.id rows) (values_fault a (first ∷ rest)) none in
@@ -151,15 +159,22 @@ module _ (rules : List Rule) (again : Bool) (once : again ≡ false) (options : 
       (sym (at_absent a.id (λ _. []) [] rows absent ∙ append-nil rows))
       (with_new_row rules a CommandLine first rest rows one absent (first_accepted a first rest parts.1) all)
 
+  -- an option and a flag set their values alike
+  use_fits_as : (a : Rule) (values : List Text) (rows : List Row) → IsOf rules a → (action_of a ≡ Set) ⊎ (action_of a ≡ SetTrue) → IsGiven values
+      → action_fault (action_of a) again a values rows ≡ [] → AllFit rules rows → AllFit rules (used_as (action_of a) a.id (reading_by a) values rows)
+  use_fits_as a values rows one (inl is) given none all =
+      subst (λ (action : ArgAction). AllFit rules (used_as action a.id (reading_by a) values rows)) (sym is)
+      (set_fits a values rows one given (rw is at none) all)
+  use_fits_as a values rows one (inr is) given none all =
+      subst (λ (action : ArgAction). AllFit rules (used_as action a.id (reading_by a) values rows)) (sym is)
+      (set_fits a values rows one given (rw is at none) all)
+
   use_fits : (a : Rule) (values : List Text) (rows : List Row) → IsOf rules a → use_fault again a values rows ≡ []
       → AllFit rules rows → AllFit rules (used a values rows)
   use_fits a values rows one none all =
-      let is : action_of a ≡ Set = one.is_option.sets in
       let parts = neither (range_kinds (unwrap_or_range a.range).start_inclusive (most_values a) (length values))
       (action_fault (action_of a) again a (values_or_missing a values) rows) none in
-      let given = some_given _ _ values one.is_option.some parts.0 in
-      subst (λ (action : ArgAction). AllFit rules (used_as action a.id (reading_by a) (values_or_missing a values) rows)) (sym is)
-      (set_fits a values rows one given (rw is at parts.1) all)
+      use_fits_as a (values_or_missing a values) rows one one.is_option.sets (used_with a values one.is_option.some parts.0) parts.1 all
 
   settle_fits_at : (pending : Option (Text × List Text)) (rows : List Row)
       → option_map_or (λ p. option_map_or (λ a. use_fault again a p.1 rows) (arg_by_id rules p.0) []) pending [] ≡ []
@@ -369,7 +384,7 @@ any_last test (first ∷ rows) row is = go (test first) (any_last test rows row 
     go false rest = rest
 
 -- a default keeps the rows that are there
-pub kept_by_default : (id : Text) (rows : List Row) (a : Rule) → has_row id rows ≡ true → has_row id (with_default rows a) ≡ true
+kept_by_default : (id : Text) (rows : List Row) (a : Rule) → has_row id rows ≡ true → has_row id (with_default rows a) ≡ true
 kept_by_default id rows a there = go (has_row a.id rows) a.defaults refl
   where
     go : (b : Bool) (defaults : List Text) → has_row a.id rows ≡ b → has_row id (cond b rows (default_rows a.id (reading_by a) defaults rows)) ≡ true
@@ -379,7 +394,7 @@ kept_by_default id rows a there = go (has_row a.id rows) a.defaults refl
         ap (λ kept. has_row id kept) (at_absent a.id (more_values DefaultValue (first ∷ rest)) _ rows is) ∙ any_more (λ r. bytes_eq r.id id) rows _ there
 
 -- an argument with a default has a row
-pub made_by_default : (rows : List Row) (a : Rule) → is_empty a.defaults ≡ false → has_row a.id (with_default rows a) ≡ true
+made_by_default : (rows : List Row) (a : Rule) → is_empty a.defaults ≡ false → has_row a.id (with_default rows a) ≡ true
 made_by_default rows a some = go (has_row a.id rows) a.defaults refl some
   where
     go : (b : Bool) (defaults : List Text) → has_row a.id rows ≡ b → is_empty defaults ≡ false
@@ -389,6 +404,24 @@ made_by_default rows a some = go (has_row a.id rows) a.defaults refl some
     go false (first ∷ rest) is e =
         ap (λ kept. has_row a.id kept) (at_absent a.id (more_values DefaultValue (first ∷ rest)) _ rows is)
         ∙ any_last (λ r. bytes_eq r.id a.id) rows _ ((bytes_eq-Decides a.id a.id).1 refl)
+
+kept_by_defaults : (id : Text) (rules : List Rule) (rows : List Row) → has_row id rows ≡ true → has_row id (fold with_default rows rules) ≡ true
+kept_by_defaults id [] rows there = there
+kept_by_defaults id (a ∷ rules) rows there = kept_by_defaults id rules (with_default rows a) (kept_by_default id rows a there)
+
+-- one of a command's arguments that has a default has a row
+pub made_by_defaults : (rules : List Rule) (a : Rule) (rows : List Row) → find (λ b. bytes_eq b.id a.id) rules ≡ Some a → is_empty a.defaults ≡ false
+    → has_row a.id (fold with_default rows rules) ≡ true
+made_by_defaults [] a rows found some = cc
+made_by_defaults (b ∷ rules) a rows found some = go (bytes_eq b.id a.id) (λ e. made_by_defaults rules a (with_default rows b) e some) found
+  where
+    go : (test : Bool) → (find (λ b. bytes_eq b.id a.id) rules ≡ Some a → has_row a.id (fold with_default (with_default rows b) rules) ≡ true)
+        → cond test (Some b) (find (λ b. bytes_eq b.id a.id) rules) ≡ Some a → has_row a.id (fold with_default (with_default rows b) rules) ≡ true
+    go true more e =
+        let same : b ≡ a = some_is b a e in
+        kept_by_defaults a.id rules (with_default rows b)
+        (subst (λ (r : Rule). has_row a.id (with_default rows r) ≡ true) (sym same) (made_by_default rows a some))
+    go false more e = more e
 
 -- an argument that the words gave has a row
 pub given_row : (id : Text) (rows : List Row) → is_given id rows ≡ true → has_row id rows ≡ true

@@ -1,23 +1,26 @@
 -- What is known of words that clap takes for asc's command.
-use Rattle.std.proofs.Common.{◌≡◌, ◌∙◌, ◌||◌, ◌^◌, ℕ, Bool, codes, cond, true, false, not, refl, ap, subst, lit<, List, [], ◌∷◌, Option, Some, None, is_some}
+use Rattle.std.proofs.Common.{◌≡◌, ◌∙◌, ◌<◌, ◌||◌, ◌^◌, ℕ, inl, inr, Bool, codes, cond, true, false, not, refl, ap, subst, lit<, List, [], ◌∷◌, Option, Some, None, is_some}
 use Rattle.std.specs.Prelude.{option_and_then, option_map, slice_get}
+use Rattle.std.specs.List.{find, list_any}
+use Rattle.std.specs.Str.{bytes_eq}
 use Rattle.std.specs.Option.{option_map_or}
+use Rattle.clap.specs.declared.builder.action.ArgAction.TheVariants.{Set}
 use Rattle.clap.specs.ValueTests.{accepts}
 use Rattle.clap.proofs.ValueTestLemmas.{accepts-Accepts}
 use Rattle.clap.specs.Values.{read_as, reading_of}
-use Rattle.clap.specs.Facts.{parser_of_value}
+use Rattle.clap.specs.Facts.{parser_of_value, unwrap_or_range}
 use Rattle.clap.specs.declared.builder.value_parser.Reading.TheVariants.{AsWritten}
 use Rattle.clap.specs.declared.builder.value_parser.ValueParser.{ValueParser}
 use Rattle.clap.specs.declared.builder.value_parser.ValueParser.TheVariants as parsers
-use Rattle.clap.specs.Walk.{Held, Names, Row, Rule, Text, answers_to, finished, first_of, nothing_held, row_text, rows_after, settled, stop_after, walk, walk_from, with_default}
+use Rattle.clap.specs.Walk.{Held, Names, Row, Rule, Text, answers_to, finished, first_of, nothing_held, row_text, rows_after, settled, stop_after, walk, walk_from, action_of, is_empty}
 use Rattle.clap.specs.Simple.{Shape, argument_words, built, entered, filled, label_of, with_index, names_of, rows_at, subcommand_of}
 use Rattle.clap.specs.Takes.{is_given}
 use Rattle.clap.specs.Kinds.{Kinds, or_else}
 use Rattle.clap.specs.Faults.{check_fault, defaults_fault, entered_fault, fault_of, level_fault, settle_fault, walk_fault}
 use Rattle.clap.specs.declared.error.kind.ErrorKind.TheVariants as kind
-use Rattle.asc_words.specs.Command.{asc_command, number_option, required, run_command}
-use Rattle.asc_words.specs.Rows.{HasNumber, IsRun}
-use Rattle.asc_words.proofs.Fitting.{AllFit, AreDistinct, AreOptions, Found, defaults_fit, found_for, given_row, kept_by_default, made_by_default, neither, not_chosen, settle_fits, walk_fits}
+use Rattle.asc_words.specs.Command.{asc_command, flag, number_option, required, run_command, text_option}
+use Rattle.asc_words.specs.Rows.{HasFlag, HasNumber, IsRun}
+use Rattle.asc_words.proofs.Fitting.{AllFit, AreDistinct, AreOptions, IsNew, IsOption, Found, defaults_fit, found_for, given_row, made_by_defaults, neither, not_chosen, settle_fits, walk_fits}
 
 -- ---- a level of a command
 
@@ -64,17 +67,35 @@ steps = filled (number_option (codes "steps") 0 (2 ^ 40) (codes "1099511627776")
 abbrev machine : Rule
 machine = filled (number_option (codes "machine") 1 2 (codes "2"))
 
+abbrev pc : Rule
+pc = filled (text_option (codes "pc"))
+
+abbrev report : Rule
+report = filled (flag (codes "report"))
+
+is_option : (a : Rule) → action_of a ≡ Set → 0 < (unwrap_or_range a.range).start_inclusive → IsOption a
+is_option a sets some = record { sets = inl sets; some = inl some }
+
 options : AreOptions built_run.rules
 options = (
-  record { sets = refl; some = lit< tt },
+  is_option image refl (lit< tt),
   (
-    record { sets = refl; some = lit< tt },
-    (record { sets = refl; some = lit< tt }, (record { sets = refl; some = lit< tt }, tt)),
+    is_option memory refl (lit< tt),
+    (
+      is_option steps refl (lit< tt),
+      (
+        is_option machine refl (lit< tt),
+        (is_option pc refl (lit< tt), (record { sets = inr refl; some = inr tt }, tt)),
+      ),
+    ),
   ),
 )
 
+new : (a : Rule) (rules : List Rule) → list_any (λ b. bytes_eq b.id a.id) rules ≡ false → IsNew a rules
+new a rules is = record { is_new = is }
+
 distinct : AreDistinct built_run.rules
-distinct = (record { is_new = refl }, (record { is_new = refl }, (record { is_new = refl }, (record { is_new = refl }, tt))))
+distinct = (new image _ refl, (new memory _ refl, (new steps _ refl, (new machine _ refl, (new pc _ refl, (new report _ refl, tt))))))
 
 -- a number in its range was found for an option
 has_number : (a : Rule) (least most : ℕ) (rows : List Row) → a.parser ≡ Some (parsers.Unsigned least most) → Found a rows → HasNumber a.id least most rows
@@ -84,6 +105,18 @@ has_number a least most rows is of = record {
       ∙ (λ i. option_map (read_as (reads i)) (slice_get (of.fits.values i) 0));
   accepted = accepts-Accepts a.ignore_case (parsers.Unsigned least most) of.fits.first
       (subst (λ (p : Option ValueParser). accepts a.ignore_case (parser_of_value p) of.fits.first ≡ true) is of.fits.passes);
+}
+  where
+    reads : of.row.reading ≡ AsWritten
+    reads = of.fits.read ∙ ap (λ (p : Option ValueParser). reading_of (parser_of_value p)) is
+
+-- whether a flag was given was found
+has_flag : (a : Rule) (rows : List Row) → a.parser ≡ Some parsers.Bool → Found a rows → HasFlag a.id rows
+has_flag a rows is of = record {
+  text = of.fits.first;
+  found = ap (option_and_then row_text) of.found
+      ∙ (λ i. option_map (read_as (reads i)) (slice_get (of.fits.values i) 0));
+  accepted = subst (λ (p : Option ValueParser). accepts a.ignore_case (parser_of_value p) of.fits.first ≡ true) is of.fits.passes;
 }
   where
     reads : of.row.reading ≡ AsWritten
@@ -115,24 +148,22 @@ module _ (words : List Text) (level : Passes built_run [] words false []) where
       go true e = refl
       go false e = cc
 
+  -- what was found for an argument that has a default
+  of_default : (a : Rule) → find (λ b. bytes_eq b.id a.id) built_run.rules ≡ Some a → is_empty a.defaults ≡ false → Found a found_rows
+  unfolding end found_rows
+  of_default a is some =
+      found_for built_run.rules a found_rows distinct is all (made_by_defaults built_run.rules a (settled built_run.rules end).rows is some)
+
   run_rows : IsRun (rows_after built_run.rules [] words)
   unfolding end found_rows
   run_rows =
-      let first = (settled built_run.rules end).rows in
-      let second = with_default first image in
-      let third = with_default second memory in
-      let fourth = with_default third steps in
       let of_image = found_for built_run.rules image found_rows distinct refl all (given_row (codes "image") found_rows image_given) in
-      let of_memory = found_for built_run.rules memory found_rows distinct refl all
-      (kept_by_default memory.id fourth machine (kept_by_default memory.id third steps (made_by_default second memory refl))) in
-      let of_steps = found_for built_run.rules steps found_rows distinct refl all
-      (kept_by_default steps.id fourth machine (made_by_default third steps refl)) in
-      let of_machine = found_for built_run.rules machine found_rows distinct refl all (made_by_default fourth machine refl) in
       record {
         image = has_text image found_rows of_image;
-        memory = has_number memory 64 65536 found_rows refl of_memory;
-        limit = has_number steps 0 (2 ^ 40) found_rows refl of_steps;
-        machine = has_number machine 1 2 found_rows refl of_machine;
+        memory = has_number memory 64 65536 found_rows refl (of_default memory refl refl);
+        limit = has_number steps 0 (2 ^ 40) found_rows refl (of_default steps refl refl);
+        machine = has_number machine 1 2 found_rows refl (of_default machine refl refl);
+        report = has_flag report found_rows refl (of_default report refl refl);
       }
 
 -- ---- asc

@@ -1,5 +1,6 @@
--- The exit codes of the answers.
-use Rattle.std.specs.Prelude.{ℕ}
+-- The exit codes of the answers, and answers without numbers.
+use Rattle.std.specs.Prelude.{ℕ, None}
+use Rattle.asc_words.specs.declared.answer.Outcome.{Outcome}
 use Rattle.asc_words.specs.declared.answer.Answer.{Answer}
 use Rattle.asc_words.specs.declared.answer.Answer.TheVariants.{Exit, Usage, Image, TooLong, StoreFault, Memory, ReadFault, WriteFault, ErrFault, ReportFault, Limit, Fault}
 
@@ -18,3 +19,7 @@ code_of ErrFault = 74
 code_of ReportFault = 74
 code_of (Limit count) = 75
 code_of (Fault fault count) = 76
+
+-- an answer of which no numbers are reported
+abbrev pub outcome_of : Answer → Outcome
+outcome_of answer = record { answer = answer; counts = None }

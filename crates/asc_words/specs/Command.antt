@@ -2,6 +2,7 @@
 use Rattle.std.specs.Prelude.{ℕ, ◌^◌, codes, true, false, List, [], ◌∷◌, Some}
 use Rattle.clap.specs.Walk.{Rule, Text}
 use Rattle.clap.specs.Simple.{App, Shape, new_rule, new_shape}
+use Rattle.clap.specs.declared.builder.action.ArgAction.TheVariants.{SetTrue}
 use Rattle.clap.specs.declared.builder.value_parser.ValueParser.TheVariants as parsers
 
 -- an argument without a name, which must be there
@@ -16,6 +17,14 @@ number_option name least most default = record (new_rule name) {
   defaults = default ∷ [];
 }
 
+-- `--NAME TEXT`, which may be absent
+abbrev pub text_option : Text → Rule
+text_option name = record (new_rule name) { long = Some name }
+
+-- `--NAME`, which takes no value
+abbrev pub flag : Text → Rule
+flag name = record (new_rule name) { long = Some name; action = Some SetTrue }
+
 -- what `asc run` takes: a row for each argument
 abbrev pub run_arguments : List Rule
 run_arguments =
@@ -23,6 +32,8 @@ run_arguments =
     ∷ number_option (codes "memory") 64 65536 (codes "1024")
     ∷ number_option (codes "steps") 0 (2 ^ 40) (codes "1099511627776")
     ∷ number_option (codes "machine") 1 2 (codes "2")
+    ∷ text_option (codes "pc")
+    ∷ flag (codes "report")
     ∷ []
 
 abbrev pub run_command : Shape

@@ -1,27 +1,20 @@
 -- What the words of a command line mean.
-use Rattle.std.specs.Prelude.{ℕ, ◌^◌, ◌≤◌, ◌==◌, codes, List, [], Option, Some, None, option_and_then, unwrap_or, if◌then◌else◌}
+use Rattle.std.specs.Prelude.{ℕ, ◌^◌, ◌≤◌, ◌==◌, ◌&&◌, Bool, codes, nat_le, List, [], length, Option, Some, None, Result, Ok, Err, unwrap_or, if◌then◌else◌}
+use Rattle.std.specs.Char.{is_ascii_hexdigit}
+use Rattle.std.specs.List.{list_all}
 use Rattle.std.specs.Str.{bytes_eq}
 use Rattle.std.specs.Str.Parse.{digits_value, without_leading_plus}
-use Rattle.std.specs.String.{string_bytes}
 use Rattle.clap.specs.Walk.{Row, Text, first_of, one_of, is_empty}
 use Rattle.clap.specs.Simple.{subcommand_of}
 use Rattle.clap.specs.Faults.{fault_of}
 use Rattle.asc_model.specs.declared.version.Version.{Version}
 use Rattle.asc_model.specs.declared.version.Version.TheVariants.{One, Two}
+use Rattle.asc_words.specs.declared.answer.Bad.{Bad}
+use Rattle.asc_words.specs.declared.answer.Bad.TheVariants.{Words, Pc}
 use Rattle.asc_words.specs.declared.line.Line.{Line}
-use Rattle.asc_words.specs.declared.line.Line.TheVariants as lines
+use Rattle.asc_words.specs.declared.line.Line.TheVariants.{Run}
+use Rattle.asc_words.specs.declared.line.RunLine.{RunLine}
 use Rattle.asc_words.specs.Command.{asc_command}
-
--- `asc run`: the image's name, the guest's memory in KiB, the most steps it may do, and the machine's version
-pub record Run : Type 0 where
-  pub image : Text
-  pub memory : ℕ
-  pub limit : ℕ
-  pub version : Version
-
--- what a command line asks for: a constructor for each subcommand
-pub data Meaning : Type 0 where
-  run : Run → Meaning
 
 -- ---- the values that clap found for an argument
 
@@ -32,39 +25,53 @@ text_in id rows = unwrap_or (first_of id rows) []
 abbrev pub number_in : Text → List Row → ℕ
 number_in id rows = digits_value 10 (without_leading_plus (unwrap_or (one_of id rows) []))
 
+abbrev pub flag_in : Text → List Row → Bool
+flag_in id rows = bytes_eq (unwrap_or (one_of id rows) []) (codes "true")
+
+-- an address is 1 to 8 hexadecimal digits, of either case
+abbrev pub is_address : Text → Bool
+is_address text = nat_le 1 (length text) && nat_le (length text) 8 && list_all is_ascii_hexdigit text
+
+-- the address of an option that may be absent, whose value must be one
+abbrev pub address_of : Option Text → Result (Option ℕ) Bad
+address_of None = Ok None
+address_of (Some text) = if is_address text then Ok (Some (digits_value 16 text)) else Err Pc
+
 -- ---- lines
 
 abbrev pub version_numbered : ℕ → Version
 version_numbered number = if number == 1 then One else Two
 
-abbrev pub run_of : List Row → Run
-run_of rows = record {
+abbrev pub run_with : List Row → (pc : Option ℕ) → RunLine
+run_with rows pc = record {
   image = text_in (codes "image") rows;
   memory = number_in (codes "memory") rows;
   limit = number_in (codes "steps") rows;
   version = version_numbered (number_in (codes "machine") rows);
+  pc = pc;
+  report = flag_in (codes "report") rows;
 }
 
--- the meaning of a subcommand and of what clap found for its arguments
-abbrev pub meaning_of : Text × List Row → Option Meaning
-meaning_of (name, rows) = if bytes_eq name (codes "run") then Some (run (run_of rows)) else None
+abbrev pub run_at : List Row → Result (Option ℕ) Bad → Result Line Bad
+run_at rows (Ok pc) = Ok (Run (run_with rows pc))
+run_at rows (Err bad) = Err bad
 
--- The line that clap's simple command gives for these words, or none where it refuses them. The first word is the
--- program's name.
-unfoldable pub line_of : List Text → Option Meaning
+-- the line of `asc run`, of what clap found for its arguments, or what is wrong with them
+abbrev pub run_of : List Row → Result Line Bad
+run_of rows = run_at rows (address_of (first_of (codes "pc") rows))
+
+-- the line of a subcommand and of what clap found for its arguments
+abbrev pub line_found : Option (Text × List Row) → Result Line Bad
+line_found (Some (name, rows)) = if bytes_eq name (codes "run") then run_of rows else Err Words
+line_found None = Err Words
+
+-- The line that clap's simple command gives for these words, or what is wrong with them. The first word is the program's
+-- name.
+unfoldable pub line_of : List Text → Result Line Bad
 line_of words =
-    if is_empty (fault_of asc_command words) then option_and_then meaning_of (subcommand_of asc_command words)
-    else None
-
--- what a line of the code stands for
-abbrev pub meaning : Line → Meaning
-meaning (lines.Run image memory limit version) = run (record {
-  image = string_bytes image;
-  memory = memory;
-  limit = limit;
-  version = version;
-})
+    if is_empty (fault_of asc_command words) then line_found (subcommand_of asc_command words)
+    else Err Words
 
 -- its numbers are within their ranges
-abbrev pub IsWithin : Meaning → Type 0
-IsWithin (run line) = (64 ≤ line.memory) × (line.memory ≤ 65536) × (line.limit ≤ 2 ^ 40)
+abbrev pub IsWithin : Line → Type 0
+IsWithin (Run line) = (64 ≤ line.memory) × (line.memory ≤ 65536) × (line.limit ≤ 2 ^ 40)

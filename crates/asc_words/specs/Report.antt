@@ -1,5 +1,5 @@
 -- The text of an answer on the report.
-use Rattle.std.specs.Prelude.{ℕ, codes, decimal, List, [], ◌++◌}
+use Rattle.std.specs.Prelude.{ℕ, codes, decimal, List, [], ◌++◌, Option, Some, None}
 use Rattle.std.specs.Int.{to_be_bytes, w32}
 use Rattle.hex.specs.Hex.{encode_lower}
 use Rattle.asc_model.specs.declared.fault.FaultKind.{FaultKind}
@@ -7,6 +7,8 @@ use Rattle.asc_model.specs.declared.fault.FaultKind.TheVariants as kinds
 use Rattle.asc_elf.specs.declared.fault.ElfFault.{ElfFault}
 use Rattle.asc_elf.specs.declared.fault.ElfFault.TheVariants as elf
 use Rattle.asc_words.specs.declared.answer.Answer.{Answer}
+use Rattle.asc_words.specs.declared.answer.Counts.{Counts}
+use Rattle.asc_words.specs.declared.answer.Outcome.{Outcome}
 use Rattle.asc_words.specs.declared.answer.Answer.TheVariants.{Exit, Usage, Image, TooLong, StoreFault, Memory, ReadFault, WriteFault, ErrFault, ReportFault, Limit, Fault as Failed}
 
 -- the number of a machine fault's kind
@@ -47,22 +49,41 @@ abbrev pub word_text : ℕ → List ℕ
 word_text word = encode_lower (to_be_bytes w32 word)
 
 -- The line of an answer. A guest that ends by itself has none. Where the report itself fails, it has a prefix of the
--- line of the answer that this one replaces, and gets no more.
-unfoldable pub report_text : Answer → List ℕ
-report_text (Exit code) = []
-report_text (Usage bad) = codes "asc: usage\n"
-report_text (Image fault) =
+-- text of the outcome that this answer replaces, and gets no more.
+unfoldable pub answer_text : Answer → List ℕ
+answer_text (Exit code) = []
+answer_text (Usage bad) = codes "asc: usage\n"
+answer_text (Image fault) =
     codes "asc: image fault " ++ decimal (image_number fault) ++ header_text fault ++ codes "\n"
-report_text TooLong = codes "asc: image too long\n"
-report_text StoreFault = codes "asc: store failed\n"
-report_text Memory = codes "asc: out of memory\n"
-report_text ReadFault = codes "asc: input failed\n"
-report_text WriteFault = codes "asc: output failed\n"
-report_text ErrFault = codes "asc: error output failed\n"
-report_text ReportFault = []
-report_text (Limit count) = codes "asc: limit after " ++ decimal count ++ codes "\n"
-report_text (Failed fault count) =
+answer_text TooLong = codes "asc: image too long\n"
+answer_text StoreFault = codes "asc: store failed\n"
+answer_text Memory = codes "asc: out of memory\n"
+answer_text ReadFault = codes "asc: input failed\n"
+answer_text WriteFault = codes "asc: output failed\n"
+answer_text ErrFault = codes "asc: error output failed\n"
+answer_text ReportFault = []
+answer_text (Limit count) = codes "asc: limit after " ++ decimal count ++ codes "\n"
+answer_text (Failed fault count) =
     codes "asc: fault " ++ decimal (kind_number fault.kind)
     ++ codes " at " ++ word_text fault.pc
     ++ codes " value " ++ word_text fault.value
     ++ codes " after " ++ decimal count ++ codes "\n"
+
+-- the line of the numbers of a run
+unfoldable pub counts_text : Counts → List ℕ
+counts_text counts =
+    codes "asc: executed " ++ decimal counts.executed
+    ++ codes " skipped " ++ decimal counts.skipped
+    ++ codes " asked " ++ decimal counts.asked
+    ++ codes " hits " ++ decimal counts.hits
+    ++ codes " made " ++ decimal counts.made
+    ++ codes " refused " ++ decimal counts.refused ++ codes "\n"
+
+-- the line of these numbers, where they are reported
+abbrev pub reported_counts_text : Option Counts → List ℕ
+reported_counts_text (Some counts) = counts_text counts
+reported_counts_text None = []
+
+-- The text of an outcome: the line of its answer, and behind it that of its numbers.
+unfoldable pub report_text : Outcome → List ℕ
+report_text outcome = answer_text outcome.answer ++ reported_counts_text outcome.counts

@@ -1,16 +1,18 @@
 -- What clap's answers are to the code: an error as a fault, and the matches of words that it takes.
-use Rattle.std.specs.Prelude.{◌≡◌, ℕ, ◌^◌, codes, true, List, is_some, Some}
+use Rattle.std.specs.Prelude.{◌≡◌, ℕ, ◌^◌, ◌||◌, codes, true, List, is_some, Some}
+use Rattle.std.specs.Str.{bytes_eq}
 use Rattle.clap.specs.Values.{IsUnsignedIn}
 use Rattle.clap.specs.Walk.{Row, Text, first_of, one_of}
 use Rattle.clap.specs.declared.error.kind.ErrorKind.{ErrorKind}
 use Rattle.clap.specs.declared.error.kind.ErrorKind.TheVariants as kinds
+use Rattle.asc_words.specs.declared.answer.Bad.TheVariants.{Words}
 use Rattle.asc_words.specs.declared.line.LineFault.{LineFault}
 use Rattle.asc_words.specs.declared.line.LineFault.TheVariants as faults
 
 -- clap's error as a fault: want of memory, and else wrong words
 abbrev pub line_fault : ErrorKind → LineFault
 line_fault kinds.OutOfMemory = faults.Memory
-line_fault _ = faults.Words
+line_fault _ = faults.Usage Words
 
 -- a number was found for an option, within its range
 pub record HasNumber (id : Text) (least most : ℕ) (rows : List Row) : Type 0 where
@@ -18,9 +20,16 @@ pub record HasNumber (id : Text) (least most : ℕ) (rows : List Row) : Type 0 w
   pub found : one_of id rows ≡ Some text
   pub accepted : IsUnsignedIn least most text
 
+-- whether a flag was given was found
+pub record HasFlag (id : Text) (rows : List Row) : Type 0 where
+  pub text : Text
+  pub found : one_of id rows ≡ Some text
+  pub accepted : (bytes_eq text (codes "true") || bytes_eq text (codes "false")) ≡ true
+
 -- what `asc run` takes has its values
 pub record IsRun (rows : List Row) : Type 0 where
   pub image : is_some (first_of (codes "image") rows) ≡ true
   pub memory : HasNumber (codes "memory") 64 65536 rows
   pub limit : HasNumber (codes "steps") 0 (2 ^ 40) rows
   pub machine : HasNumber (codes "machine") 1 2 rows
+  pub report : HasFlag (codes "report") rows

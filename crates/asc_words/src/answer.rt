@@ -8,6 +8,8 @@ use asc_step::Fault;
 pub enum Bad {
     /// The words are of no command.
     Words,
+    /// The value of `--pc` is no address.
+    Pc,
 }
 
 /// How the program ends.
@@ -37,6 +39,44 @@ pub enum Answer {
     ErrFault,
     /// The report failed, while it took the text of another answer.
     ReportFault,
+}
+
+/// The numbers of a run.
+#[derive(Clone, Copy, Debug, PartialEq, Eq)]
+pub struct Counts {
+    /// Steps done.
+    pub executed: u64,
+    /// Steps jumped over.
+    pub skipped: u64,
+    /// How often a jump was asked for.
+    pub asked: u64,
+    /// Jumps.
+    pub hits: u64,
+    /// Guesses made.
+    pub made: u64,
+    /// How often memory was wanting.
+    pub refused: u64,
+}
+
+/// What the words of a command line come to: an answer, and the numbers of its run where they are reported.
+#[derive(Clone, Copy, Debug, PartialEq, Eq)]
+pub struct Outcome {
+    pub answer: Answer,
+    pub counts: Option<Counts>,
+}
+
+impl Outcome {
+    ghost use Rattle.asc_words.specs.Answer.{outcome_of};
+
+    /// An answer of which no numbers are reported.
+    pub fn of(answer: Answer) -> Outcome
+        ensures { result ≡ outcome_of answer }
+    {
+        Outcome {
+            answer,
+            counts: None,
+        }
+    }
 }
 
 impl Answer {

@@ -1,10 +1,10 @@
 //! The command that `clap` reads: a row for each argument.
 ghost use Rattle.std.specs.Prelude.{◌≡◌, IfOk, false};
 ghost use Rattle.clap.specs.Words.{app_of, rule_of};
-ghost use Rattle.asc_words.specs.Command.{asc_command, number_option, required};
+ghost use Rattle.asc_words.specs.Command.{asc_command, flag, number_option, required, text_option};
 
 use clap::builder::ValueParser;
-use clap::{Arg, Command};
+use clap::{Arg, ArgAction, Command};
 use std::alloc::{AllocError, Global};
 
 /// `asc` with its subcommands.
@@ -15,7 +15,9 @@ pub(crate) fn asc_command<'a>(alloc: Global) -> Result<Command<'a>, AllocError>
         .arg(required(alloc, "image"))?
         .arg(number(alloc, "memory", 64, 65_536, "1024"))?
         .arg(number(alloc, "steps", 0, 1 << 40, "1099511627776"))?
-        .arg(number(alloc, "machine", 1, 2, "2"))?;
+        .arg(number(alloc, "machine", 1, 2, "2"))?
+        .arg(text(alloc, "pc"))?
+        .arg(flag(alloc, "report"))?;
     Command::new(alloc, "asc")
         .subcommand_required(true)
         .disable_help_flag(true)
@@ -40,4 +42,20 @@ fn number<'a>(alloc: Global, name: &'a str, least: u64, most: u64, default: &'a 
         .long(name)
         .value_parser(ValueParser::unsigned(least, most))
         .default_value(default)
+}
+
+/// `--NAME TEXT`, which may be absent.
+fn text<'a>(alloc: Global, name: &'a str) -> Arg<'a>
+    ensures rule { rule_of result ≡ text_option name.entry.now }
+    ensures local { result.global ≡ false }
+{
+    Arg::new(alloc, name).long(name)
+}
+
+/// `--NAME`, which takes no value.
+fn flag<'a>(alloc: Global, name: &'a str) -> Arg<'a>
+    ensures rule { rule_of result ≡ flag name.entry.now }
+    ensures local { result.global ≡ false }
+{
+    Arg::new(alloc, name).long(name).action(ArgAction::SetTrue)
 }

@@ -7,9 +7,9 @@ mod laws;
 mod line;
 mod report;
 
-pub use answer::{Answer, Bad};
+pub use answer::{Answer, Bad, Counts, Outcome};
 pub use laws::{lines_are_within, taken_words_have_lines};
-pub use line::{Line, LineFault, parse};
+pub use line::{FileName, Line, LineFault, RunLine, parse};
 pub use report::text;
 
 #[cfg(test)]

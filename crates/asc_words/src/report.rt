@@ -1,9 +1,9 @@
 //! The text of an answer, built in bytes on the stack.
 ghost use Rattle.std.specs.Prelude.{◌≡◌, ◌+◌, ◌≤◌, ◌++◌, codes, decimal, drop, length};
 ghost use Rattle.arrayvec.specs.ArrayVec.{array_vec_len};
-ghost use Rattle.asc_words.specs.Report.{header_text, image_number, kind_number, report_text, word_text};
+ghost use Rattle.asc_words.specs.Report.{answer_text, header_text, image_number, kind_number, report_text, word_text};
 
-use crate::answer::Answer;
+use crate::answer::{Answer, Counts, Outcome};
 use arrayvec::ArrayVec;
 use asc_elf::ElfFault;
 use asc_step::{Fault, FaultKind};
@@ -12,23 +12,36 @@ use itoa::Buffer;
 /// The text of an answer as far as it is built.
 type Text = ArrayVec<u8, 512>;
 
-/// Puts the text of an answer, which is one line or none, at the front of `into`, and answers its length. It takes no
+/// Puts the text of an outcome, which is at most two lines, at the front of `into`, and answers its length. It takes no
 /// memory.
-pub fn text(answer: &Answer, into: &mut [u8]) -> usize
+pub fn text(outcome: &Outcome, into: &mut [u8]) -> usize
     requires { 512 ≤ length into.old }
-    ensures text { into.new ≡ report_text answer.now ++ drop (length (report_text answer.now)) into.old }
-    ensures length { result ≡ length (report_text answer.now) }
+    ensures text { into.new ≡ report_text outcome.now ++ drop (length (report_text outcome.now)) into.old }
+    ensures length { result ≡ length (report_text outcome.now) }
 {
-    let line = line(answer);
-    let length = line.len();
-    into[..length].copy_from_slice(line.as_slice());
+    let text = text_of(outcome);
+    let length = text.len();
+    into[..length].copy_from_slice(text.as_slice());
     length
 }
 
-/// The text of an answer.
+/// The text of an outcome.
 #[tactic(auto, unfolding(crate::specs::Report::report_text))]
+fn text_of(outcome: &Outcome) -> Text
+    ensures { result.items ≡ report_text outcome.now }
+{
+    let mut text = line(&outcome.answer);
+    if let Some(counts) = &outcome.counts {
+        put_counts(&mut text, counts);
+    }
+    text
+}
+
+/// The line of an answer, or nothing.
+#[tactic(auto, unfolding(crate::specs::Report::answer_text))]
 fn line(answer: &Answer) -> Text
-    ensures { result.items ≡ report_text answer.now }
+    ensures line { result.items ≡ answer_text answer.now }
+    ensures room { array_vec_len result ≤ 128 }
 {
     let mut line = Text::new();
     match answer {
@@ -50,8 +63,9 @@ fn line(answer: &Answer) -> Text
 /// Appends the line of an image's fault.
 fn put_image_fault(line: &mut Text, fault: &ElfFault)
     requires { array_vec_len line.old ≡ 0 }
-    ensures { line.new.items ≡ line.old.items ++ codes "asc: image fault " ++ decimal (image_number fault.now)
+    ensures line { line.new.items ≡ line.old.items ++ codes "asc: image fault " ++ decimal (image_number fault.now)
         ++ header_text fault.now ++ codes "\n" }
+    ensures room { array_vec_len line.new ≤ 128 }
 {
     put(line, b"asc: image fault ");
     put_number(line, image_number(fault));
@@ -65,7 +79,8 @@ fn put_image_fault(line: &mut Text, fault: &ElfFault)
 /// Appends the line of a limit that was reached.
 fn put_limit(line: &mut Text, count: u64)
     requires { array_vec_len line.old ≡ 0 }
-    ensures { line.new.items ≡ line.old.items ++ codes "asc: limit after " ++ decimal count ++ codes "\n" }
+    ensures line { line.new.items ≡ line.old.items ++ codes "asc: limit after " ++ decimal count ++ codes "\n" }
+    ensures room { array_vec_len line.new ≤ 128 }
 {
     put(line, b"asc: limit after ");
     put_number(line, count);
@@ -75,9 +90,10 @@ fn put_limit(line: &mut Text, count: u64)
 /// Appends the line of a machine's fault.
 fn put_fault(line: &mut Text, fault: &Fault, count: u64)
     requires { array_vec_len line.old ≡ 0 }
-    ensures { line.new.items ≡ line.old.items ++ codes "asc: fault " ++ decimal (kind_number fault.now.kind)
+    ensures line { line.new.items ≡ line.old.items ++ codes "asc: fault " ++ decimal (kind_number fault.now.kind)
         ++ codes " at " ++ word_text fault.now.pc ++ codes " value " ++ word_text fault.now.value
         ++ codes " after " ++ decimal count ++ codes "\n" }
+    ensures room { array_vec_len line.new ≤ 128 }
 {
     put(line, b"asc: fault ");
     put_number(line, kind_number(fault.kind));
@@ -87,6 +103,29 @@ fn put_fault(line: &mut Text, fault: &Fault, count: u64)
     put_word(line, fault.value);
     put(line, b" after ");
     put_number(line, count);
+    put(line, b"\n");
+}
+
+/// Appends the line of the numbers of a run.
+fn put_counts(line: &mut Text, counts: &Counts)
+    requires { array_vec_len line.old ≤ 128 }
+    ensures { line.new.items ≡ line.old.items ++ codes "asc: executed " ++ decimal counts.now.executed
+        ++ codes " skipped " ++ decimal counts.now.skipped ++ codes " asked " ++ decimal counts.now.asked
+        ++ codes " hits " ++ decimal counts.now.hits ++ codes " made " ++ decimal counts.now.made
+        ++ codes " refused " ++ decimal counts.now.refused ++ codes "\n" }
+{
+    put(line, b"asc: executed ");
+    put_number(line, counts.executed);
+    put(line, b" skipped ");
+    put_number(line, counts.skipped);
+    put(line, b" asked ");
+    put_number(line, counts.asked);
+    put(line, b" hits ");
+    put_number(line, counts.hits);
+    put(line, b" made ");
+    put_number(line, counts.made);
+    put(line, b" refused ");
+    put_number(line, counts.refused);
     put(line, b"\n");
 }
 

@@ -1,4 +1,4 @@
-use crate::{Answer, Bad, Line, LineFault, parse, text};
+use crate::{Answer, Bad, Counts, Line, LineFault, Outcome, parse, text};
 use asc_elf::ElfFault;
 use asc_shape::Version;
 use asc_step::{Fault, FaultKind};
@@ -6,8 +6,8 @@ use std::alloc::{AllocError, Global};
 use std::test::Fail;
 
 // Command lines, with one space between two words, and what they mean by clap's rules: the image, the memory in KiB, the
-// limit and the version.
-static LINES: [(&str, &str); 69] = [
+// limit and the version, and then the address and whether the numbers are reported, where that is asked for.
+static LINES: [(&str, &str); 96] = [
     // the image alone
     ("asc run a", "a 1024 1099511627776 2"),
     ("asc run ", " 1024 1099511627776 2"),
@@ -41,6 +41,47 @@ static LINES: [(&str, &str); 69] = [
     ("asc run a --machine 1", "a 1024 1099511627776 1"),
     ("asc run --machine=2 a", "a 1024 1099511627776 2"),
     ("asc run --machine=1 --steps 5 a --memory 100", "a 100 5 1"),
+    // an address, of 1 to 8 hexadecimal digits of either case
+    ("asc run a --pc 0", "a 1024 1099511627776 2 pc 0"),
+    ("asc run a --pc=10008", "a 1024 1099511627776 2 pc 65544"),
+    ("asc run --pc 0000001f a", "a 1024 1099511627776 2 pc 31"),
+    (
+        "asc run a --pc ffffffff",
+        "a 1024 1099511627776 2 pc 4294967295",
+    ),
+    (
+        "asc run a --pc FFFFFFFF",
+        "a 1024 1099511627776 2 pc 4294967295",
+    ),
+    (
+        "asc run a --pc 89aBCdeF",
+        "a 1024 1099511627776 2 pc 2309737967",
+    ),
+    ("asc run a --pc 1000g", "no address"),
+    ("asc run a --pc=", "no address"),
+    ("asc run a --pc ", "no address"),
+    ("asc run a --pc 000010008", "no address"),
+    ("asc run a --pc +1000", "no address"),
+    ("asc run a --pc 0x1000", "no address"),
+    ("asc run a --pc=-1", "no address"),
+    ("asc run a --pc -1", "refused"),
+    ("asc run a --pc", "refused"),
+    ("asc run a --pc --report", "refused"),
+    ("asc run a --pc 0 --pc 0", "refused"),
+    ("asc run a --pc 0 --memory 63", "refused"),
+    ("asc run a --pc 1000g --memory 63", "refused"),
+    // a flag, which takes no value
+    ("asc run a --report", "a 1024 1099511627776 2 report"),
+    ("asc run --report a", "a 1024 1099511627776 2 report"),
+    ("asc run --report -- a", "a 1024 1099511627776 2 report"),
+    ("asc run -- --report", "--report 1024 1099511627776 2"),
+    ("asc run a --report --report", "refused"),
+    ("asc run a --report=true", "refused"),
+    ("asc run a --report true", "refused"),
+    (
+        "asc run a --report --pc 1 --steps 5",
+        "a 1024 5 2 pc 1 report",
+    ),
     // values that are absent or empty
     ("asc run a --memory", "refused"),
     ("asc run a --memory=", "refused"),
@@ -101,18 +142,21 @@ fn words_of(alloc: Global, text: &str) -> Result<Vec<String>, AllocError> {
 // What the words mean, as a text.
 fn meaning_of(alloc: Global, words: &[String]) -> Result<String, AllocError> {
     match parse(alloc, words) {
-        Ok(
-            Line::Run {
-                image,
-                memory,
-                limit,
-                version,
-            },
-        ) => {
-            let version = if version == Version::One { 1 } else { 2 };
-            format!(in alloc; "{image} {memory} {limit} {version}")
+        Ok(Line::Run(line)) => {
+            let image = line.image.as_str();
+            let version = if line.version == Version::One { 1 } else { 2 };
+            let (memory, limit) = (line.memory, line.limit);
+            let mut meaning = format!(in alloc; "{image} {memory} {limit} {version}")?;
+            if let Some(pc) = line.pc {
+                meaning.push_str(format!(in alloc; " pc {pc}")?.as_str())?;
+            }
+            if line.report {
+                meaning.push_str(" report")?;
+            }
+            Ok(meaning)
         }
-        Err(LineFault::Words) => String::from_str(alloc, "refused"),
+        Err(LineFault::Usage(Bad::Pc)) => String::from_str(alloc, "no address"),
+        Err(LineFault::Usage(Bad::Words)) => String::from_str(alloc, "refused"),
         Err(LineFault::Memory) => String::from_str(alloc, "out of memory"),
     }
 }
@@ -141,10 +185,11 @@ const LAST: Fault = Fault {
 };
 
 // The answers' table: the exit status of each answer, and its line.
-static ANSWERS: [(Answer, u8, &str); 38] = [
+static ANSWERS: [(Answer, u8, &str); 39] = [
     (Answer::Exit(0), 0, ""),
     (Answer::Exit(255), 255, ""),
     (Answer::Usage(Bad::Words), 64, "asc: usage\n"),
+    (Answer::Usage(Bad::Pc), 64, "asc: usage\n"),
     (Answer::Image(ElfFault::Short), 65, "asc: image fault 1\n"),
     (Answer::Image(ElfFault::Magic), 65, "asc: image fault 2\n"),
     (Answer::Image(ElfFault::Class), 65, "asc: image fault 3\n"),
@@ -276,17 +321,70 @@ static ANSWERS: [(Answer, u8, &str); 38] = [
     ),
 ];
 
+// The numbers of a run, and their line.
+static NUMBERS: [(Counts, &str); 3] = [
+    (
+        Counts {
+            executed: 0,
+            skipped: 0,
+            asked: 0,
+            hits: 0,
+            made: 0,
+            refused: 0,
+        },
+        "asc: executed 0 skipped 0 asked 0 hits 0 made 0 refused 0\n",
+    ),
+    (
+        Counts {
+            executed: 1,
+            skipped: 20,
+            asked: 300,
+            hits: 4000,
+            made: 50_000,
+            refused: 600_000,
+        },
+        "asc: executed 1 skipped 20 asked 300 hits 4000 made 50000 refused 600000\n",
+    ),
+    (
+        Counts {
+            executed: u64::MAX,
+            skipped: u64::MAX,
+            asked: u64::MAX,
+            hits: u64::MAX,
+            made: u64::MAX,
+            refused: u64::MAX,
+        },
+        "asc: executed 18446744073709551615 skipped 18446744073709551615 asked 18446744073709551615 \
+         hits 18446744073709551615 made 18446744073709551615 refused 18446744073709551615\n",
+    ),
+];
+
+// Whether the text of an outcome is these two lines, and all bytes behind it stay.
+fn is_text(outcome: Outcome, line: &str, numbers: &str) -> bool {
+    let mut into = [0xEE; 512];
+    let length = text(&outcome, &mut into);
+    into[..length].starts_with(line.as_bytes())
+        && into[..length].ends_with(numbers.as_bytes())
+        && length == line.len() + numbers.len()
+        && into[length..].iter().all(|byte| *byte == 0xEE)
+}
+
 #[test]
-fn answers(rt: HostRuntime) -> Result<(), Fail> {
+fn answers(rt: HostRuntime) {
     for (answer, code, line) in &ANSWERS {
-        let mut into = [0xEE; 512];
-        let length = text(answer, &mut into);
-        assert_eq!(rt; std::str::from_utf8(&into[..length]), Ok(*line));
-        assert!(rt;
-            into[length..].iter().all(|byte| *byte == 0xEE),
-            "behind {line}"
-        );
         assert_eq!(rt; answer.code(), *code, "code of {line}");
+        let counts = None;
+        let answer = *answer;
+        assert!(rt;
+            is_text(Outcome { answer, counts }, line, ""),
+            "text of {line}"
+        );
+        for (counts, numbers) in &NUMBERS {
+            let counts = Some(*counts);
+            assert!(rt;
+                is_text(Outcome { answer, counts }, line, numbers),
+                "{line}{numbers}"
+            );
+        }
     }
-    Ok(())
 }

@@ -1,55 +1,95 @@
 -- What a file that is not too long was run as.
-use Rattle.std.proofs.Common.{◌≡◌, ℕ, Some, None, IsNone, Ok, Err, refl, sym, ap, subst, ◌∙◌}
-use Rattle.asc_run.specs.declared.walk.Ended.{Ended}
-use Rattle.asc_run.specs.Execution.{exec, device_of}
-use Rattle.asc_run.specs.Walk.{Walk, new_walk, Follows, StopsAt, world_of}
+use Rattle.std.proofs.Common.{◌≡◌, ◌↔◌, ℕ, ◌+◌, Option, Some, None, IsNone, IsSome, IsTrue, refl, sym, ap, subst, arith, ◌∙◌}
+use Rattle.asc_calls.specs.GuestCall.{Device, nothing}
+use Rattle.asc_calls.specs.World.{outside}
+use Rattle.asc_traj.specs.Finder.{Tally}
+use Rattle.asc_run.specs.Execution.{device_of}
+use Rattle.asc_run.specs.Faults.{BlamesOnly, faults}
+use Rattle.asc_run.specs.Walk.{Walk, device_in, world_of}
 use Rattle.asc_words.specs.declared.answer.Answer.{Answer}
-use Rattle.asc_words.specs.Line.{Run as Line}
-use Rattle.asc_top.specs.Program.{Means, answer_at, load_of, device_of_answer}
-use Rattle.asc_top.proofs.Outcomes.{means_walk, means_image, stopped_walk, device_of_answer-answer_at}
+use Rattle.asc_words.specs.declared.answer.Counts.{Counts}
+use Rattle.asc_words.specs.declared.answer.Outcome.{Outcome}
+use Rattle.asc_top.specs.Program.{Means, answer_at, reported_counts, result_of_run}
+use Rattle.asc_top.specs.Kinds.{Finished, IsRefusal, device_of_answer, kind_of}
+use Rattle.asc_top.proofs.Outcomes.{means_walk, means_image, stopped_walk, device_of_answer-answer_at, run-not_refused, counts-told, counts-numbers}
 use Rattle.asc_top.proofs.program.run_file.Goals as goal
 
--- the answer of a run with this count
-answered : (ended : Ended) (count counted : ℕ) (answer : Answer) → answer ≡ answer_at ended counted → counted ≡ count → answer_at ended count ≡ answer
-answered ended count counted answer is same = sym (is ∙ ap (λ (n : ℕ). answer_at ended n) same)
+-- a sum that is 0
+none_more : (before more : ℕ) → 0 ≡ before + more → more ≡ 0
+none_more before more is = omega arith
 
 pub returns-in-Err-clause-means : goal.returns-in-Err-clause-means
 returns-in-Err-clause-means g c = λ _ _.
-    let loads = subst (λ (l : Line). load_of l c.args.file.now ≡ Err c.in-Err.fault) c.line.view_is (sym c.read.ensures ∙ c.in-Err.is) in
-    means_image c.args.line.now _ c.in-Err.fault _ c.requires.file loads
+    let guest = outside (g.I.Source.left c.args.input.now) (g.O.Sink.given c.args.out.now) (g.E.Sink.given c.args.err.now) c.args.steps.now in
+    let loads = sym c.read.ensures ∙ c.in-Err.is in
+    subst (λ (outcome : Outcome). Means guest guest outcome c.args.line.now c.args.file.now) (sym c.of.ensures)
+    (means_image c.args.line.now _ c.in-Err.fault guest c.requires.file loads)
 
 pub returns-clause-means : goal.returns-clause-means
-returns-clause-means g c = λ _ h.
+returns-clause-means g c = λ _ none.
     let line = c.args.line.now in
-    let walk = c.in-Ok-new.walk in
     let is = c.in-Ok-new.ensures in
-    let old = world_of walk (g.I.Source.left c.args.input.now) (g.O.Sink.given c.args.out.now) (g.E.Sink.given c.args.err.now) c.args.steps.now in
-    let new = world_of c.go-ended.new.self (g.I.Source.left c.go-ended.new.input) (g.O.Sink.given c.go-ended.new.out) (g.E.Sink.given c.go-ended.new.err) c.go-ended.new.steps in
-    let count = c.go-ended.new.self.count in
-    let ended = c.go-ended.result in
     let fresh = subst (λ (w : Walk). IsNone w.ended) (sym is) refl in
-    let loads = subst (λ (l : Line). load_of l c.args.file.now ≡ Ok c.in-Ok.image) c.line.view_is (sym c.read.ensures ∙ c.in-Ok.is) in
-    let limit : walk.limit ≡ line.limit = ap (λ (w : Walk). w.limit) is ∙ ap (λ (l : Line). l.limit) c.line.view_is in
-    let going : device_of ended ≡ None = sym (device_of_answer-answer_at ended count) ∙ ap (λ (a : Answer). device_of_answer a) (answered ended count _ _ c.answer_at.ensures c.counts.ensures.count) ∙ h in
-    let follows = subst (λ (n : ℕ). Follows n old new count ended) limit (c.go-ended.ensures.follows fresh going) in
-    let means = means_walk line c.args.file.now c.in-Ok.image old new count ended c.requires.file loads
-    (λ left. ap (λ (w : Walk). exec line.limit w.calls.low w.calls.high w.state left) is) follows in
-    let answer = answered ended count _ _ c.answer_at.ensures c.counts.ensures.count in
-    subst (λ (a : Answer). Means old.outside new.outside a line c.args.file.now) answer means
-
-pub returns-clause-stopped : goal.returns-clause-stopped
-returns-clause-stopped g c = λ device h.
-    let line = c.args.line.now in
-    let is = c.in-Ok-new.ensures in
     let left = g.I.Source.left c.args.input.now in
     let out = g.O.Sink.given c.args.out.now in
     let err = g.E.Sink.given c.args.err.now in
     let new = world_of c.go-ended.new.self (g.I.Source.left c.go-ended.new.input) (g.O.Sink.given c.go-ended.new.out) (g.E.Sink.given c.go-ended.new.err) c.go-ended.new.steps in
-    let count = c.go-ended.new.self.count in
     let ended = c.go-ended.result in
+    let count = c.go-ended.new.self.count in
+    let tally = c.go-ended.new.self.tally in
+    let raised = c.go-ended.ensures.helper fresh in
+    let given : tally.given ≡ 0 = none_more _ _ (ap (λ (t : Tally). t.given) raised) in
+    let hits : tally.hits ≡ 0 = none_more _ _ (ap (λ (t : Tally). t.hits) raised) in
+    let loads = sym c.read.ensures ∙ c.in-Ok.is in
+    let answer : answer_at ended count ≡ c.answer_at.result = sym (c.answer_at.ensures ∙ ap (λ (n : ℕ). answer_at ended n) c.counts-counts.ensures.count) in
+    let going : device_of ended ≡ None = sym (device_of_answer-answer_at ended count) ∙ ap (λ (a : Answer). device_of_answer a) answer ∙ none in
+    let made = c.counts_of.ensures in
+    let numbers = λ (visits : ℕ) (asked : tally.asked ≡ visits). counts-numbers line.report ended c.counts_of.result (result_of_run (record { ended = ended; count = count; io = nothing }) visits) (record {
+      total = ap (λ (k : Counts). k.executed + k.skipped) made ∙ c.counts-counts.ensures.executed;
+      asked = ap (λ (k : Counts). k.asked) made ∙ c.counts-counts.ensures.asked ∙ asked;
+      skipped = ap (λ (k : Counts). k.skipped) made ∙ c.counts-counts.ensures.skipped ∙ given;
+      hits = ap (λ (k : Counts). k.hits) made ∙ c.counts-counts.ensures.hits ∙ hits;
+      made = ap (λ (k : Counts). k.made) made;
+      refused = ap (λ (k : Counts). k.refused) made;
+    }) in
+    let means = means_walk line c.args.file.now c.in-Ok.image c.in-Ok-new.walk is c.requires.file loads left out err c.args.steps.now new _ _ refl refl tally raised given count ended
+    (c.go-ended.ensures.first fresh) (reported_counts line.report ended c.counts_of.result) numbers going in
+    subst (λ (outcome : Outcome). Means (outside left out err c.args.steps.now) new.outside outcome line c.args.file.now)
+    (λ i. record { answer = answer i; counts = sym c.reported_counts.ensures i }) means
+
+pub returns-clause-stopped : goal.returns-clause-stopped
+returns-clause-stopped g c = λ device failed.
+    let line = c.args.line.now in
+    let is = c.in-Ok-new.ensures in
     let fresh = subst (λ (w : Walk). IsNone w.ended) (sym is) refl in
-    let failed : device_of ended ≡ Some device = sym (device_of_answer-answer_at ended count) ∙ ap (λ (a : Answer). device_of_answer a) (answered ended count _ _ c.answer_at.ensures c.counts.ensures.count) ∙ h in
-    let stops = subst (λ (w : Walk). StopsAt w.limit (world_of w left out err c.args.steps.now) new count device) is (c.go-ended.ensures.stops fresh device failed) in
-    let loads = subst (λ (l : Line). load_of l c.args.file.now ≡ Ok c.in-Ok.image) c.line.view_is (sym c.read.ensures ∙ c.in-Ok.is) in
-    let at_limit = subst (λ (l : Line). StopsAt l.limit (world_of (new_walk c.in-Ok.image l.limit) left out err c.args.steps.now) new count device) c.line.view_is stops in
-    stopped_walk line c.args.file.now c.in-Ok.image left out err c.args.steps.now new count device c.requires.file loads at_limit
+    let new = world_of c.go-ended.new.self (g.I.Source.left c.go-ended.new.input) (g.O.Sink.given c.go-ended.new.out) (g.E.Sink.given c.go-ended.new.err) c.go-ended.new.steps in
+    let ended = c.go-ended.result in
+    let tally = c.go-ended.new.self.tally in
+    let raised = c.go-ended.ensures.helper fresh in
+    let given : tally.given ≡ 0 = none_more _ _ (ap (λ (t : Tally). t.given) raised) in
+    let loads = sym c.read.ensures ∙ c.in-Ok.is in
+    let stopped : device_of ended ≡ Some device =
+    sym (device_of_answer-answer_at ended _) ∙ ap (λ (a : Answer). device_of_answer a) (sym c.answer_at.ensures) ∙ failed in
+    stopped_walk line c.args.file.now c.in-Ok.image c.in-Ok-new.walk is c.requires.file loads (g.I.Source.left c.args.input.now) (g.O.Sink.given c.args.out.now) (g.E.Sink.given c.args.err.now) c.args.steps.now
+    new _ _ refl refl tally raised given c.go-ended.new.self.count ended (c.go-ended.ensures.first fresh) device stopped
+
+pub returns-clause-refused : goal.returns-clause-refused
+returns-clause-refused g c = λ refused.
+    absurd (run-not_refused c.go-ended.result _ (subst (λ (a : Answer). IsRefusal a) c.answer_at.ensures refused))
+
+pub returns-clause-counts : goal.returns-clause-counts
+returns-clause-counts g c =
+    let line = c.args.line.now in
+    subst (λ (outcome : Outcome). IsSome outcome.counts ↔ (IsTrue line.report × (kind_of outcome.answer ≡ Finished)))
+    (λ i. record { answer = sym c.answer_at.ensures i; counts = sym c.reported_counts.ensures i })
+    (counts-told line.report c.go-ended.result c.counts-counts.result.count c.counts_of.result)
+
+pub returns-clause-faults : goal.returns-clause-faults
+returns-clause-faults g c =
+    let ended = c.go-ended.result in
+    let old = faults (g.I.Source.faults c.args.input.now) (g.O.Sink.faults c.args.out.now) (g.E.Sink.faults c.args.err.now) in
+    let new = faults (g.I.Source.faults c.go-ended.new.input) (g.O.Sink.faults c.go-ended.new.out) (g.E.Sink.faults c.go-ended.new.err) in
+    let device : device_in c.in-Ok-new.walk.ended ended ≡ device_of_answer c.answer_at.result =
+    ap (λ (w : Walk). device_in w.ended ended) c.in-Ok-new.ensures
+    ∙ sym (device_of_answer-answer_at ended _) ∙ ap (λ (a : Answer). device_of_answer a) (sym c.answer_at.ensures) in
+    subst (λ (d : Option Device). BlamesOnly d old new) device c.go-ended.ensures.faults

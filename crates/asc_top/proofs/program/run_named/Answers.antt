@@ -1,22 +1,28 @@
 -- What holds of the answers of a file that was read, and of one that is too long.
-use Rattle.std.proofs.Common.{◌≡◌, ℕ, List, Ok, ap, subst, sym, arith, ◌∙◌}
+use Rattle.std.proofs.Common.{◌≡◌, ℕ, List, Ok, ap, subst, sym, arith}
 use Rattle.asc_outside.specs.Outside.{AsksFor, MayHold, MayHoldLonger}
-use Rattle.asc_words.specs.Line.{Run as Line}
+use Rattle.asc_calls.specs.World.{outside}
+use Rattle.asc_words.specs.declared.answer.Outcome.{Outcome}
 use Rattle.asc_top.specs.Program.{file_limit}
+use Rattle.asc_top.specs.Answered.{IsAnswerTo, devices}
 use Rattle.asc_top.proofs.Headline.{answer_of_run, answer_of_long}
 use Rattle.asc_top.proofs.program.run_named.Goals as goal
 
 pub returns-in-Ok-Longer : goal.returns-in-Ok-Longer
 returns-in-Ok-Longer g c = λ words asked.
-    let name : c.as_str.result.now ≡ c.args.line.now.image = c.as_str.ensures.value ∙ ap (λ (l : Line). l.image) c.line.view_is in
+    let name : c.as_str.result.now ≡ c.args.line.now.image = c.as_str.ensures in
+    let guest = outside (g.I.Source.left c.args.input.now) (g.O.Sink.given c.args.out.now) (g.E.Sink.given c.args.err.now) c.args.steps.now in
     let longer = subst (λ (n : List ℕ). MayHoldLonger (g.F.Store.files c.args.store.now) n file_limit) name
     (c.in-Ok-Longer.ensures.longer (ap (λ x. Ok x) c.in-Ok-Longer.field-0-is)) in
     let names = subst (λ (n : List ℕ). AsksFor n (g.F.Store.asked c.args.store.now) (g.F.Store.asked c.read.new.self)) name c.in-Ok-Longer.ensures.asked in
-    answer_of_long words _ _ _ _ c.args.line.now asked longer c.in-Ok-Longer.ensures.files names c.in-Ok-Longer.ensures.cause.stays
+    let old = devices (g.F.Store.files c.args.store.now) (g.F.Store.asked c.args.store.now) guest (g.F.Store.faults c.args.store.now) (g.I.Source.faults c.args.input.now) (g.O.Sink.faults c.args.out.now) (g.E.Sink.faults c.args.err.now) in
+    let new = devices (g.F.Store.files c.read.new.self) (g.F.Store.asked c.read.new.self) guest (g.F.Store.faults c.read.new.self) (g.I.Source.faults c.args.input.now) (g.O.Sink.faults c.args.out.now) (g.E.Sink.faults c.args.err.now) in
+    subst (λ (outcome : Outcome). IsAnswerTo words old new outcome) (sym c.of-in-Ok-Longer.ensures)
+    (answer_of_long words _ _ _ _ c.args.line.now asked longer c.in-Ok-Longer.ensures.files names c.in-Ok-Longer.ensures.cause.stays)
 
 pub returns : goal.returns
 returns g c = λ words asked.
-    let name : c.as_str.result.now ≡ c.args.line.now.image = c.as_str.ensures.value ∙ ap (λ (l : Line). l.image) c.line.view_is in
+    let name : c.as_str.result.now ≡ c.args.line.now.image = c.as_str.ensures in
     let file : c.read.new.into.items ≡ c.deref.result.now = sym c.deref.ensures.value in
     let held = subst (λ (n : List ℕ). MayHold (g.F.Store.files c.args.store.now) n c.read.new.into.items) name
     (c.in-Ok-Whole.ensures.whole (ap (λ x. Ok x) c.in-Ok-Whole.field-0-is)) in
@@ -29,11 +35,10 @@ returns g c = λ words asked.
       means = c.run_file.ensures.means;
       stopped = c.run_file.ensures.stopped;
       refused = c.run_file.ensures.refused;
+      counts = c.run_file.ensures.counts;
       files = c.in-Ok-Whole.ensures.files;
       names = subst (λ (n : List ℕ). AsksFor n (g.F.Store.asked c.args.store.now) (g.F.Store.asked c.read.new.self)) name c.in-Ok-Whole.ensures.asked;
       store_faults = c.in-Ok-Whole.ensures.cause.stays;
-      read_fault = c.run_file.ensures.read_fault;
-      write_fault = c.run_file.ensures.write_fault;
-      err_fault = c.run_file.ensures.err_fault;
+      faults = c.run_file.ensures.faults;
       no_report_fault = c.run_file.ensures.no_report_fault;
     })

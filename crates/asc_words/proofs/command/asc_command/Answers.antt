@@ -44,8 +44,10 @@ returns c =
     let one = with_arg _ _ _ _ _ bare c.in_ok-arg.ensures c.required.ensures.rule c.required.ensures.local in
     let two = with_arg _ _ _ _ _ one c.in_ok-arg-2.ensures c.number.ensures.rule c.number.ensures.local in
     let three = with_arg _ _ _ _ _ two c.in_ok-arg-3.ensures c.number-2.ensures.rule c.number-2.ensures.local in
-    let four = with_arg _ _ _ _ _ three c.in_ok-run.ensures c.number-3.ensures.rule c.number-3.ensures.local in
-    let run_is : shape_of c.in_ok-run.run' ≡ run_command = ap (λ (a : App). a.top) four.reads in
+    let four = with_arg _ _ _ _ _ three c.in_ok-arg-4.ensures c.number-3.ensures.rule c.number-3.ensures.local in
+    let five = with_arg _ _ _ _ _ four c.in_ok-arg-5.ensures c.text.ensures.rule c.text.ensures.local in
+    let six = with_arg _ _ _ _ _ five c.in_ok-run.ensures c.flag.ensures.rule c.flag.ensures.local in
+    let run_is : shape_of c.in_ok-run.run' ≡ run_command = ap (λ (a : App). a.top) six.reads in
     let top_is = with_each _ _ _ c.disable_help_subcommand.result _ c.new-2.ensures.app
     c.subcommand_required.ensures c.disable_help_flag.ensures c.disable_help_subcommand.ensures in
-    IfOk-weaker c.subcommand.result _ _ (λ new adds. adds.shape four.local ∙ ap₂ with_subcommand top_is run_is) c.subcommand.ensures
+    IfOk-weaker c.subcommand.result _ _ (λ new adds. adds.shape six.local ∙ ap₂ with_subcommand top_is run_is) c.subcommand.ensures

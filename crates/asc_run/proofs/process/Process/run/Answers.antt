@@ -1,35 +1,146 @@
--- The program comes as far as plain execution turn by turn, and ends where it does.
-use Rattle.std.proofs.Common.{refl, ◌∙◌, arith}
-use Rattle.asc_run.proofs.Reach.{Reaches-first_position, Reaches-turn, Follows-turn, Follows-limit, StopsAt-fails}
+-- The program comes as far as plain execution, landing by landing and turn by turn, and ends where it does.
+use Rattle.std.proofs.Common.{Some, None, refl, ap, ◌∙◌, arith, inl, inr}
+use Rattle.asc_run.specs.Visits.{is_at}
+use Rattle.asc_run.proofs.Landings.{asked-more, given-more, hits-more, landing-small}
+use Rattle.asc_run.proofs.Walking.{is_some-false, walk-first, walk-jump, walk-step, walk-none, walk-turn, walk-end, walk-limit}
 use Rattle.asc_run.proofs.process.Process.run.Goals as goal
 
 pub loop-self-init : goal.loop-self-init
-loop-self-init g c = record {
-  reaches = Reaches-first_position _ c.args.self.now.count c.requires.ended c.requires.brk c.requires.count;
-  within = omega arith;
-  input_faults = refl;
-  out_faults = refl;
-  err_faults = refl;
-}
-
-pub loop-self-preserved : goal.loop-self-preserved
-loop-self-preserved g c =
-    let turn = c.in_default.ensures.turn refl in
+loop-self-init g c =
+    let start = c.requires.start in
+    let asked = ap (λ t. t.asked) start.none_told in
+    let given = ap (λ t. t.given) start.none_told in
+    let hits = ap (λ t. t.hits) start.none_told in
     record {
-      reaches = Reaches-turn _ _ _ _ _ _ _ _ c.loop-self.invariant.reaches turn;
-      within = omega (arith, turn.most);
-      input_faults = c.in_default.ensures.input_faults.stays (λ is. cc) ∙ c.loop-self.invariant.input_faults;
-      out_faults = c.in_default.ensures.out_faults.stays (λ is. cc) ∙ c.loop-self.invariant.out_faults;
-      err_faults = c.in_default.ensures.err_faults.stays (λ is. cc) ∙ c.loop-self.invariant.err_faults;
+      walk = walk-first _ c.args.pc _ _ _ _ _ start.going start.brk start.none given asked;
+      here = omega arith;
+      within = omega (arith, start.none);
+      near = inl (omega arith);
+      given = omega (arith, given);
+      asked = omega (arith, asked);
+      hits = omega (arith, hits);
+      visits = omega (arith, asked);
+      skips = omega (arith, given);
+      hit = omega (arith, hits);
+      unset = λ _. refl;
+      faults = refl;
     }
 
 pub returns-in-Some-clause-run : goal.returns-in-Some-clause-run
-returns-in-Some-clause-run g c = λ h.
-    Follows-turn _ _ _ _ _ _ c.in-Some.ended c.loop-self.invariant.reaches (omega arith) (c.in-Some.ensures.turn h)
+returns-in-Some-clause-run g c =
+    let v = c.loop-self-2.invariant in let t = c.in-Some.ensures in
+    rw (ap (λ x. x.given) t.tally) (walk-end _ c.args.pc _ _ _ _ _ _ _ _ _ _ c.in-Some.ended v.walk c.loop-self-2-test.true v.within v.near t.turn t.fails t.count)
 
-pub returns-in-Some-clause-stops : goal.returns-in-Some-clause-stops
-returns-in-Some-clause-stops g c = λ device h.
-    StopsAt-fails _ _ _ _ _ _ device c.loop-self.invariant.reaches c.loop-self-test.true (c.in-Some.ensures.fails device h) (c.in-Some.ensures.count device h)
+pub loop-self-2-preserved : goal.loop-self-2-preserved
+loop-self-2-preserved g c =
+    let v = c.loop-self-2.invariant in let t = c.in_default.ensures in
+    let turn = t.turn refl in
+    let one = turn.one refl in
+    let below = c.loop-self-2-test.true in
+    let same_asked = ap (λ x. x.asked) t.tally in
+    let same_given = ap (λ x. x.given) t.tally in
+    let same_hits = ap (λ x. x.hits) t.tally in
+    record {
+      walk = rw (same_given, same_asked) (walk-turn _ c.args.pc _ _ _ _ _ _ _ _ _ _ v.walk turn);
+      here = omega (arith, one, below);
+      within = v.within;
+      near = elim v.near [ inl x ↦ inl (omega (arith, x, one)) | inr x ↦ inr x ];
+      given = (let x = v.given in omega (arith, x, same_given));
+      asked = (let x = v.asked in omega (arith, x, same_asked));
+      hits = (let x = v.hits in omega (arith, x, same_hits));
+      visits = (let x = v.visits in omega (arith, x, same_asked));
+      skips = (let x = v.skips in omega (arith, x, same_given, one));
+      hit = (let x = v.hit in omega (arith, x, same_hits, one));
+      unset = v.unset;
+      faults = t.faults ∙ v.faults;
+    }
 
-pub returns-clause-run : goal.returns-clause-run
-returns-clause-run g c = λ _. Follows-limit _ _ _ _ c.loop-self.invariant.reaches (omega arith)
+pub returns-then-self-limit-clause-run : goal.returns-then-self-limit-clause-run
+returns-then-self-limit-clause-run g c =
+    let v = c.loop-self-2.invariant in
+    let here = v.here in let within = v.within in let at = c.if-self-limit.true in let no = c.loop-self-2-test.false in
+    walk-limit _ c.args.pc _ _ _ _ _ _ _ _ v.walk at (omega (arith, at, here, no))
+
+pub loop-self-preserved-in-Some-land : goal.loop-self-preserved-in-Some-land
+loop-self-preserved-in-Some-land g c =
+    let v = c.loop-self-2.invariant in let e = c.in-Some-land.ensures in
+    let here = v.here in let within = v.within in let no = c.loop-self-2-test.false in let below = c.if-self-limit.false in
+    let count = ap (λ p. p.count) e.kept in
+    let skipped = ap (λ p. p.skipped) e.kept in
+    let same_hits = ap (λ p. p.hits) e.kept in
+    let b = is_at c.args.pc c.loop-self-2.self.state in
+    let small = landing-small b c.loop-self-2.self.count (Some c.in-Some-land.n) in
+    let asked = asked-more b c.loop-self-2.self.count (Some c.in-Some-land.n) _ _ e.helped in
+    let given = given-more b c.loop-self-2.self.count (Some c.in-Some-land.n) _ _ e.passed e.helped in
+    let hits = hits-more b c.loop-self-2.self.count (Some c.in-Some-land.n) _ _ e.passed e.helped in
+    let least = e.jump.least in let most = e.jump.most in
+    record {
+      walk = walk-jump _ c.args.pc _ _ _ _ _ _ _ _ _ _ _ _ _ _ _ _ _ _ (ap (λ p. p.calls) e.kept) count skipped _ c.in-Some-land.n
+          (omega (arith, here, no)) (omega (arith, here, within, below)) e.jump e.passed v.walk e.number e.helped e.machine;
+      here = omega arith;
+      within = omega (arith, count, most, here, within);
+      near = inl (omega arith);
+      given = (let x = v.given in omega (arith, x, given, skipped));
+      asked = (let x = v.asked in omega (arith, x, asked, e.number));
+      hits = (let x = v.hits in omega (arith, x, hits, same_hits));
+      visits = (let x = v.visits in omega (arith, x, e.number, small, least, count, here, no));
+      skips = (let x = v.skips in omega (arith, x, skipped, count));
+      hit = (let x = v.hit in omega (arith, x, same_hits, count, least));
+      unset = λ none. e.unset none ∙ v.unset none;
+      faults = v.faults;
+    }
+
+pub loop-self-preserved-then-is_some : goal.loop-self-preserved-then-is_some
+loop-self-preserved-then-is_some g c =
+    let v = c.loop-self-2.invariant in let e = c.in_default-land.ensures in
+    let here = v.here in let within = v.within in let no = c.loop-self-2-test.false in let below = c.if-self-limit.false in
+    let count = ap (λ p. p.count) e.kept in
+    let skipped = ap (λ p. p.skipped) e.kept in
+    let same_hits = ap (λ p. p.hits) e.kept in
+    let b = is_at c.args.pc c.loop-self-2.self.state in
+    let small = landing-small b c.loop-self-2.self.count None in
+    let asked = asked-more b c.loop-self-2.self.count None _ _ e.helped in
+    let given = given-more b c.loop-self-2.self.count None _ _ (λ _. refl) e.helped in
+    let hits = hits-more b c.loop-self-2.self.count None _ _ (λ _. refl) e.helped in
+    record {
+      walk = walk-step _ c.args.pc _ _ _ _ _ _ _ _ _ _ _ _ _ _ _ _ _ _ (ap (λ p. p.calls) e.kept) count skipped _ (omega (arith, here, no)) e.jump v.walk e.number e.helped e.machine;
+      here = omega arith;
+      within = omega (arith, count, here, within, below, no);
+      near = inl (omega arith);
+      given = (let x = v.given in omega (arith, x, given, skipped));
+      asked = (let x = v.asked in omega (arith, x, asked, e.number));
+      hits = (let x = v.hits in omega (arith, x, hits, same_hits));
+      visits = (let x = v.visits in omega (arith, x, e.number, small, count, here, no));
+      skips = (let x = v.skips in omega (arith, x, skipped, count));
+      hit = (let x = v.hit in omega (arith, x, same_hits, count));
+      unset = λ none. e.unset none ∙ v.unset none;
+      faults = v.faults;
+    }
+
+pub loop-self-preserved : goal.loop-self-preserved
+loop-self-preserved g c =
+    let v = c.loop-self-2.invariant in let e = c.in_default-land.ensures in
+    let here = v.here in let within = v.within in let no = c.loop-self-2-test.false in let below = c.if-self-limit.false in
+    let count = ap (λ p. p.count) e.kept in
+    let skipped = ap (λ p. p.skipped) e.kept in
+    let same_hits = ap (λ p. p.hits) e.kept in
+    let none = is_some-false c.args.pc c.if-is_some.ensures in
+    let b = is_at c.args.pc c.loop-self-2.self.state in
+    let small = landing-small b c.loop-self-2.self.count None in
+    let asked = asked-more b c.loop-self-2.self.count None _ _ e.helped in
+    let given = given-more b c.loop-self-2.self.count None _ _ (λ _. refl) e.helped in
+    let hits = hits-more b c.loop-self-2.self.count None _ _ (λ _. refl) e.helped in
+    record {
+      walk = walk-none _ c.args.pc _ _ _ _ _ _ _ _ _ none (walk-step _ c.args.pc _ _ _ _ _ _ _ _ _ _ _ _ _ _ _ _ _ _ (ap (λ p. p.calls) e.kept) count skipped _ (omega (arith, here, no)) e.jump v.walk e.number e.helped e.machine);
+      here = omega (arith, count, here, within);
+      within = omega arith;
+      near = inr none;
+      given = (let x = v.given in omega (arith, x, given, skipped));
+      asked = (let x = v.asked in omega (arith, x, asked, e.number));
+      hits = (let x = v.hits in omega (arith, x, hits, same_hits));
+      visits = (let x = v.visits in omega (arith, x, e.number, small, count, here, no, within, below));
+      skips = (let x = v.skips in omega (arith, x, skipped, count));
+      hit = (let x = v.hit in omega (arith, x, same_hits, count));
+      unset = λ none. e.unset none ∙ v.unset none;
+      faults = v.faults;
+    }

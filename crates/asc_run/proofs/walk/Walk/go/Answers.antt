@@ -1,12 +1,16 @@
--- A walk stops where its program does.
+-- A walk goes and stops where its program does.
 use Rattle.std.proofs.Common.{subst}
 use Rattle.asc_calls.specs.World.{world}
-use Rattle.asc_run.specs.Walk.{Walk, StopsAt, world_of}
+use Rattle.asc_run.specs.Helped.{aid}
+use Rattle.asc_run.specs.Walk.{Walk, world_of, GoesHelped}
 use Rattle.asc_run.proofs.walk.Walk.go.Goals as goal
 
-pub returns-clause-stops : goal.returns-clause-stops
-returns-clause-stops g c = λ fresh device h.
-    subst (λ (w : Walk). StopsAt w.limit (world_of w (g.I.Source.left c.args.input.now) (g.O.Sink.given c.args.out.now) (g.E.Sink.given c.args.err.now) c.args.steps.now)
-    (world c.run-ended.new.self.state c.run-ended.new.self.calls (g.I.Source.left c.run-ended.new.input) (g.O.Sink.given c.run-ended.new.out) (g.E.Sink.given c.run-ended.new.err) c.run-ended.new.steps)
-    c.run-ended.new.self.count device)
-    c.self.view_is (c.run-ended.ensures.stops device h)
+pub returns-clause-first : goal.returns-clause-first
+returns-clause-first g c = λ fresh.
+    let r = c.run-ended in
+    subst (λ (walk : Walk). GoesHelped walk.settings.limit walk.settings.pc (world_of walk (g.I.Source.left c.args.input.now) (g.O.Sink.given c.args.out.now) (g.E.Sink.given c.args.err.now) c.args.steps.now)
+    (world r.new.self.state r.new.self.calls (g.I.Source.left r.new.input) (g.O.Sink.given r.new.out) (g.E.Sink.given r.new.err) r.new.steps)
+    (aid (g.H.Finder.tally c.args.helper.now) (g.H.Finder.replies c.args.helper.now) (g.H.Finder.plan c.args.helper.now) (g.H.Finder.machine c.args.helper.now))
+    (aid (g.H.Finder.tally r.new.helper) (g.H.Finder.replies r.new.helper) (g.H.Finder.plan r.new.helper) (g.H.Finder.machine r.new.helper))
+    r.new.self.count r.new.self.skipped r.result)
+    c.self.view_is r.ensures.run

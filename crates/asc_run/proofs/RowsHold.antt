@@ -1,0 +1,94 @@
+-- The rows, by computing.
+use Rattle.std.proofs.Common.{◌≡◌, ◌+◌, ℕ, zero, suc, Bool, true, false, Some, refl, subst, arith, inl, inr}
+use Rattle.std.specs.Prelude.{not, ◌&&◌}
+use Rattle.std.proofs.lemmas.Bool.{cases_lt}
+use Rattle.asc_model.specs.DependencyVector.{first_reads, written_in}
+use Rattle.asc_model.specs.Entry.{entry_of}
+use Rattle.asc_model.specs.Instruction.{decode}
+use Rattle.asc_model.specs.Machine.{words, view_of, state_of}
+use Rattle.asc_model.specs.Places.{places_read, writes}
+use Rattle.asc_model.specs.Plain.{plain}
+use Rattle.asc_model.specs.Reach.{reach_from}
+use Rattle.asc_model.specs.Step.{outcome, next}
+use Rattle.asc_shape.specs.Stride.{strided}
+use Rattle.asc_calls.specs.GuestCall.{guest_call}
+use Rattle.asc_run.specs.Execution.{progress}
+use Rattle.asc_run.specs.Visits.{is_mark, HasNoMark}
+use Rattle.asc_run.specs.Serial.{visited}
+use Rattle.asc_run.specs.Rows.{Laps, Targets, Strides, Both, Visits, loop_run}
+
+pub laps : Laps
+unfolding plain next outcome words view_of state_of decode strided
+laps = record { enters = refl; laps = refl; guess = refl }
+
+pub targets : Targets
+targets = record { first = refl; second = refl; third = refl; none = refl }
+
+pub strides : Strides
+unfolding plain next outcome words view_of state_of decode strided places_read writes first_reads written_in entry_of reach_from visited
+strides = record {
+  made2 = refl;
+  made3 = refl;
+  content2 = refl;
+  reply2 = refl;
+  reply3 = refl;
+  content4 = refl;
+  made4 = refl;
+  reply4 = refl;
+  reply4_of_3 = refl;
+}
+
+pub both : Both
+unfolding plain next outcome words view_of state_of decode strided places_read writes first_reads written_in entry_of reach_from visited
+both = record { made2 = refl; reply2 = refl; reply3 = refl; reply4 = refl }
+
+-- ---- visits
+
+-- whether none of n counts is a mark
+none_of : (ℕ → Bool) → (from n : ℕ) → Bool
+none_of mark from zero = true
+none_of mark from (suc n) = not (mark from) && none_of mark (from + 1) n
+
+both_true : (x y : Bool) → (not x && y) ≡ true → (x ≡ false) × (y ≡ true)
+both_true false true e = (refl, refl)
+both_true false false e = cc
+both_true true y e = cc
+
+HasNoMark-none_of : (mark : ℕ → Bool) (a n : ℕ) → none_of mark a n ≡ true → HasNoMark mark a (a + n)
+unfolding none_of
+HasNoMark-none_of mark a zero e k le lt = absurd (let x : ⊥ = omega arith in x)
+HasNoMark-none_of mark a (suc n) e k le lt =
+    let b = both_true (mark a) (none_of mark (a + 1) n) e in
+    elim (cases_lt a k) [
+      | inl x ↦ HasNoMark-none_of mark (a + 1) n b.1 k (omega arith) (omega arith)
+      | inr x ↦ (let same : a ≡ k = omega arith in subst (λ i. mark i ≡ false) same b.0)
+    ]
+
+pub visits : Visits
+unfolding none_of plain next outcome words view_of state_of decode guest_call progress
+visits =
+    let none = HasNoMark-none_of (is_mark (Some 0x10008) loop_run) in
+    record {
+      four = (
+        (
+          (
+            (none 0 2 refl, (refl, (tt, (omega arith, none 3 1 refl)))),
+            (refl, (tt, (omega arith, none 5 1 refl))),
+          ),
+          (refl, ((omega arith, (omega arith, (_, refl))), (omega arith, none 8 0 refl))),
+        ),
+        (refl, ((omega arith, (omega arith, (_, refl))), (omega arith, none 12 8 refl))),
+      );
+      limited = (
+        (
+          (
+            (none 0 2 refl, (refl, (tt, (omega arith, none 3 1 refl)))),
+            (refl, (tt, (omega arith, none 5 1 refl))),
+          ),
+          (refl, ((omega arith, (omega arith, (_, refl))), (omega arith, none 8 0 refl))),
+        ),
+        (refl, (tt, (omega arith, none 9 2 refl))),
+      );
+      replies = refl;
+      counts = refl;
+    }

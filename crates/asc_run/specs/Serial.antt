@@ -1,0 +1,77 @@
+-- What is made of the visits of a run without workers: a machine that guesses, traces and keeps entries at each visit.
+use Rattle.std.specs.Prelude.{ℕ, zero, suc, ◌+◌, ◌-◌, max, nat_lt, List, [], map, length, fold, Option, Some, None, if◌then◌else◌}
+use Rattle.std.specs.List.{flat_map, range_with_len}
+use Rattle.asc_model.specs.State.{State}
+use Rattle.asc_model.specs.Machine.{view_of}
+use Rattle.asc_model.specs.Entry.{Entry, entry_of}
+use Rattle.asc_model.specs.Reach.{Bounds, reach_of}
+use Rattle.asc_shape.specs.Stride.{strided}
+use Rattle.asc_traj.specs.Serial.{Kind, Last, Stride, Guessing, kinds_of, Serial}
+use Rattle.asc_shard.specs.Content.{add}
+
+-- ---- guesses
+
+-- the state that so many visits after the last one is guessed, from that and the one before
+abbrev pub guess_of : Kind → (ahead : ℕ) → (prev last : State) → State
+guess_of Last ahead prev last = last
+guess_of Stride ahead prev last = record last { bytes = strided ahead last.bytes prev.bytes }
+
+-- The visits that are guessed at a visit, where those up to issued were guessed before: all up to so many ahead, but
+-- those already guessed. None at the first visit.
+abbrev pub targets_of : (issued visit ahead : ℕ) → List ℕ
+targets_of issued visit ahead = let before = max issued visit in
+    if nat_lt visit 2 then [] else range_with_len (before + 1) (visit + ahead - before)
+
+-- a guess: its kind, and how many visits after the last one
+abbrev pub Task : Type 0
+Task = Kind × ℕ
+
+-- the guesses of a visit, in the order in which they are made
+abbrev pub tasks_of : Guessing → (issued number : ℕ) → List Task
+tasks_of g issued number =
+    flat_map (λ target. map (λ kind. (kind, target - number)) (kinds_of g)) (targets_of issued number g.ahead)
+
+-- ---- traces of guesses
+
+-- how many entries are kept
+abbrev pub serial_capacity : ℕ
+serial_capacity = 1024
+
+-- a trace of a guess ends at the pc of the last visit, and touches at most 4,096 places
+abbrev pub bounds_at : Guessing → (last : State) → Bounds
+bounds_at g last = record { pc = (view_of last).pc; laps = g.laps; span = g.span; cap = 4096 }
+
+-- the content with an entry of so many steps, where there were such
+abbrev pub add_traced : List Entry → (steps : ℕ) → Option Entry → List Entry
+add_traced content steps None = content
+add_traced content zero (Some e) = content
+add_traced content (suc n) (Some e) = add serial_capacity content e
+
+-- the content with the entry of a trace of a state
+abbrev pub add_trace : Bounds → List Entry → State → List Entry
+add_trace bounds content start = let steps = reach_of bounds start in
+    add_traced content steps (entry_of steps start)
+
+-- the content once a guess was traced
+abbrev pub add_guess : Guessing → (prev last : State) → List Entry → Task → List Entry
+add_guess g prev last content task = add_trace (bounds_at g last) content (guess_of task.0 task.1 prev last)
+
+-- ---- visits
+
+-- what a visit does with the states of the last visit and of this one, where there was a last one
+abbrev pub after_tasks : Serial → (number : ℕ) → Option State → (now : State) → Serial
+after_tasks m number None now = record m { prev = None; last = Some now }
+after_tasks m number (Some last) now = record m {
+  prev = Some last;
+  last = Some now;
+  issued = number + m.guessing.ahead;
+  content = fold (add_guess m.guessing last now) m.content (tasks_of m.guessing m.issued number);
+}
+
+-- the machine after a visit, by the visit's number and state, which is of its shape
+unfoldable pub visited : (number : ℕ) → State → Serial → Serial
+visited number now m = after_tasks m number m.last now
+
+-- how many guesses it makes there
+abbrev pub made_at : (number : ℕ) → Serial → ℕ
+made_at number m = elim m.last [ Some last ↦ length (tasks_of m.guessing m.issued number) | None ↦ 0 ]

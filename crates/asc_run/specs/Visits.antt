@@ -1,0 +1,72 @@
+-- The marks that a walk leaves on the one plain run: the counts at which its helper is told of the state and asked for
+-- a jump, each with the reply.
+use Rattle.std.specs.Prelude.{◌≡◌, ℕ, ◌+◌, ◌≤◌, ◌<◌, Bool, true, false, ◌==◌, List, [], ◌∷◌, ◌++◌, Option, Some, None}
+use Rattle.asc_model.specs.State.{State}
+use Rattle.asc_model.specs.Machine.{view_of}
+use Rattle.asc_model.specs.Step.{At}
+use Rattle.asc_model.specs.Plain.{plain}
+use Rattle.asc_traj.specs.Finder.{Tally, tally_after}
+use Rattle.asc_run.specs.Execution.{Progress, On, Off}
+
+-- how a run goes: how far it has come at each count
+abbrev pub Course : Type 0
+Course = ℕ → Progress
+
+-- whether a state stands at an address, where there is one
+abbrev pub is_at : Option ℕ → State → Bool
+is_at None s = false
+is_at (Some address) s = (view_of s).pc == address
+
+-- whether a run goes on there
+abbrev pub goes_on_at : Option ℕ → Progress → Bool
+goes_on_at address (On position) = is_at address position.state
+goes_on_at address (Off count ended last) = false
+
+-- whether a count of a run is a mark: at this address, where one is set, its helper is visited
+abbrev pub is_mark : Option ℕ → Course → ℕ → Bool
+is_mark address run count = goes_on_at address (run count)
+
+pub record Visit : Type 0 where
+  -- at which count
+  pub at : ℕ
+  pub reply : Option ℕ
+
+-- where a walk lands after a visit: behind the jump, or one step on
+abbrev pub landing : Visit → ℕ
+landing v = v.at + elim v.reply [ Some n ↦ n | None ↦ 1 ]
+
+-- a run goes on at a count, and n plain steps go on from there
+abbrev pub GoesPlain : (n : ℕ) → Progress → Type 0
+GoesPlain n (On position) = (after : State) × (plain n position.state ≡ At after)
+GoesPlain n (Off count ended last) = ⊥
+
+-- a reply fits a run at a count, below a limit
+abbrev pub Fits : (limit : ℕ) → Course → (count : ℕ) → Option ℕ → Type 0
+Fits limit run count None = Unit {0}
+Fits limit run count (Some n) = (1 ≤ n) × ((count + n ≤ limit) × GoesPlain n (run count))
+
+-- none of the counts from a to b, b aside, is a mark
+abbrev pub HasNoMark : (ℕ → Bool) → (a b : ℕ) → Type 0
+HasNoMark mark a b = (count : ℕ) → a ≤ count → count < b → mark count ≡ false
+
+-- These are the visits of a walk up to a count, the newest first: each is at a mark, its reply fits, and between its
+-- landing and the next visit, or the count, there is no mark. Before the first visit there is none either.
+abbrev pub AreVisits : (limit : ℕ) → Course → (mark : ℕ → Bool) → List Visit → (to : ℕ) → Type 0
+AreVisits limit run mark [] to = HasNoMark mark 0 to
+AreVisits limit run mark (v ∷ before) to = AreVisits limit run mark before v.at × ((mark v.at ≡ true)
+    × (Fits limit run v.at v.reply × ((landing v ≤ to) × HasNoMark mark (landing v) to)))
+
+-- their replies, in the order in which they were given
+abbrev pub replies_of : List Visit → List (Option ℕ)
+replies_of [] = []
+replies_of (v ∷ before) = replies_of before ++ v.reply ∷ []
+
+-- what they add to a finder's counts
+abbrev pub tally_of : List Visit → Tally → Tally
+tally_of [] t = t
+tally_of (v ∷ before) t = tally_after (tally_of before t) v.reply
+
+-- a landing that is a mark is a visit
+abbrev pub with_landing : (is_visit : Bool) → (count : ℕ) → Option ℕ → List Visit → List Visit
+with_landing true count reply before = record { at = count; reply = reply } ∷ before
+with_landing false count reply before = before

@@ -1,0 +1,107 @@
+ghost use Rattle.std.specs.Prelude.{◌≡◌, ◌<◌, ◌≤◌, ◌^◌};
+ghost use Rattle.asc_run.specs.Helped.{aid, Plans, VisitsMachine};
+
+use asc_shape::State;
+use asc_traj::Finder;
+use std::marker::Model;
+
+/// What a walk tells of the states at which it then asks for a jump.
+pub trait Helper: Finder {
+    /// Learns of the state at a visit, which is the walk's `number`th. At most 128 guesses are made of it.
+    fn visit(&mut self, state: &State, number: u64)
+        requires number { number ≤ 2 ^ 40 }
+        requires made { (Self.plan self.old).made < 2 ^ 62 }
+        requires full { (Self.plan self.old).full < 2 ^ 62 }
+        ensures tally { Self.tally self.new ≡ Self.tally self.old }
+        ensures replies { Self.replies self.new ≡ Self.replies self.old }
+        ensures plan { Plans 1 (Self.plan self.old) (Self.plan self.new) }
+        ensures machine { VisitsMachine number state.now
+            (aid (Self.tally self.old) (Self.replies self.old) (Self.plan self.old) (Self.machine self.old))
+            (aid (Self.tally self.new) (Self.replies self.new) (Self.plan self.new) (Self.machine self.new)) };
+
+    /// How many guesses were made.
+    fn made(&self) -> u64
+        ensures { result ≡ (Self.plan self.now).made };
+
+    /// How often memory was wanting.
+    fn refused(&self) -> u64
+        ensures { result ≡ (Self.plan self.now).refused };
+
+    /// How many guesses found no room.
+    fn full(&self) -> u64
+        ensures { result ≡ (Self.plan self.now).full };
+}
+
+/// A helper that only finds jumps: it makes nothing of a visit.
+///
+/// Contracts see it as its finder.
+#[derive(Drop)]
+pub struct Bare<F> {
+    finder: F,
+}
+
+impl<F> Model for Bare<F> {
+    ghost Value = { F };
+
+    ghost view = { λ b. b.finder };
+}
+
+impl<F> Bare<F> {
+    /// A helper that asks this finder.
+    pub fn new(finder: F) -> Bare<F>
+        ensures { result ≡ finder }
+    {
+        Bare { finder }
+    }
+
+    /// The finder that it asks.
+    pub fn finder(&self) -> &F
+        ensures { result.now ≡ self.now }
+    {
+        &self.finder
+    }
+}
+
+impl<F: Finder> Finder for Bare<F> {
+    ghost use Rattle.std.specs.Prelude.{None};
+
+    ghost tally = { λ finder. F.tally finder };
+
+    ghost replies = { λ finder. F.replies finder };
+
+    ghost plan = { λ _. record { made = 0; refused = 0; full = 0; seen = None } };
+
+    ghost machine = { λ _. None };
+
+    fn jump(&mut self, state: &mut State, left: u64) -> Option<u64> {
+        self.finder.jump(state, left)
+    }
+
+    fn asked(&self) -> u64 {
+        self.finder.asked()
+    }
+
+    fn given(&self) -> u64 {
+        self.finder.given()
+    }
+
+    fn hits(&self) -> u64 {
+        self.finder.hits()
+    }
+}
+
+impl<F: Finder> Helper for Bare<F> {
+    fn visit(&mut self, _state: &State, _number: u64) {}
+
+    fn made(&self) -> u64 {
+        0
+    }
+
+    fn refused(&self) -> u64 {
+        0
+    }
+
+    fn full(&self) -> u64 {
+        0
+    }
+}

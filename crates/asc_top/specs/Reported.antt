@@ -1,0 +1,32 @@
+-- What becomes of an outcome when its text is put to the report.
+use Rattle.std.specs.Prelude.{◌≡◌, ◌⊎◌, ℕ}
+use Rattle.asc_outside.specs.Outside.{Given, given_after, one_more}
+use Rattle.asc_calls.specs.Filling.{PutsPart}
+use Rattle.asc_words.specs.declared.answer.Answer.{Answer}
+use Rattle.asc_words.specs.declared.answer.Outcome.{Outcome}
+use Rattle.asc_words.specs.declared.answer.Answer.TheVariants.{ReportFault}
+use Rattle.asc_words.specs.Report.{report_text}
+
+-- what a report was given, and how often it has failed
+pub record Report : Type 0 where
+  pub given : Given
+  pub faults : ℕ
+
+abbrev pub report_with : Given → ℕ → Report
+report_with given faults = record { given = given; faults = faults }
+
+-- the report took the outcome's text, and its answer is shown
+pub record IsShown (before after : Report) (outcome : Outcome) (shown : Answer) : Type 0 where
+  pub shown_is : shown ≡ outcome.answer
+  pub given : after.given ≡ given_after before.given (report_text outcome)
+  pub faults : after.faults ≡ before.faults
+
+-- the report failed, and once: it took a beginning of the outcome's text, and not all, and ReportFault is shown
+pub record IsCutOff (before after : Report) (outcome : Outcome) (shown : Answer) : Type 0 where
+  pub shown_is : shown ≡ ReportFault
+  pub given : PutsPart before.given after.given (report_text outcome)
+  pub faults : after.faults ≡ one_more before.faults
+
+-- the text of an outcome was put to the report, and this is shown
+abbrev pub IsReported : (before after : Report) → Outcome → (shown : Answer) → Type 0
+IsReported before after outcome shown = IsShown before after outcome shown ⊎ IsCutOff before after outcome shown
