@@ -71,15 +71,13 @@ impl Process {
         // Up to this count plain steps are taken, and there the program lands.
         let mut stop = self.count;
         loop {
-            while self.count < stop {
+            if self.count < stop {
                 if let Some(ended) = self.turn(input, out, err, steps) {
                     return ended;
                 }
-            }
-            if self.count == limit {
+            } else if self.count == limit {
                 return Ended::Limit;
-            }
-            if let Some(n) = self.land(pc, helper, limit - self.count) {
+            } else if let Some(n) = self.land(pc, helper, limit - self.count) {
                 self.count += n;
                 self.skipped += n;
                 self.hits += 1;

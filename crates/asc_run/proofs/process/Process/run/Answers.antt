@@ -28,15 +28,15 @@ loop-self-init g c =
 
 pub returns-in-Some-clause-run : goal.returns-in-Some-clause-run
 returns-in-Some-clause-run g c =
-    let v = c.loop-self-2.invariant in let t = c.in-Some.ensures in
-    rw (ap (λ x. x.given) t.tally) (walk-end _ c.args.pc _ _ _ _ _ _ _ _ _ _ c.in-Some.ended v.walk c.loop-self-2-test.true v.within v.near t.turn t.fails t.count)
+    let v = c.loop-self.invariant in let t = c.in-Some.ensures in
+    rw (ap (λ x. x.given) t.tally) (walk-end _ c.args.pc _ _ _ _ _ _ _ _ _ _ c.in-Some.ended v.walk c.if-self-stop.true v.within v.near t.turn t.fails t.count)
 
-pub loop-self-2-preserved : goal.loop-self-2-preserved
-loop-self-2-preserved g c =
-    let v = c.loop-self-2.invariant in let t = c.in_default.ensures in
+pub loop-self-preserved-in_default : goal.loop-self-preserved-in_default
+loop-self-preserved-in_default g c =
+    let v = c.loop-self.invariant in let t = c.in_default.ensures in
     let turn = t.turn refl in
     let one = turn.one refl in
-    let below = c.loop-self-2-test.true in
+    let below = c.if-self-stop.true in
     let same_asked = ap (λ x. x.asked) t.tally in
     let same_given = ap (λ x. x.given) t.tally in
     let same_hits = ap (λ x. x.hits) t.tally in
@@ -57,22 +57,22 @@ loop-self-2-preserved g c =
 
 pub returns-then-self-limit-clause-run : goal.returns-then-self-limit-clause-run
 returns-then-self-limit-clause-run g c =
-    let v = c.loop-self-2.invariant in
-    let here = v.here in let within = v.within in let at = c.if-self-limit.true in let no = c.loop-self-2-test.false in
+    let v = c.loop-self.invariant in
+    let here = v.here in let within = v.within in let at = c.if-self-limit.true in let no = c.if-self-stop.false in
     walk-limit _ c.args.pc _ _ _ _ _ _ _ _ v.walk at (omega (arith, at, here, no))
 
 pub loop-self-preserved-in-Some-land : goal.loop-self-preserved-in-Some-land
 loop-self-preserved-in-Some-land g c =
-    let v = c.loop-self-2.invariant in let e = c.in-Some-land.ensures in
-    let here = v.here in let within = v.within in let no = c.loop-self-2-test.false in let below = c.if-self-limit.false in
+    let v = c.loop-self.invariant in let e = c.in-Some-land.ensures in
+    let here = v.here in let within = v.within in let no = c.if-self-stop.false in let below = c.if-self-limit.false in
     let count = ap (λ p. p.count) e.kept in
     let skipped = ap (λ p. p.skipped) e.kept in
     let same_hits = ap (λ p. p.hits) e.kept in
-    let b = is_at c.args.pc c.loop-self-2.self.state in
-    let small = landing-small b c.loop-self-2.self.count (Some c.in-Some-land.n) in
-    let asked = asked-more b c.loop-self-2.self.count (Some c.in-Some-land.n) _ _ e.helped in
-    let given = given-more b c.loop-self-2.self.count (Some c.in-Some-land.n) _ _ e.passed e.helped in
-    let hits = hits-more b c.loop-self-2.self.count (Some c.in-Some-land.n) _ _ e.passed e.helped in
+    let b = is_at c.args.pc c.loop-self.self.state in
+    let small = landing-small b c.loop-self.self.count (Some c.in-Some-land.n) in
+    let asked = asked-more b c.loop-self.self.count (Some c.in-Some-land.n) _ _ e.helped in
+    let given = given-more b c.loop-self.self.count (Some c.in-Some-land.n) _ _ e.passed e.helped in
+    let hits = hits-more b c.loop-self.self.count (Some c.in-Some-land.n) _ _ e.passed e.helped in
     let least = e.jump.least in let most = e.jump.most in
     record {
       walk = walk-jump _ c.args.pc _ _ _ _ _ _ _ _ _ _ _ _ _ _ _ _ _ _ (ap (λ p. p.calls) e.kept) count skipped _ c.in-Some-land.n
@@ -92,16 +92,16 @@ loop-self-preserved-in-Some-land g c =
 
 pub loop-self-preserved-then-is_some : goal.loop-self-preserved-then-is_some
 loop-self-preserved-then-is_some g c =
-    let v = c.loop-self-2.invariant in let e = c.in_default-land.ensures in
-    let here = v.here in let within = v.within in let no = c.loop-self-2-test.false in let below = c.if-self-limit.false in
+    let v = c.loop-self.invariant in let e = c.in_default-land.ensures in
+    let here = v.here in let within = v.within in let no = c.if-self-stop.false in let below = c.if-self-limit.false in
     let count = ap (λ p. p.count) e.kept in
     let skipped = ap (λ p. p.skipped) e.kept in
     let same_hits = ap (λ p. p.hits) e.kept in
-    let b = is_at c.args.pc c.loop-self-2.self.state in
-    let small = landing-small b c.loop-self-2.self.count None in
-    let asked = asked-more b c.loop-self-2.self.count None _ _ e.helped in
-    let given = given-more b c.loop-self-2.self.count None _ _ (λ _. refl) e.helped in
-    let hits = hits-more b c.loop-self-2.self.count None _ _ (λ _. refl) e.helped in
+    let b = is_at c.args.pc c.loop-self.self.state in
+    let small = landing-small b c.loop-self.self.count None in
+    let asked = asked-more b c.loop-self.self.count None _ _ e.helped in
+    let given = given-more b c.loop-self.self.count None _ _ (λ _. refl) e.helped in
+    let hits = hits-more b c.loop-self.self.count None _ _ (λ _. refl) e.helped in
     record {
       walk = walk-step _ c.args.pc _ _ _ _ _ _ _ _ _ _ _ _ _ _ _ _ _ _ (ap (λ p. p.calls) e.kept) count skipped _ (omega (arith, here, no)) e.jump v.walk e.number e.helped e.machine;
       here = omega arith;
@@ -119,17 +119,17 @@ loop-self-preserved-then-is_some g c =
 
 pub loop-self-preserved : goal.loop-self-preserved
 loop-self-preserved g c =
-    let v = c.loop-self-2.invariant in let e = c.in_default-land.ensures in
-    let here = v.here in let within = v.within in let no = c.loop-self-2-test.false in let below = c.if-self-limit.false in
+    let v = c.loop-self.invariant in let e = c.in_default-land.ensures in
+    let here = v.here in let within = v.within in let no = c.if-self-stop.false in let below = c.if-self-limit.false in
     let count = ap (λ p. p.count) e.kept in
     let skipped = ap (λ p. p.skipped) e.kept in
     let same_hits = ap (λ p. p.hits) e.kept in
     let none = is_some-false c.args.pc c.if-is_some.ensures in
-    let b = is_at c.args.pc c.loop-self-2.self.state in
-    let small = landing-small b c.loop-self-2.self.count None in
-    let asked = asked-more b c.loop-self-2.self.count None _ _ e.helped in
-    let given = given-more b c.loop-self-2.self.count None _ _ (λ _. refl) e.helped in
-    let hits = hits-more b c.loop-self-2.self.count None _ _ (λ _. refl) e.helped in
+    let b = is_at c.args.pc c.loop-self.self.state in
+    let small = landing-small b c.loop-self.self.count None in
+    let asked = asked-more b c.loop-self.self.count None _ _ e.helped in
+    let given = given-more b c.loop-self.self.count None _ _ (λ _. refl) e.helped in
+    let hits = hits-more b c.loop-self.self.count None _ _ (λ _. refl) e.helped in
     record {
       walk = walk-none _ c.args.pc _ _ _ _ _ _ _ _ _ none (walk-step _ c.args.pc _ _ _ _ _ _ _ _ _ _ _ _ _ _ _ _ _ _ (ap (λ p. p.calls) e.kept) count skipped _ (omega (arith, here, no)) e.jump v.walk e.number e.helped e.machine);
       here = omega (arith, count, here, within);
