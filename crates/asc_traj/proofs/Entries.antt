@@ -14,7 +14,7 @@ use Rattle.asc_model.specs.Entry.{Entry, IsTrueEntry, cells_among, entry_of}
 use Rattle.asc_model.proofs.Numbers.{AreCells, AreBytes-bytes_after, length-bytes_after}
 use Rattle.asc_model.proofs.Listings.{RisesFrom}
 use Rattle.asc_model.proofs.Entries.{entry_of-is, entries_are_true}
-use Rattle.asc_shape.specs.Face.{Told, FitPlaces, status_at, is_untouched}
+use Rattle.asc_shape.specs.Face.{FitPlaces, status_at, is_untouched}
 use Rattle.asc_depvec.specs.Dependency.{status_by}
 use Rattle.asc_depvec.specs.Tracer.{Tracing, face_of}
 use Rattle.asc_depvec.proofs.Starts.{starts_are_told}
