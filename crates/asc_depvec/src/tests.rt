@@ -1,7 +1,7 @@
 use crate::Status::{Read, ReadWritten, Untouched, Written};
 use crate::tests::Call::{Get, GetWord, Put, PutWord, Reset, Undo};
 use crate::{LEAST_CAP, Tracer};
-use asc_shape::{Bytes, Shape, State};
+use asc_shape::{Bytes, Shape, State, Words};
 use std::process::Abort;
 
 /// A call of a tracer.

@@ -3,7 +3,7 @@ ghost use Rattle.asc_model.specs.Shape.{length_of, holds};
 ghost use Rattle.asc_shape.specs.Face.{room_of};
 ghost use Rattle.asc_shape.specs.State.{memory_at, with_memory};
 
-use crate::{Bytes, Pair, Shape, ShapeFault, Snapshot, State, Version};
+use crate::{Bytes, Pair, Shape, ShapeFault, Snapshot, State, Version, Words};
 use std::alloc::Global;
 use std::sync::Arc;
 use std::thread;
@@ -369,7 +369,7 @@ fn put_nine(state: &mut State, at: u32)
     state.mem_mut(at, 2)[1] = 9;
 }
 
-fn get_word_of<B: Bytes>(bytes: &mut B, place: u32) -> u32
+fn get_word_of<B: Words>(bytes: &mut B, place: u32) -> u32
     requires place { place + 4 ≤ length_of (B.face bytes.old).state.shape }
     requires room { 4 ≤ room_of (B.face bytes.old).marks }
 {
@@ -377,7 +377,7 @@ fn get_word_of<B: Bytes>(bytes: &mut B, place: u32) -> u32
     bytes.get_word(place)
 }
 
-fn put_word_of<B: Bytes>(bytes: &mut B, place: u32, word: u32)
+fn put_word_of<B: Words>(bytes: &mut B, place: u32, word: u32)
     requires place { place + 4 ≤ length_of (B.face bytes.old).state.shape }
     requires room { 4 ≤ room_of (B.face bytes.old).marks }
 {
