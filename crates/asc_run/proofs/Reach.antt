@@ -148,6 +148,25 @@ Reaches-jump Q Q' low high start old s t calls left out err steps n m k r h more
   steps = omega (arith, r.steps);
 }
 
+-- m plain steps, which are counted
+pub Reaches-steps : (Q : Course → Type 0) (low high : ℕ) (start : State) (old : World) (s t : State) (calls : CallState) (left : Option (List ℕ)) (out err : Given) (steps n m k : ℕ)
+    → Reaches Q low high start old (world s calls left out err steps) n k → plain m s ≡ At t
+    → Reaches Q low high start old (world t calls left out err (steps + m)) (n + m) k
+Reaches-steps Q low high start old s t calls left out err steps n m k r h = record {
+  io = r.io;
+  does = record { taken = r.does.taken; out = r.does.out; err = r.does.err };
+  run = λ rest may.
+      let sum : n + m ≡ m + n = omega arith in
+      ap (progress low high (first_position start low (r.io.taken ++ rest))) sum
+      ∙ progress-jump low high (first_position start low (r.io.taken ++ rest)) n m _ t (r.run rest may) h;
+  says = r.says;
+  known = r.known;
+  same_low = r.same_low;
+  same_high = r.same_high;
+  shape = plain-shape m s t h ∙ r.shape;
+  steps = omega (arith, r.steps);
+}
+
 -- a run that has ended stays so
 progress-off : (low high : ℕ) (r : Position) (n k count : ℕ) (ended : Ended) (last : Position) → progress low high r n ≡ Off count ended last → progress low high r (k + n) ≡ Off count ended last
 unfolding progress

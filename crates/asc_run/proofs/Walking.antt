@@ -2,6 +2,8 @@
 use Rattle.std.proofs.Common.{◌≡◌, ◌≤◌, ◌<◌, ◌+◌, ◌-◌, ◌^◌, ◌⊎◌, inl, inr, ℕ, false, List, [], length, Option, Some, None, refl, sym, ap, ◌∙◌, subst, arith}
 use Rattle.std.specs.Option.{is_some}
 use Rattle.asc_model.specs.State.{State}
+use Rattle.asc_model.specs.Step.{At}
+use Rattle.asc_model.specs.Plain.{plain}
 use Rattle.asc_traj.specs.Finder.{IsJump, Tally}
 use Rattle.asc_outside.specs.Outside.{Given}
 use Rattle.asc_calls.specs.GuestCall.{Device}
@@ -13,7 +15,7 @@ use Rattle.asc_run.specs.Turn.{Turns, TurnFails}
 use Rattle.asc_run.specs.Visits.{Course, Visit, is_at, is_mark, with_landing}
 use Rattle.asc_run.specs.Helped.{Aid, HasRoom, Helped, Lands, HasVisits}
 use Rattle.asc_run.specs.Walk.{tally, GoesHelped, StopsAt, IsRaisedBy}
-use Rattle.asc_run.proofs.Reach.{Reaches, Reaches-first_position, Reaches-turn, Reaches-says, Reaches-jump, Follows-turn, Follows-limit, StopsAt-fails}
+use Rattle.asc_run.proofs.Reach.{Reaches, Reaches-first_position, Reaches-turn, Reaches-says, Reaches-jump, Reaches-steps, Follows-turn, Follows-limit, StopsAt-fails}
 use Rattle.asc_run.proofs.Landings.{Helped-none, Helped-more, number-more, HasVisits-first, HasVisits-step, HasVisits-jump, HasVisits-end, HasVisits-none}
 
 -- all that a walk says of a run up to a count
@@ -86,6 +88,22 @@ walk-none limit target old now c stop stop' k number first last none w = (
   w.1,
   (w.2.0, Reaches-says _ _ old.calls.low old.calls.high old.state old now c k w.2.1 (λ run _ _ _ q. HasVisits-none limit target old.state w.0 first last stop stop' none run q)),
 )
+
+-- plain steps up to a count
+pub walk-steps : (limit : ℕ) (target : Option ℕ) (old : World) (s t : State) (calls calls' : CallState) (left : Option (List ℕ)) (out err : Given) (steps steps' c c' stop k k' number number' : ℕ) (first last : Aid)
+    → calls' ≡ calls → k' ≡ k → number' ≡ number → steps' ≡ steps + (c' - c) → c ≤ c' → plain (c' - c) s ≡ At t
+    → WalksOn limit target old (world s calls left out err steps) c stop k number first last → WalksOn limit target old (world t calls' left out err steps') c' stop k' number' first last
+walk-steps limit target old s t calls calls' left out err steps steps' c c' stop k k' number number' first last same_calls same_skipped same_number counted grows goes w =
+    let sum : c' ≡ c + (c' - c) = omega arith in
+    rw (same_calls, same_skipped, same_number, counted) (
+      w.0,
+      w.1,
+      (
+        w.2.0,
+        subst (λ n. Reaches (Says limit target old.state w.0 first last stop) old.calls.low old.calls.high old.state old (world t calls left out err (steps + (c' - c))) n k) (sym sum)
+            (Reaches-steps _ old.calls.low old.calls.high old.state old s t calls left out err steps c (c' - c) k w.2.1 goes),
+      ),
+    )
 
 -- a turn after which it goes on
 pub walk-turn : (limit : ℕ) (target : Option ℕ) (old now new : World) (c d stop k number : ℕ) (first last : Aid) → WalksOn limit target old now c stop k number first last → Turns now new c d None → WalksOn limit target old new d stop k number first last

@@ -1,10 +1,10 @@
-ghost use Rattle.std.specs.Prelude.{◌≡◌, ◌≤◌, ◌<◌, ◌+◌, ◌^◌, length, [], Some, None, IsNone, false};
+ghost use Rattle.std.specs.Prelude.{◌≡◌, ◌≤◌, ◌<◌, ◌+◌, ◌-◌, ◌^◌, length, [], Some, None, IsNone, false};
 
 use crate::helper::Helper;
 use crate::walk::Ended;
 use asc_calls::{Calls, Served};
 use asc_shape::{Sink, Source, State, Steps};
-use asc_step::{Stepped, step};
+use asc_step::{Stepped, step_many, try_step};
 use std::sync::ledger::Ledger;
 
 /// A program on its way.
@@ -23,6 +23,8 @@ pub(crate) struct Process {
 }
 
 impl Process {
+    ghost use Rattle.asc_model.specs.Plain.{plain};
+    ghost use Rattle.asc_model.specs.Step.{At};
     ghost use Rattle.asc_calls.specs.GuestCall.{Device};
     ghost use Rattle.asc_calls.specs.World.{world};
     ghost use Rattle.asc_traj.specs.Finder.{IsJump};
@@ -35,9 +37,6 @@ impl Process {
 
     /// Runs a program that has not begun until it ends, a device fails, or `limit` steps are done or jumped over. Where
     /// it stands at `pc`, the helper is visited, and asked for a jump.
-    ///
-    /// There is one loop for all, so that a step is inlined into it: where no address is set, it goes as the plain loop
-    /// does, with one comparison a step.
     pub(crate) fn run<H: Helper, I: Source, O: Sink, E: Sink, L: Ledger>(
         &mut self,
         limit: u64,
@@ -72,8 +71,11 @@ impl Process {
         let mut stop = self.count;
         loop {
             if self.count < stop {
-                if let Some(ended) = self.turn(input, out, err, steps) {
-                    return ended;
+                self.go_on(stop - self.count, steps);
+                if self.count < stop {
+                    if let Some(ended) = self.turn(input, out, err, steps) {
+                        return ended;
+                    }
                 }
             } else if self.count == limit {
                 return Ended::Limit;
@@ -117,6 +119,20 @@ impl Process {
         }
     }
 
+    /// Takes plain steps, at most so many, until one does not go on. They are taken in a loop of their own, which is
+    /// quicker than turn by turn.
+    fn go_on<L: Ledger>(&mut self, most: u64, steps: &mut Steps<L>)
+        requires { self.old.count + most < 2 ^ 64 }
+        ensures goes { plain (self.new.count - self.old.count) self.old.state ≡ At self.new.state }
+        ensures grows { self.old.count ≤ self.new.count }
+        ensures most { self.new.count ≤ self.old.count + most }
+        ensures counter { steps.new ≡ steps.old + (self.new.count - self.old.count) }
+        ensures kept { self.new ≡ record self.old { state = self.new.state; count = self.new.count } }
+    {
+        let (done, _) = step_many(&mut self.state, most, steps);
+        self.count += done;
+    }
+
     /// One step, or one guest call. It answers how the run ended, if it did.
     fn turn<I: Source, O: Sink, E: Sink, L: Ledger>(
         &mut self,
@@ -142,8 +158,9 @@ impl Process {
             (faults (I.faults input.old) (O.faults out.old) (E.faults err.old))
             (faults (I.faults input.new) (O.faults out.new) (E.faults err.new)) }
     {
-        match step(&mut self.state, steps) {
+        match try_step(&mut self.state) {
             Stepped::Went => {
+                steps.tick();
                 self.count += 1;
                 None
             }

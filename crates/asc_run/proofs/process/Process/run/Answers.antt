@@ -2,7 +2,7 @@
 use Rattle.std.proofs.Common.{Some, None, refl, ap, ◌∙◌, arith, inl, inr}
 use Rattle.asc_run.specs.Visits.{is_at}
 use Rattle.asc_run.proofs.Landings.{asked-more, given-more, hits-more, landing-small}
-use Rattle.asc_run.proofs.Walking.{is_some-false, walk-first, walk-jump, walk-step, walk-none, walk-turn, walk-end, walk-limit}
+use Rattle.asc_run.proofs.Walking.{is_some-false, walk-first, walk-jump, walk-steps, walk-step, walk-none, walk-turn, walk-end, walk-limit}
 use Rattle.asc_run.proofs.process.Process.run.Goals as goal
 
 pub loop-self-init : goal.loop-self-init
@@ -28,31 +28,57 @@ loop-self-init g c =
 
 pub returns-in-Some-clause-run : goal.returns-in-Some-clause-run
 returns-in-Some-clause-run g c =
-    let v = c.loop-self.invariant in let t = c.in-Some.ensures in
-    rw (ap (λ x. x.given) t.tally) (walk-end _ c.args.pc _ _ _ _ _ _ _ _ _ _ c.in-Some.ended v.walk c.if-self-stop.true v.within v.near t.turn t.fails t.count)
+    let v = c.loop-self.invariant in let s = c.go_on.ensures in let t = c.in-Some.ensures in
+    let grows = s.grows in
+    let mid = walk-steps _ c.args.pc _ _ _ _ _ _ _ _ _ _ _ _ _ _ _ _ _ _ _ (ap (λ p. p.calls) s.kept) (ap (λ p. p.skipped) s.kept) (ap (λ p. p.asked) s.kept) s.counter s.grows s.goes v.walk in
+    rw (ap (λ x. x.given) t.tally) (walk-end _ c.args.pc _ _ _ _ _ _ _ _ _ _ c.in-Some.ended mid c.if-self-stop-2.true v.within (elim v.near [ inl x ↦ inl (omega (arith, x, grows)) | inr x ↦ inr x ]) t.turn t.fails t.count)
 
 pub loop-self-preserved-in_default : goal.loop-self-preserved-in_default
 loop-self-preserved-in_default g c =
-    let v = c.loop-self.invariant in let t = c.in_default.ensures in
+    let v = c.loop-self.invariant in let s = c.go_on.ensures in let t = c.in_default.ensures in
     let turn = t.turn refl in
     let one = turn.one refl in
-    let below = c.if-self-stop.true in
-    let same_asked = ap (λ x. x.asked) t.tally in
-    let same_given = ap (λ x. x.given) t.tally in
-    let same_hits = ap (λ x. x.hits) t.tally in
+    let grows = s.grows in
+    let below = c.if-self-stop-2.true in
+    let mid = walk-steps _ c.args.pc _ _ _ _ _ _ _ _ _ _ _ _ _ _ _ _ _ _ _ (ap (λ p. p.calls) s.kept) (ap (λ p. p.skipped) s.kept) (ap (λ p. p.asked) s.kept) s.counter s.grows s.goes v.walk in
+    let same_asked = ap (λ x. x.asked) t.tally ∙ ap (λ p. p.asked) s.kept in
+    let same_given = ap (λ x. x.given) t.tally ∙ ap (λ p. p.skipped) s.kept in
+    let same_hits = ap (λ x. x.hits) t.tally ∙ ap (λ p. p.hits) s.kept in
     record {
-      walk = rw (same_given, same_asked) (walk-turn _ c.args.pc _ _ _ _ _ _ _ _ _ _ v.walk turn);
+      walk = rw (ap (λ x. x.given) t.tally, ap (λ x. x.asked) t.tally) (walk-turn _ c.args.pc _ _ _ _ _ _ _ _ _ _ mid turn);
       here = omega (arith, one, below);
       within = v.within;
-      near = elim v.near [ inl x ↦ inl (omega (arith, x, one)) | inr x ↦ inr x ];
+      near = elim v.near [ inl x ↦ inl (omega (arith, x, one, grows)) | inr x ↦ inr x ];
       given = (let x = v.given in omega (arith, x, same_given));
       asked = (let x = v.asked in omega (arith, x, same_asked));
       hits = (let x = v.hits in omega (arith, x, same_hits));
       visits = (let x = v.visits in omega (arith, x, same_asked));
-      skips = (let x = v.skips in omega (arith, x, same_given, one));
-      hit = (let x = v.hit in omega (arith, x, same_hits, one));
+      skips = (let x = v.skips in omega (arith, x, same_given, one, grows));
+      hit = (let x = v.hit in omega (arith, x, same_hits, one, grows));
       unset = v.unset;
       faults = t.faults ∙ v.faults;
+    }
+
+pub loop-self-preserved-else-self-stop-2 : goal.loop-self-preserved-else-self-stop-2
+loop-self-preserved-else-self-stop-2 g c =
+    let v = c.loop-self.invariant in let s = c.go_on.ensures in
+    let grows = s.grows in let most = s.most in let here = v.here in
+    let asked = ap (λ p. p.asked) s.kept in
+    let skipped = ap (λ p. p.skipped) s.kept in
+    let same_hits = ap (λ p. p.hits) s.kept in
+    record {
+      walk = walk-steps _ c.args.pc _ _ _ _ _ _ _ _ _ _ _ _ _ _ _ _ _ _ _ (ap (λ p. p.calls) s.kept) (ap (λ p. p.skipped) s.kept) (ap (λ p. p.asked) s.kept) s.counter s.grows s.goes v.walk;
+      here = omega (arith, most, here);
+      within = v.within;
+      near = elim v.near [ inl x ↦ inl (omega (arith, x, grows)) | inr x ↦ inr x ];
+      given = (let x = v.given in omega (arith, x, skipped));
+      asked = (let x = v.asked in omega (arith, x, asked));
+      hits = (let x = v.hits in omega (arith, x, same_hits));
+      visits = (let x = v.visits in omega (arith, x, asked));
+      skips = (let x = v.skips in omega (arith, x, skipped, grows));
+      hit = (let x = v.hit in omega (arith, x, same_hits, grows));
+      unset = v.unset;
+      faults = v.faults;
     }
 
 pub returns-then-self-limit-clause-run : goal.returns-then-self-limit-clause-run
