@@ -17,9 +17,10 @@ _asc() {
             --memory) offered="64 1024 65536" ;;
             --steps) offered="0 1099511627776" ;;
             --machine) offered="1 2" ;;
+            --pc) ;;
             *)
                 case $word in
-                    -*) offered="--memory --steps --machine" ;;
+                    -*) offered="--memory --steps --machine --pc --report" ;;
                     *)
                         mapfile -t COMPREPLY < <(compgen -f -- "$word")
                         compopt -o filenames 2>/dev/null

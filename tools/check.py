@@ -52,33 +52,35 @@ def module(path):
 # ---- the options of asc, which the man page, asc-why and the completion repeat
 
 def options():
-    """Each option of `asc run` with its range and its default, from the definition of the command line."""
+    """Each option of `asc run`, from its definition: its range and its default, or what it takes."""
     text = (ROOT / "crates/asc_words/specs/Command.antt").read_text()
     rows = re.search(r"^run_arguments =\n(.*?)^ *∷ \[\]", text, re.M | re.S)[1]
     found = {}
     for kind, name, rest in re.findall(r"(\w+) \(codes \"(\w+)\"\)(.*)", rows):
         numbers = re.fullmatch(r" (\d+|\(2 \^ \d+\)) (\d+|\(2 \^ \d+\)) \(codes \"(\w+)\"\)", rest)
-        if kind == "required":
-            continue
-        if kind != "number_option" or not numbers:
-            same(f"a row of run_arguments that tools/check.py does not know: {name}", kind, "number_option")
-            continue
-        least, most = (eval(number.replace("^", "**")) for number in numbers.groups()[:2])
-        found[f"--{name}"] = (least, most, int(numbers[3]))
+        if kind == "number_option" and numbers:
+            least, most = (eval(number.replace("^", "**")) for number in numbers.groups()[:2])
+            found[f"--{name}"] = (least, most), int(numbers[3])
+        elif kind in ("text_option", "flag"):
+            found[f"--{name}"] = {"text_option": "an address", "flag": "nothing"}[kind], None
+        else:
+            same(f"the kind of {name} in run_arguments", kind, "required")
     return found
 
 
 def check_options(why):
     known = options()
-    same("options that asc-why knows", why.OPTIONS, {name: (least, most) for name, (least, most, _) in known.items()})
-    same("asc-why's default of --memory", why.DEFAULT_MEMORY, known["--memory"][2])
+    same("options that asc-why knows", why.OPTIONS, {name: taken for name, (taken, _) in known.items()})
+    same("asc-why's default of --memory", why.DEFAULT_MEMORY, known["--memory"][1])
     page = (ROOT / "docs/asc.1").read_text()
     plain = page.replace("\\-", "-")
-    same("options of the man page", re.findall(r"^\.BI (--\w+)", plain, re.M), list(known))
+    same("options of the man page", re.findall(r"^\.BI? (--\w+)", plain, re.M), list(known))
     same("options of its synopsis", re.findall(r"\[ (--\w+)", plain), list(known))
-    for name, (least, most, default) in known.items():
+    for name, (taken, default) in known.items():
+        if default is None:
+            continue
         described = re.search(rf"^\.BI {name} .*?(?=^\.TP|^\.SH)", plain, re.M | re.S)
-        wanted = f"from {least} to {most}", f"\n{default} where it is not given."
+        wanted = f"from {taken[0]} to {taken[1]}", f"\n{default} where it is not given."
         same(f"the man page's range and default of {name}",
              [text in described[0] for text in wanted] if described else None, [True, True])
     if has("groff", "the layout of the man page"):
@@ -91,17 +93,18 @@ def check_words(why):
     """asc-why finds what is wrong in just the command lines that asc refuses, as its own tests list them."""
     text = (ROOT / "crates/asc_words/src/tests.rt").read_text()
     table = re.search(r"static LINES.*?\[\n(.*?)\n\];", text, re.S)[1]
-    lines = re.findall(r"\(\"(.*?)\", \"(.*?)\"\),", table)
+    lines = re.findall(r"\(\s*\"(.*?)\",\s*\"(.*?)\",?\s*\)", table)
     same("rows of command lines", len(lines), int(re.search(r"static LINES: .*; (\d+)\]", text)[1]))
     for line, meaning in lines:
         try:
-            image, numbers = why.line_of(line.split(" ")[1:])
-            found = [image] + [str(numbers.get(f"--{name}", default)) for name, default in
+            image, values = why.line_of(line.split(" ")[1:])
+            found = [image] + [str(values.get(f"--{name}", default)) for name, default in
                                (("memory", 1024), ("steps", 2**40), ("machine", 2))]
-            found = " ".join(found)
+            found += [f"pc {values['--pc']}"] if "--pc" in values else []
+            found = " ".join(found + (["report"] if "--report" in values else []))
         except why.Wrong:
             found = "refused"
-        same(f"what asc-why makes of `{line}`", found, meaning)
+        same(f"what asc-why makes of `{line}`", found, "refused" if meaning == "no address" else meaning)
 
 
 # ---- images
@@ -174,9 +177,14 @@ LINES = [
     (f'"$@" {HELLO}', None),
     (f'echo 0 | "$@" {MATRIX}', None),
     (f'"$@" {HELLO} --mem 64',
-     "there is no option --mem: there are --memory, --steps, --machine, and none is abbreviated"),
+     "there is no option --mem: there are --memory, --steps, --machine, --pc, --report, and none is abbreviated"),
     (f'"$@" {HELLO} --memory 63', "--memory 63 is out of range, which is 64 to 65536"),
     (f'"$@" {HELLO} --memory 1M', "--memory wants a number in decimal digits, from 64 to 65536, and '1M' is none"),
+    (f'"$@" {HELLO} --pc 0x10054',
+     "--pc wants an address, of 1 to 8 hexadecimal digits and no 0x, and '0x10054' is none"),
+    (f'"$@" {HELLO} --report=yes', "--report takes no value"),
+    (f'"$@" {HELLO} --report', None),
+    (f'"$@" {HELLO} --report --steps 3', "a greater --steps lets it go on, up to 1099511627776"),
     (f'"$@" {HELLO} more', "'more' is one word more than the image"),
     ('"$@"', "there is no image"),
     ('"$@" none', "there is no file none"),
@@ -277,6 +285,9 @@ def check_steps(program, folder):
     same("asc-steps: a guess that is wrong", steps(path), (b"6\n", b"", 0))
     same("asc-steps: input is given to each run", steps(ECHO, given=b"text")[1:], (b"", 0))
     same("asc-steps: a limit", steps(spin(folder), "--steps", "1000"), (b"", b"asc: limit after 1000\n", 75))
+    same("asc-steps: a report beside", steps("--report", HELLO), (b"9\n", b"", 0))
+    same("asc-steps: a limit, and a report beside", steps(spin(folder), "--steps=7", "--report"),
+         (b"", b"asc: limit after 7\n", 75))
     same("asc-steps: no file", steps(folder / "none"), (b"", b"asc: store failed\n", 66))
     for name in ("collatz", "word_count"):
         given = (ROOT / "examples" / name / "input").read_bytes()
@@ -298,8 +309,10 @@ def check_completion(known):
     same("options", offered("asc", "run", "--"), list(known))
     same("a part of one", offered("asc", "run", "--st"), ["--steps"])
     same("files", offered("asc", "run", "examples/images/h"), ["examples/images/hello"])
-    for name, (least, most, default) in known.items():
-        wanted = {str(number) for number in (least, most, default)}
+    for name, (taken, default) in known.items():
+        if default is None:
+            continue
+        wanted = {str(number) for number in (*taken, default)}
         same(f"numbers of {name}", set(offered("asc", "run", name, "")), wanted)
         same(f"numbers of {name}=", set(offered("asc", "run", name, "=")), wanted)
         same(f"numbers of {name}={default}", offered("asc", "run", name, "=", str(default)), [str(default)])
