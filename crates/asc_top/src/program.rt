@@ -26,8 +26,11 @@ const FILE_LIMIT: usize = 67_108_864;
 ///
 /// The words are the program's own name, `run`, the name of an image in the store, and options: the guest's memory, the
 /// most steps that it may do, the machine's version, the recognised address, and whether the numbers of the run are
-/// reported behind the answer (`asc_words::parse`). The answer is the first of these that has a cause: wrong words, the store's failure, a file that is too long, a file that is no image, want of memory, and how
-/// the run ended. Where report fails, the answer is ReportFault in place of that one.
+/// reported behind the answer (`asc_words::parse`).
+///
+/// The answer is the first of these that has a cause: wrong words, the store's failure, a file that is too long, a file
+/// that is no image, want of memory, and how the run ended. Where report fails, the answer is ReportFault in place of
+/// that one.
 pub fn top<F: Store, I: Source, O: Sink, E: Sink, R: Sink, G: Gate, L: Ledger>(
     alloc: Global,
     words: &[String],
@@ -42,17 +45,21 @@ pub fn top<F: Store, I: Source, O: Sink, E: Sink, R: Sink, G: Gate, L: Ledger>(
     // The headline. Where the words ask for a run of a file and over an input that are told, no device fails and no
     // memory is wanting, all that comes of it is plain execution's of what the file means.
     ensures headline { Headline (map string_bytes words.now)
-        (devices (F.files store.old) (F.asked store.old) (outside (I.left input.old) (O.given out.old) (E.given err.old) steps.old)
+        (devices (F.files store.old) (F.asked store.old)
+        (outside (I.left input.old) (O.given out.old) (E.given err.old) steps.old)
         (F.faults store.old) (I.faults input.old) (O.faults out.old) (E.faults err.old))
-        (devices (F.files store.new) (F.asked store.new) (outside (I.left input.new) (O.given out.new) (E.given err.new) steps.new)
+        (devices (F.files store.new) (F.asked store.new)
+        (outside (I.left input.new) (O.given out.new) (E.given err.new) steps.new)
         (F.faults store.new) (I.faults input.new) (O.faults out.new) (E.faults err.new)) result }
 
-    // There is an outcome of which all holds that an answer to these words promises, and its text was put to report: its
-    // answer is the result. Or report failed, and the result is ReportFault.
+    // There is an outcome of which all holds that an answer to these words promises, and its text was put to report:
+    // its answer is the result. Or report failed, and the result is ReportFault.
     ensures answer { (outcome : Outcome) × IsAnswerTo (map string_bytes words.now)
-        (devices (F.files store.old) (F.asked store.old) (outside (I.left input.old) (O.given out.old) (E.given err.old) steps.old)
+        (devices (F.files store.old) (F.asked store.old)
+        (outside (I.left input.old) (O.given out.old) (E.given err.old) steps.old)
         (F.faults store.old) (I.faults input.old) (O.faults out.old) (E.faults err.old))
-        (devices (F.files store.new) (F.asked store.new) (outside (I.left input.new) (O.given out.new) (E.given err.new) steps.new)
+        (devices (F.files store.new) (F.asked store.new)
+        (outside (I.left input.new) (O.given out.new) (E.given err.new) steps.new)
         (F.faults store.new) (I.faults input.new) (O.faults out.new) (E.faults err.new)) outcome
         × IsReported (report_with (R.given report.old) (R.faults report.old))
         (report_with (R.given report.new) (R.faults report.new)) outcome result }
@@ -86,9 +93,11 @@ fn outcome<F: Store, I: Source, O: Sink, E: Sink, L: Ledger>(
     steps: &mut Steps<L>,
 ) -> Outcome
     ensures { IsAnswerTo (map string_bytes words.now)
-        (devices (F.files store.old) (F.asked store.old) (outside (I.left input.old) (O.given out.old) (E.given err.old) steps.old)
+        (devices (F.files store.old) (F.asked store.old)
+        (outside (I.left input.old) (O.given out.old) (E.given err.old) steps.old)
         (F.faults store.old) (I.faults input.old) (O.faults out.old) (E.faults err.old))
-        (devices (F.files store.new) (F.asked store.new) (outside (I.left input.new) (O.given out.new) (E.given err.new) steps.new)
+        (devices (F.files store.new) (F.asked store.new)
+        (outside (I.left input.new) (O.given out.new) (E.given err.new) steps.new)
         (F.faults store.new) (I.faults input.new) (O.faults out.new) (E.faults err.new)) result }
 {
     match parse(alloc, words) {
@@ -110,9 +119,11 @@ fn run_named<F: Store, I: Source, O: Sink, E: Sink, L: Ledger>(
 ) -> Outcome
     requires { IsWithin (Line.Run line.now) }
     ensures { (words : List (List ℕ)) → line_of words ≡ Ok (Line.Run line.now) → IsAnswerTo words
-        (devices (F.files store.old) (F.asked store.old) (outside (I.left input.old) (O.given out.old) (E.given err.old) steps.old)
+        (devices (F.files store.old) (F.asked store.old)
+        (outside (I.left input.old) (O.given out.old) (E.given err.old) steps.old)
         (F.faults store.old) (I.faults input.old) (O.faults out.old) (E.faults err.old))
-        (devices (F.files store.new) (F.asked store.new) (outside (I.left input.new) (O.given out.new) (E.given err.new) steps.new)
+        (devices (F.files store.new) (F.asked store.new)
+        (outside (I.left input.new) (O.given out.new) (E.given err.new) steps.new)
         (F.faults store.new) (I.faults input.new) (O.faults out.new) (E.faults err.new)) result }
 {
     let mut file = Vec::new(alloc);
