@@ -126,8 +126,8 @@ impl Process {
         }
     }
 
-    /// Takes plain steps until so many are done, or one does not go on, in a loop of their own. It answers what the last
-    /// attempt answered.
+    /// Takes plain steps until so many are done, or one does not go on, in a loop of their own. It answers what the
+    /// last attempt answered.
     fn go_on<L: Ledger>(&mut self, most: u64, steps: &mut Steps<L>) -> Stepped
         requires { self.old.count + most < 2 ^ 64 }
         ensures goes { plain (self.new.count - self.old.count) self.old.state ≡ At self.new.state }
