@@ -4,7 +4,7 @@ use crate::helper::Helper;
 use crate::walk::Ended;
 use asc_calls::{Calls, Served};
 use asc_shape::{Sink, Source, State, Steps};
-use asc_step::{Stepped, step_many, try_step};
+use asc_step::{Stepped, step_many};
 use std::sync::ledger::Ledger;
 
 /// A program on its way.
@@ -24,7 +24,8 @@ pub(crate) struct Process {
 
 impl Process {
     ghost use Rattle.asc_model.specs.Plain.{plain};
-    ghost use Rattle.asc_model.specs.Step.{At};
+    ghost use Rattle.asc_model.specs.Step.{At, Call, next};
+    ghost use Rattle.asc_step.specs.Step.{stepped_of};
     ghost use Rattle.asc_calls.specs.GuestCall.{Device};
     ghost use Rattle.asc_calls.specs.World.{world};
     ghost use Rattle.asc_traj.specs.Finder.{IsJump};
@@ -71,10 +72,16 @@ impl Process {
         let mut stop = self.count;
         loop {
             if self.count < stop {
-                self.go_on(stop - self.count, steps);
+                let stopped = self.go_on(stop - self.count, steps);
                 if self.count < stop {
-                    if let Some(ended) = self.turn(input, out, err, steps) {
-                        return ended;
+                    match stopped {
+                        Stepped::Went => {}
+                        Stepped::Fault(fault) => return Ended::Fault(fault),
+                        Stepped::Call => {
+                            if let Some(ended) = self.call(input, out, err, steps) {
+                                return ended;
+                            }
+                        }
                     }
                 }
             } else if self.count == limit {
@@ -119,29 +126,33 @@ impl Process {
         }
     }
 
-    /// Takes plain steps, at most so many, until one does not go on. They are taken in a loop of their own, which is
-    /// quicker than turn by turn.
-    fn go_on<L: Ledger>(&mut self, most: u64, steps: &mut Steps<L>)
+    /// Takes plain steps until so many are done, or one does not go on, in a loop of their own. It answers what the
+    /// last attempt answered.
+    fn go_on<L: Ledger>(&mut self, most: u64, steps: &mut Steps<L>) -> Stepped
         requires { self.old.count + most < 2 ^ 64 }
         ensures goes { plain (self.new.count - self.old.count) self.old.state ≡ At self.new.state }
         ensures grows { self.old.count ≤ self.new.count }
         ensures most { self.new.count ≤ self.old.count + most }
         ensures counter { steps.new ≡ steps.old + (self.new.count - self.old.count) }
+        ensures all { result ≡ Stepped.Went → self.new.count ≡ self.old.count + most }
+        ensures ends { (result ≡ Stepped.Went → ⊥) → result ≡ stepped_of (next self.new.state) }
         ensures kept { self.new ≡ record self.old { state = self.new.state; count = self.new.count } }
     {
-        let (done, _) = step_many(&mut self.state, most, steps);
+        let (done, stepped) = step_many(&mut self.state, most, steps);
         self.count += done;
+        stepped
     }
 
-    /// One step, or one guest call. It answers how the run ended, if it did.
-    fn turn<I: Source, O: Sink, E: Sink, L: Ledger>(
+    /// The guest call at which the program stands. It answers how the run ended, if it did.
+    fn call<I: Source, O: Sink, E: Sink, L: Ledger>(
         &mut self,
         input: &mut I,
         out: &mut O,
         err: &mut E,
         steps: &mut Steps<L>,
     ) -> Option<Ended>
-        requires { self.old.count + 1 < 2 ^ 64 }
+        requires count { self.old.count + 1 < 2 ^ 64 }
+        requires asks { next self.old.state ≡ Call }
         ensures turn { device_of_turn result ≡ None → Turns
             (world self.old.state self.old.calls (I.left input.old) (O.given out.old) (E.given err.old) steps.old)
             (world self.new.state self.new.calls (I.left input.new) (O.given out.new) (E.given err.new) steps.new)
@@ -158,26 +169,18 @@ impl Process {
             (faults (I.faults input.old) (O.faults out.old) (E.faults err.old))
             (faults (I.faults input.new) (O.faults out.new) (E.faults err.new)) }
     {
-        match try_step(&mut self.state) {
-            Stepped::Went => {
-                steps.tick();
+        match self.calls.serve(&mut self.state, input, out, err, steps) {
+            Served::Went => {
                 self.count += 1;
                 None
             }
-            Stepped::Fault(fault) => Some(Ended::Fault(fault)),
-            Stepped::Call => match self.calls.serve(&mut self.state, input, out, err, steps) {
-                Served::Went => {
-                    self.count += 1;
-                    None
-                }
-                Served::Exit(code) => {
-                    self.count += 1;
-                    Some(Ended::Exit(code))
-                }
-                Served::ReadFault => Some(Ended::ReadFault),
-                Served::WriteFault => Some(Ended::WriteFault),
-                Served::ErrFault => Some(Ended::ErrFault),
-            },
+            Served::Exit(code) => {
+                self.count += 1;
+                Some(Ended::Exit(code))
+            }
+            Served::ReadFault => Some(Ended::ReadFault),
+            Served::WriteFault => Some(Ended::WriteFault),
+            Served::ErrFault => Some(Ended::ErrFault),
         }
     }
 }

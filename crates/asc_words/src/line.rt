@@ -35,6 +35,7 @@ impl FileName {
         FileName { text }
     }
 
+    /// Its text.
     pub fn as_str(&self) -> &str
         ensures { result.now ≡ self.now }
     {

@@ -3,6 +3,8 @@ use Rattle.std.proofs.Common.{Some, None, refl, ap, ◌∙◌, arith, inl, inr}
 use Rattle.asc_run.specs.Visits.{is_at}
 use Rattle.asc_run.proofs.Landings.{asked-more, given-more, hits-more, landing-small}
 use Rattle.asc_run.proofs.Walking.{is_some-false, walk-first, walk-jump, walk-steps, walk-step, walk-none, walk-turn, walk-end, walk-limit}
+use Rattle.asc_run.specs.declared.walk.Ended.TheVariants as ends
+use Rattle.asc_run.proofs.Stepped.{Turns-fault, stands-at-call}
 use Rattle.asc_run.proofs.process.Process.run.Goals as goal
 
 pub loop-self-init : goal.loop-self-init
@@ -28,14 +30,14 @@ loop-self-init g c =
 
 pub returns-in-Some-clause-run : goal.returns-in-Some-clause-run
 returns-in-Some-clause-run g c =
-    let v = c.loop-self.invariant in let s = c.go_on.ensures in let t = c.in-Some.ensures in
+    let v = c.loop-self.invariant in let s = c.go_on-stopped.ensures in let t = c.in-Some.ensures in
     let grows = s.grows in
     let mid = walk-steps _ c.args.pc _ _ _ _ _ _ _ _ _ _ _ _ _ _ _ _ _ _ _ (ap (λ p. p.calls) s.kept) (ap (λ p. p.skipped) s.kept) (ap (λ p. p.asked) s.kept) s.counter s.grows s.goes v.walk in
     rw (ap (λ x. x.given) t.tally) (walk-end _ c.args.pc _ _ _ _ _ _ _ _ _ _ c.in-Some.ended mid c.if-self-stop-2.true v.within (elim v.near [ inl x ↦ inl (omega (arith, x, grows)) | inr x ↦ inr x ]) t.turn t.fails t.count)
 
 pub loop-self-preserved-in_default : goal.loop-self-preserved-in_default
 loop-self-preserved-in_default g c =
-    let v = c.loop-self.invariant in let s = c.go_on.ensures in let t = c.in_default.ensures in
+    let v = c.loop-self.invariant in let s = c.go_on-stopped.ensures in let t = c.in_default.ensures in
     let turn = t.turn refl in
     let one = turn.one refl in
     let grows = s.grows in
@@ -61,7 +63,7 @@ loop-self-preserved-in_default g c =
 
 pub loop-self-preserved-else-self-stop-2 : goal.loop-self-preserved-else-self-stop-2
 loop-self-preserved-else-self-stop-2 g c =
-    let v = c.loop-self.invariant in let s = c.go_on.ensures in
+    let v = c.loop-self.invariant in let s = c.go_on-stopped.ensures in
     let grows = s.grows in let most = s.most in let here = v.here in
     let asked = ap (λ p. p.asked) s.kept in
     let skipped = ap (λ p. p.skipped) s.kept in
@@ -80,6 +82,39 @@ loop-self-preserved-else-self-stop-2 g c =
       unset = v.unset;
       faults = v.faults;
     }
+
+pub loop-self-preserved-in-Went : goal.loop-self-preserved-in-Went
+loop-self-preserved-in-Went g c =
+    let v = c.loop-self.invariant in let s = c.go_on-stopped.ensures in
+    let grows = s.grows in let most = s.most in let here = v.here in
+    let asked = ap (λ p. p.asked) s.kept in
+    let skipped = ap (λ p. p.skipped) s.kept in
+    let same_hits = ap (λ p. p.hits) s.kept in
+    record {
+      walk = walk-steps _ c.args.pc _ _ _ _ _ _ _ _ _ _ _ _ _ _ _ _ _ _ _ (ap (λ p. p.calls) s.kept) (ap (λ p. p.skipped) s.kept) (ap (λ p. p.asked) s.kept) s.counter s.grows s.goes v.walk;
+      here = omega (arith, most, here);
+      within = v.within;
+      near = elim v.near [ inl x ↦ inl (omega (arith, x, grows)) | inr x ↦ inr x ];
+      given = (let x = v.given in omega (arith, x, skipped));
+      asked = (let x = v.asked in omega (arith, x, asked));
+      hits = (let x = v.hits in omega (arith, x, same_hits));
+      visits = (let x = v.visits in omega (arith, x, asked));
+      skips = (let x = v.skips in omega (arith, x, skipped, grows));
+      hit = (let x = v.hit in omega (arith, x, same_hits, grows));
+      unset = v.unset;
+      faults = v.faults;
+    }
+
+pub returns-in-Fault-clause-run : goal.returns-in-Fault-clause-run
+returns-in-Fault-clause-run g c =
+    let v = c.loop-self.invariant in let s = c.go_on-stopped.ensures in
+    let grows = s.grows in
+    let mid = walk-steps _ c.args.pc _ _ _ _ _ _ _ _ _ _ _ _ _ _ _ _ _ _ _ (ap (λ p. p.calls) s.kept) (ap (λ p. p.skipped) s.kept) (ap (λ p. p.asked) s.kept) s.counter s.grows s.goes v.walk in
+    walk-end _ c.args.pc _ _ _ _ _ _ _ _ _ _ (ends.Fault c.in-Fault.fault) mid c.if-self-stop-2.true v.within (elim v.near [ inl x ↦ inl (omega (arith, x, grows)) | inr x ↦ inr x ])
+    (λ _. Turns-fault c.go_on-stopped.result _ _ _ _ _ _ _ c.in-Fault.fault c.in-Fault.is s.ends) (λ device h. absurd (cc)) (λ device h. absurd (cc))
+
+pub call-requires-clause-asks : goal.call-requires-clause-asks
+call-requires-clause-asks g c = stands-at-call c.go_on-stopped.result _ c.in-Call.is c.go_on-stopped.ensures.ends
 
 pub returns-then-self-limit-clause-run : goal.returns-then-self-limit-clause-run
 returns-then-self-limit-clause-run g c =
