@@ -261,7 +261,12 @@ def signalled(number, why, folder):
     stand_in = folder / "stand_in"
     stand_in.write_text(f"#!/bin/sh\nkill -s {number.name[3:]} $$\n")
     stand_in.chmod(0o755)
-    return outcome([*why[:2], stand_in, *why[3:]])[1:]
+    # Where this script runs behind others, a shell may have it ignore SIGINT, and what it starts would too.
+    before = signal.signal(signal.SIGINT, signal.default_int_handler)
+    try:
+        return outcome([*why[:2], stand_in, *why[3:]])[1:]
+    finally:
+        signal.signal(signal.SIGINT, before)
 
 
 def spin(folder):
