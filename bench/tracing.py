@@ -10,11 +10,11 @@ A program over `asc_traj` is added to a copy of the crates under it in a tempora
     ring     a store and a load of each word of 8192 bytes in turn, with an index that wraps
     scatter  a store and a load of words all over 8192 bytes
 
-For each loop it prints the processor's time, the least of five runs: for a step of a `State` by `step`, for a step of a
-trace of all steps, and for `start` of a tracer of a state of 1 MiB.
+For each loop it prints the processor's time, the least of five runs: for a step of a `State` by `step_many`, for a step
+of a trace of all steps, and for `start` of a tracer of a state of 1 MiB.
 
 With --count it prints the processor's instructions, as `valgrind --tool=callgrind` counts them and independent of load,
-and STEPS is 200,000 where it is not given: for a step of a `State` by `step`, and of a trace; and with traces of 1000
+and STEPS is 200,000 where it is not given: for a step of a `State` by `step_many`, and of a trace; and with traces of 1000
 steps how many places they touch, and what they cost more a touched place for the first touch with `reset`, and for
 `Entry::of`.
 """
@@ -47,7 +47,7 @@ ghost use Rattle.std.specs.Prelude.{{◌≡◌, ◌<◌, ◌≤◌}};
 
 use asc_depvec::Tracer;
 use asc_shape::{{Shape, State, Steps}};
-use asc_step::{{Stepped, step}};
+use asc_step::{{Stepped, step_many}};
 use asc_traj::{{Entry, Never, Stop, trace}};
 use std::alloc::Global;
 use std::env;
@@ -123,12 +123,7 @@ fn walk_counted<L: Ledger>(state: &mut State, most: u64, blank: Blank) -> bool
     requires some {{ 0 < L.parts }}
 {{
     let mut steps = Steps::<L>::new(blank);
-    for _ in 0..most {{
-        if step(state, &mut steps) != Stepped::Went {{
-            return false;
-        }}
-    }}
-    true
+    step_many(state, most, &mut steps).1 == Stepped::Went
 }}
 
 /// Rounds of a trace and what follows it: 1 `reset`, 2 `start`, 3 `Entry::of` and `reset`. No pc is odd.
