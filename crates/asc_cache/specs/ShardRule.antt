@@ -1,13 +1,13 @@
 -- The rule of a doubled shard: what is shown is what the list of insertions leaves, and each reader has seen a beginning
 -- of that list.
-use Rattle.std.specs.Prelude.{◌≡◌, ℕ, ◌<◌, List, [], ◌∷◌, ◌++◌}
+use Rattle.std.specs.Prelude.{◌≡◌, ℕ, ◌<◌, List, [], ◌∷◌, ◌++◌, length}
 use Rattle.std.specs.Arc.{arc_value}
 use mathlib.Core.Option.{some}
 use mathlib.Core.List.{IsPrefix}
 use lib.ListN.{get_elem?}
 use Rattle.logbook.specs.declared.tokens.Seen.{Seen}
 use Rattle.asc_model.specs.Entry.{Entry}
-use Rattle.asc_shard.specs.Content.{add, content_of}
+use Rattle.asc_shard.specs.Content.{add, content_of, IsContent}
 use Rattle.asc_cache.specs.declared.log.Counted.{Counted}
 use Rattle.asc_cache.specs.declared.instance.Instance.{Instance}
 use Rattle.asc_cache.specs.declared.instance.Insertion.{Insertion}
@@ -40,6 +40,15 @@ ShardRule x views = IsFolded x × ((seat : ℕ) (v : Sight) → get_elem? views 
 -- A seat that knew v looks at the shard x: it has then seen the whole list of x, which begins with what it knew.
 abbrev pub Looks : Sight → Instance → Sight → Type 0
 Looks v x w = (w ≡ sight x.shard.capacity x.front) × IsFolded x × IsSighted x v
+
+-- A seat that knew v has looked once or more often, and knows w: so much more of the same list, which leaves the content
+-- of a shard.
+pub record HasLooked (v w : Sight) (front : Front) (stored : ℕ) : Type 0 where
+  pub knows : w ≡ sight v.capacity front
+  pub book : front.book ≡ v.front.book
+  pub more : IsPrefix v.front.log front.log
+  pub counted : length front.log ≡ stored
+  pub content : IsContent v.capacity (content_of v.capacity front.log)
 
 -- an insertion that may come next to the shard x
 abbrev pub IsNext : Instance → Insertion → Type 0

@@ -9,7 +9,6 @@ mod cache;
 mod insert;
 mod instance;
 mod log;
-mod meeting;
 mod reader;
 mod readers;
 mod sight;
@@ -17,7 +16,6 @@ mod writer;
 
 pub use cache::Cache;
 pub use insert::{Insert, ListWriter};
-pub use meeting::meet;
 pub use reader::Told;
 pub use readers::ShardReaders;
 pub use writer::ShardWriter;

@@ -1,6 +1,5 @@
-ghost use Rattle.std.specs.Prelude.{◌≡◌, ◌≤◌, ◌++◌, ◌∷◌, [], length, true};
-ghost use mathlib.Core.List.{IsPrefix};
-ghost use Rattle.asc_cache.specs.LogRule.{head_of};
+ghost use Rattle.std.specs.Prelude.{◌≡◌, ◌++◌, ◌∷◌, [], length, true};
+ghost use Rattle.asc_cache.specs.LogRule.{AreOfOneList, head_of};
 
 use asc_traj::Entry;
 use logbook::{Gain, Offer, Plain, Play, Rule, Seen, Start, Word};
@@ -107,10 +106,10 @@ impl Log {
 }
 
 /// Of two beginnings of one list the shorter begins the longer. It does nothing.
-pub(crate) fn compare(short: &Front, long: &Front)
-    requires { (short.now.book ≡ long.now.book) × (length short.now.log ≤ length long.now.log) }
-    ensures { IsPrefix short.now.log long.now.log }
+pub(crate) fn compare(one: &Front, other: &Front)
+    requires { one.now.book ≡ other.now.book }
+    ensures { AreOfOneList one.now.log other.now.log }
 {
-    let mut both = short.again();
-    both.learn(long);
+    let mut both = one.again();
+    both.learn(other);
 }

@@ -1,10 +1,11 @@
-ghost use Rattle.std.specs.Prelude.{◌≡◌, ◌<◌, ◌≤◌, length};
+ghost use Rattle.std.specs.Prelude.{◌≡◌, ◌<◌, ◌≤◌, [], length};
 ghost use mathlib.Core.List.{IsPrefix};
 ghost use Rattle.left_right.specs.Sides.{view};
 ghost use Rattle.asc_traj.specs.Content.{longest};
 ghost use Rattle.asc_traj.specs.Finder.{IsJump};
 ghost use Rattle.asc_shard.specs.Content.{content_of, IsContent};
-ghost use Rattle.asc_cache.specs.ShardRule.{sight};
+ghost use Rattle.asc_cache.specs.LogRule.{AreOfOneList};
+ghost use Rattle.asc_cache.specs.ShardRule.{sight, HasLooked};
 ghost use Rattle.asc_cache.specs.Cache.{IsLater, content_seen, found_by};
 
 use crate::instance::Instance;
@@ -63,11 +64,13 @@ pub(crate) struct ShardReader {
     // It is there except while it looks.
     handle: Option<ReadHandle>,
     front: Front,
+    // How many insertions it has seen.
+    stored: u64,
     capacity: usize,
 }
 
 impl Model for ShardReader {
-    ghost use Rattle.std.specs.Prelude.{◌≡◌, ◌<◌, IsSome};
+    ghost use Rattle.std.specs.Prelude.{◌≡◌, ◌<◌, IsSome, length};
     ghost use Rattle.std.specs.Option.{ForSome};
     ghost use Rattle.left_right.specs.Sides.{view as known_at};
     ghost use Rattle.asc_shard.specs.Content.{content_of, IsContent};
@@ -80,7 +83,15 @@ impl Model for ShardReader {
 
     ghost invariant = { λ r. (0 < r.capacity) × IsSome r.handle
         × ForSome r.handle (λ h. known_at h.place ≡ sight r.capacity r.front)
-        × IsContent r.capacity (content_of r.capacity r.front.log) };
+        × (length r.front.log ≡ r.stored) × IsContent r.capacity (content_of r.capacity r.front.log) };
+}
+
+/// What a reader has seen, with its handle.
+#[derive(Drop)]
+struct Looked {
+    handle: ReadHandle,
+    front: Front,
+    stored: u64,
 }
 
 /// Enters, as often as it takes, and jumps by what is shown there.
@@ -89,14 +100,12 @@ fn look<R: Wait>(
     rt: &R,
     state: &mut State,
     left: u64,
-) -> (ReadHandle, Front, Option<u64>)
+) -> (Looked, Option<u64>)
     requires { 0 < (view handle.place).capacity }
-    ensures view { (view result.0.place ≡ sight (view handle.place).capacity result.1)
-        × (result.1.book ≡ (view handle.place).front.book) }
-    ensures front { IsPrefix (view handle.place).front.log result.1.log }
-    ensures content { IsContent (view handle.place).capacity (content_of (view handle.place).capacity result.1.log) }
-    ensures longest { result.2 ≡ longest (content_of (view handle.place).capacity result.1.log) state.old left }
-    ensures jump { IsJump result.2 left state.old state.new }
+    ensures looked { HasLooked (view handle.place) (view result.0.handle.place) result.0.front result.0.stored }
+    ensures longest { result.1
+        ≡ longest (content_of (view handle.place).capacity result.0.front.log) state.old left }
+    ensures jump { IsJump result.1 left state.old state.new }
 {
     let mut handle = handle;
     for _ in rt.forever() {
@@ -106,7 +115,14 @@ fn look<R: Wait>(
                 shown.shard.truth();
                 let found = shown.shard.jump(state, left);
                 let front = shown.front.again();
-                return (reading.leave(), front, found);
+                let stored = shown.stored;
+                let handle = reading.leave();
+                let looked = Looked {
+                    handle,
+                    front,
+                    stored,
+                };
+                return (looked, found);
             }
             Err(back) => handle = back,
         }
@@ -116,13 +132,10 @@ fn look<R: Wait>(
 }
 
 /// Enters until it has seen so many insertions.
-fn catch_up<R: Wait>(handle: ReadHandle, rt: &R, stored: u64) -> (ReadHandle, Front)
+fn catch_up<R: Wait>(handle: ReadHandle, rt: &R, least: u64) -> Looked
     requires { 0 < (view handle.place).capacity }
-    ensures view { (view result.0.place ≡ sight (view handle.place).capacity result.1)
-        × (result.1.book ≡ (view handle.place).front.book) }
-    ensures front { IsPrefix (view handle.place).front.log result.1.log }
-    ensures content { IsContent (view handle.place).capacity (content_of (view handle.place).capacity result.1.log) }
-    ensures stored { stored ≤ length result.1.log }
+    ensures looked { HasLooked (view handle.place) (view result.handle.place) result.front result.stored }
+    ensures least { least ≤ result.stored }
 {
     let mut handle = handle;
     for _ in rt.forever() {
@@ -130,11 +143,15 @@ fn catch_up<R: Wait>(handle: ReadHandle, rt: &R, stored: u64) -> (ReadHandle, Fr
             Ok(reading) => {
                 let shown = reading.get();
                 shown.shard.truth();
-                let enough = stored <= shown.stored;
                 let front = shown.front.again();
+                let stored = shown.stored;
                 handle = reading.leave();
-                if enough {
-                    return (handle, front);
+                if least <= stored {
+                    return Looked {
+                        handle,
+                        front,
+                        stored,
+                    };
                 }
             }
             Err(back) => handle = back,
@@ -145,15 +162,15 @@ fn catch_up<R: Wait>(handle: ReadHandle, rt: &R, stored: u64) -> (ReadHandle, Fr
 }
 
 impl ShardReader {
-    /// A reader that has seen so much.
+    /// A reader that has seen no insertion.
     pub fn of(handle: ReadHandle, front: Front, capacity: usize) -> ShardReader
-        requires { (0 < capacity) × (view handle.place ≡ sight capacity front)
-            × IsContent capacity (content_of capacity front.log) }
-        ensures { result ≡ record { shard = front.book; capacity = capacity; seen = front.log } }
+        requires { (0 < capacity) × (view handle.place ≡ sight capacity front) × (front.log ≡ []) }
+        ensures { result ≡ record { shard = front.book; capacity = capacity; seen = [] } }
     {
         ShardReader {
             handle: Some(handle),
             front,
+            stored: 0,
             capacity,
         }
     }
@@ -168,9 +185,10 @@ impl ShardReader {
         let Some(handle) = self.handle.take() else {
             unreachable!()
         };
-        let (handle, front, found) = look(handle, rt, state, left);
-        self.handle = Some(handle);
-        self.front = front;
+        let (looked, found) = look(handle, rt, state, left);
+        self.handle = Some(looked.handle);
+        self.front = looked.front;
+        self.stored = looked.stored;
         found
     }
 
@@ -183,10 +201,26 @@ impl ShardReader {
         let Some(handle) = self.handle.take() else {
             unreachable!()
         };
-        let (handle, front) = catch_up(handle, rt, told.stored);
-        compare(&told.front, &front);
-        self.handle = Some(handle);
-        self.front = front;
+        let looked = catch_up(handle, rt, told.stored);
+        compare(&told.front, &looked.front);
+        self.handle = Some(looked.handle);
+        self.front = looked.front;
+        self.stored = looked.stored;
+    }
+
+    /// Of what the writer told and what is seen the shorter begins the longer. It does nothing.
+    pub fn compare(&self, told: &Told)
+        requires { told.now.shard ≡ self.now.shard }
+        ensures { AreOfOneList told.now.stored self.now.seen }
+    {
+        compare(&told.front, &self.front);
+    }
+
+    /// How many insertions it has seen.
+    pub fn seen(&self) -> u64
+        ensures { result ≡ length self.now.seen }
+    {
+        self.stored
     }
 
     /// It does nothing. A caller's proof learns from it what holds of what is seen.

@@ -2,9 +2,11 @@ ghost use Rattle.std.specs.Prelude.{◌≡◌, ◌<◌, ◌≤◌, ◌^◌, ℕ,
 ghost use mathlib.Core.List.{IsPrefix};
 ghost use Rattle.asc_traj.specs.Finder.{IsJump, Tells, tally_after};
 ghost use Rattle.asc_shard.specs.Content.{IsContent};
-ghost use Rattle.asc_cache.specs.Cache.{ShardReader, AreLater, IsLater, content_seen, first_found, found_by};
+ghost use Rattle.asc_cache.specs.LogRule.{AreOfOneList};
+ghost use Rattle.asc_cache.specs.Cache.{ShardReader, AreLater, IsLater, IsOwnReader, content_seen, first_found, found_by};
 
 use crate::reader::{ShardReader, Told};
+use crate::writer::ShardWriter;
 use asc_shape::State;
 use asc_traj::Finder;
 use std::marker::Model;
@@ -107,6 +109,35 @@ impl<R: Wait + Drop> ShardReaders<R> {
     {
         let index = told.index();
         self.readers[index].learn(&self.rt, told);
+    }
+
+    /// The writer of a shard tells, and its reader learns: it has then seen all that is stored.
+    pub fn meet<Q: Wait + Drop>(&mut self, writer: &ShardWriter<Q>)
+        requires { IsOwnReader writer.now self.old.readers }
+        ensures seen { (d : ShardReader)
+            → IsPrefix writer.now.stored (slice_index_or self.new.readers writer.now.index d).seen }
+        ensures later { AreLater self.old.readers self.new.readers }
+        ensures tally { self.new.tally ≡ self.old.tally }
+    {
+        self.learn(writer.tell());
+    }
+
+    /// Of what is stored in a shard and what its reader has seen the shorter begins the longer. It does nothing.
+    pub fn compare<Q: Wait + Drop>(&self, writer: &ShardWriter<Q>)
+        requires { IsOwnReader writer.now self.now.readers }
+        ensures { (d : ShardReader)
+            → AreOfOneList writer.now.stored (slice_index_or self.now.readers writer.now.index d).seen }
+    {
+        let told = writer.tell();
+        self.readers[told.index()].compare(&told);
+    }
+
+    /// How many insertions the reader of a shard has seen.
+    pub fn seen(&self, i: usize) -> u64
+        requires { i < length self.now.readers }
+        ensures { (d : ShardReader) → result ≡ length (slice_index_or self.now.readers i d).seen }
+    {
+        self.readers[i].seen()
     }
 
     /// It does nothing. A caller's proof learns from it what holds of what a reader has seen.

@@ -121,6 +121,13 @@ impl<R: Wait + Drop> ShardWriter<R> {
         Told::of(self.handle.published(), self.index)
     }
 
+    /// How many insertions were stored.
+    pub fn stored(&self) -> u64
+        ensures { result ≡ length self.now.stored }
+    {
+        self.handle.published().stored
+    }
+
     /// It does nothing. A caller's proof learns from it what holds of the content of every shard.
     pub fn truth(&self)
         ensures { IsContent self.now.capacity (shard_of self.now).held }

@@ -7,5 +7,7 @@ use Rattle.asc_cache.proofs.log.compare.Goals as goal
 pub returns : goal.returns
 returns c =
     let both = c.learn.new.self.log in
-    let this : IsPrefix c.args.short.now.log both = subst (λ (l : List Entry). IsPrefix l both) (ap (λ s. s.log) c.again-both.ensures) c.learn.ensures.2 in
-    prefix_shorter c.args.short.now.log c.args.long.now.log both this c.learn.ensures.3 c.requires.1
+    let one = c.args.one.now.log in
+    let other = c.args.other.now.log in
+    let this : IsPrefix one both = subst (λ (l : List Entry). IsPrefix l both) (ap (λ s. s.log) c.again-both.ensures) c.learn.ensures.2 in
+    (prefix_shorter one other both this c.learn.ensures.3, prefix_shorter other one both c.learn.ensures.3 this)

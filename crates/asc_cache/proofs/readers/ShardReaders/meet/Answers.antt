@@ -1,7 +1,7 @@
 use Rattle.std.proofs.Common.{slice_index_or, subst}
 use mathlib.Core.List.{IsPrefix}
 use Rattle.asc_cache.specs.Cache.{Told}
-use Rattle.asc_cache.proofs.meeting.meet.Goals as goal
+use Rattle.asc_cache.proofs.readers.ShardReaders.meet.Goals as goal
 
 pub returns-clause-seen : goal.returns-clause-seen
 returns-clause-seen g c d =
