@@ -3,7 +3,7 @@ ghost use Rattle.asc_model.specs.Reach.{IsReach, reach_of};
 ghost use Rattle.asc_model.specs.Entry.{entry_of};
 ghost use Rattle.asc_outside.specs.Outside.{one_more};
 ghost use Rattle.asc_jobs.specs.declared.tally.Column.TheVariants as ran;
-ghost use Rattle.asc_traj.specs.Trace.{StandsFor, MayStop, bounds_of, is_stopped, origin_of};
+ghost use Rattle.asc_traj.specs.Trace.{CountsAnswer, StandsFor, MayStop, bounds_of, is_stopped, origin_of};
 ghost use Rattle.asc_jobs.specs.Tally.{no_jobs, noted, counts_of};
 ghost use Rattle.asc_work.specs.Worker.{IsOfShape, IsEmpty, HasInserted, RisesAtMostOnce, Misses, Missed, Ends, guess_for, steps_for};
 
@@ -110,6 +110,48 @@ impl<W: Insert + Drop, H: Halt + Drop> Worker<W, H> {
         let ran = self.outcome(job, gate);
         self.tally.note(ran);
         ran
+    }
+
+    /// What became of the jobs that it has run.
+    pub fn tally(&self) -> Tally
+        ensures { counts_of result ≡ self.now.tally }
+    {
+        self.tally
+    }
+
+    /// What became of the jobs that it has run. It then counts from 0 on.
+    pub fn take_tally(&mut self) -> Tally
+        ensures tally { counts_of result ≡ self.old.tally }
+        ensures worker { self.new ≡ record self.old { tally = no_jobs } }
+    {
+        let tally = self.tally;
+        self.tally = Tally::new();
+        tally
+    }
+
+    /// Its writer and its halt.
+    pub fn end(self) -> (W, H)
+        ensures writer { result.0 ≡ self.writer }
+        ensures halt { result.1 ≡ self.halt }
+    {
+        let Self {
+            alloc: _,
+            tracer: _tracer,
+            laps: _,
+            span: _,
+            writer,
+            halt,
+            tally: _,
+        } = self;
+        (writer, halt)
+    }
+
+    /// Whether its halt says to stop.
+    pub(crate) fn is_asked_to_stop(&mut self) -> bool
+        ensures count { CountsAnswer (H.count self.old.halt) (H.count self.new.halt) result }
+        ensures worker { self.new ≡ record self.old { halt = self.new.halt } }
+    {
+        self.halt.asked()
     }
 
     // Runs a job, but for its tally.
