@@ -12,6 +12,8 @@ mod log;
 mod reader;
 mod readers;
 mod sight;
+#[cfg(test)]
+mod tests;
 mod writer;
 
 pub use cache::Cache;

@@ -121,6 +121,13 @@ impl<R: Wait + Drop> ShardWriter<R> {
         Told::of(self.handle.published(), self.index)
     }
 
+    /// The number of its shard in the cache.
+    pub fn index(&self) -> usize
+        ensures { result ≡ self.now.index }
+    {
+        self.index
+    }
+
     /// How many insertions were stored.
     pub fn stored(&self) -> u64
         ensures { result ≡ length self.now.stored }
