@@ -211,8 +211,7 @@ visit-is number now old plan done i (inl (shape, inl p)) w n m told of_shape sam
     let below = told-below old t.0 in
     let v = subst (λ h. Works h done i) p w in
     let k : i ≡ length (jobs_at number old.machine) = n ∙ ap (λ (h : SerialHelper). length h.jobs) p in
-    let is = visit-done number now old done i v k same below in
-    (
+    let is = visit-done number now old done i v k same below in (
       told-again done (visited number now m) (omega (arith, same, below)) (is ∙ ap (visited number now) t.1),
       v.made ∙ ap (λ k. old.made + k) (jobs-made number old.machine.last old.machine ∙ ap (made_at number) t.1),
     )

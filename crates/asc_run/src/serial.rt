@@ -129,13 +129,7 @@ impl Serial {
             return 0;
         }
         let due = targets(self.issued, number, self.guessing.ahead);
-        list_jobs(
-            &mut self.jobs,
-            &self.guessing,
-            number,
-            due.start,
-            due.end,
-        );
+        list_jobs(&mut self.jobs, &self.guessing, number, due.start, due.end);
         self.issued = number + u64::from(self.guessing.ahead);
         self.made += self.jobs.len() as u64;
         self.jobs.len()
@@ -192,13 +186,7 @@ impl Serial {
 }
 
 /// Lists the guesses of these targets, which are visits after this one, each once for each kind that is on.
-fn list_jobs(
-    jobs: &mut Vec<(Kind, u32)>,
-    guessing: &Guessing,
-    number: u64,
-    start: u64,
-    end: u64,
-)
+fn list_jobs(jobs: &mut Vec<(Kind, u32)>, guessing: &Guessing, number: u64, start: u64, end: u64)
     requires none { jobs.old.items ≡ [] }
     requires room { 2 * (end - start) ≤ vec_capacity jobs.old }
     requires rises { start ≤ end }
