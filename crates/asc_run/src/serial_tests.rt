@@ -1,3 +1,6 @@
+ghost use Rattle.std.specs.Prelude.{◌≤◌};
+
+use crate::serial::MOST_AHEAD;
 use crate::tests::{COUNTING, run};
 use crate::{Counts, Ended, Helper, MOST_STEPS, Made, Serial, Settings};
 use asc_guess::Kind;
@@ -8,7 +11,11 @@ use std::process::Abort;
 use std::sync::ledger::Blank;
 
 /// The kinds that are on, two visits ahead.
-const fn two_ahead(last: bool, stride: bool) -> Guessing {
+fn two_ahead(last: bool, stride: bool) -> Guessing
+    ensures laps { 1 ≤ result.laps }
+    ensures span { 1 ≤ result.span }
+    ensures ahead { result.ahead ≤ MOST_AHEAD }
+{
     Guessing {
         last,
         stride,
