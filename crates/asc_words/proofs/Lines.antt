@@ -205,18 +205,6 @@ pub record IsMetAs (words : List Text) (p : Bor Text × Bor ArgMatches) (name : 
   pub values : AreValues (rows_of (found_of p.1.now))
 
 module _ (words : List Text) (m : ArgMatches) (met : Option (Bor Text × Bor ArgMatches)) where
-  is_met_as : (name : Text) → subcommand_name_of m ≡ Some name → option_map (λ p. p.0.now) met ≡ subcommand_name_of m → IsSome met
-  is_met_as name is names = go met (names ∙ is)
-    where
-      go : (o : Option (Bor Text × Bor ArgMatches)) → option_map (λ p. p.0.now) o ≡ Some name → IsSome o
-      go None e = cc
-      go (Some p) e = search rules
-
-  pub is_met : IsFound words m → option_map (λ p. p.0.now) met ≡ subcommand_name_of m → IsSome met
-  is_met (inl run) names = is_met_as (codes "run") run.names names
-  is_met (inr (inl make)) names = is_met_as (codes "make") make.names names
-  is_met (inr (inr trial)) names = is_met_as (codes "trial") trial.names names
-
   module _ (p : Bor Text × Bor ArgMatches) (is : met ≡ Some p) (names : option_map (λ q. q.0.now) met ≡ subcommand_name_of m)
       (rows : option_map (λ q. rows_of (found_of q.1.now)) met ≡ option_map (λ q. q.1) (subcommand_rows_of m)) where
     met_as : (name : Text) (AreValues : List Row → Type 0) (made : List Row → Result Line Bad) → IsFoundAs words m name AreValues made
