@@ -2,7 +2,7 @@
 --
 -- It fills some words of memory from address 0x11000 on, writes them and ends with 0. Word j is what
 -- x = x * 1664525 + 1 (modulo 2^32) gives 50 times from x = j + 4096 * seed.
-use Rattle.std.specs.Prelude.{ℕ, ◌+◌, ◌*◌, ◌%◌, ◌^◌, List, [], ◌∷◌, map}
+use Rattle.std.specs.Prelude.{◌≡◌, ⊤, ℕ, ◌+◌, ◌*◌, ◌%◌, ◌^◌, List, [], ◌∷◌, map}
 
 -- how many words it fills
 abbrev pub filled_words : ℕ → ℕ
@@ -44,3 +44,8 @@ table n =
 -- the words alone
 abbrev pub words_of : ℕ → List ℕ
 words_of n = map (λ row. row.1) (table n)
+
+-- its words stand one behind the other from an address on
+abbrev pub StandFrom : ℕ → List (ℕ × ℕ) → Type 0
+StandFrom address [] = ⊤
+StandFrom address (row ∷ rows) = (row.0 ≡ address) × StandFrom (address + 4) rows

@@ -1,6 +1,7 @@
 //! The executable around the generated program.
 ghost use Rattle.std.specs.Prelude.{◌≡◌, ◌<◌, ◌*◌, ◌^◌, ◌++◌, IfOk, OnOk, length};
-ghost use Rattle.asc_make.specs.File.{elf_header, halves, image_of, program_header, words, wrap};
+ghost use Rattle.std.specs.List.{flat_map};
+ghost use Rattle.asc_make.specs.File.{elf_header, half, image_of, program_header, word, wrap};
 
 use crate::program::program;
 use asc_outside::Memory;
@@ -12,9 +13,7 @@ const CODE_ADDRESS: u32 = 0x10000;
 /// e_ident: the magic number, ELFCLASS32, ELFDATA2LSB, EV_CURRENT, and padding.
 const E_IDENT: [u8; 16] = [0x7F, b'E', b'L', b'F', 1, 1, 1, 0, 0, 0, 0, 0, 0, 0, 0, 0];
 
-/// The generated image of a number: an executable of 180 bytes.
-///
-/// It fills 16 to 256 words of memory, writes them to its output and ends with 0.
+/// The generated image of a number: an executable of 180 bytes around a program of 24 words.
 pub fn image(alloc: Global, n: u64) -> Result<Vec<u8>, Memory>
     ensures { IfOk result (λ file. file.items ≡ image_of n) }
 {
@@ -89,7 +88,7 @@ fn put_program_header(file: &mut Vec<u8>, size: u32) -> Result<(), AllocError>
 
 /// Appends numbers of 16 bits.
 fn put_halves(file: &mut Vec<u8>, numbers: &[u16]) -> Result<(), AllocError>
-    ensures { OnOk result (file.new.items ≡ file.old.items ++ halves numbers.now) }
+    ensures { OnOk result (file.new.items ≡ file.old.items ++ flat_map half numbers.now) }
 {
     for number in numbers {
         file.extend_from_slice(&number.to_le_bytes())?;
@@ -99,7 +98,7 @@ fn put_halves(file: &mut Vec<u8>, numbers: &[u16]) -> Result<(), AllocError>
 
 /// Appends numbers of 32 bits.
 fn put_words(file: &mut Vec<u8>, numbers: &[u32]) -> Result<(), AllocError>
-    ensures { OnOk result (file.new.items ≡ file.old.items ++ words numbers.now) }
+    ensures { OnOk result (file.new.items ≡ file.old.items ++ flat_map word numbers.now) }
 {
     for number in numbers {
         file.extend_from_slice(&number.to_le_bytes())?;

@@ -2,9 +2,11 @@
 #![tactic(auto)]
 
 mod file;
+mod laws;
 mod program;
 
 pub use file::image;
+pub use laws::words_stand_at_their_addresses;
 
 #[cfg(test)]
 mod tests;

@@ -38,8 +38,8 @@ abbrev pub address_of : Option Text → Result (Option ℕ) Bad
 address_of None = Ok None
 address_of (Some text) = if is_address text then Ok (Some (digits_value 16 text)) else Err Pc
 
--- The guesses that a word asks for: whether the state at the last visit is guessed again, and whether those that the
--- last two visits lead to.
+-- The guesses that a word asks for: those whose words are those of the last visit, and those whose words go on by their
+-- differences between the last two visits.
 abbrev pub guesses_of : Text → Result Guesses Bad
 guesses_of text =
     if bytes_eq text (codes "none") then Ok (record { last = false; stride = false })

@@ -54,9 +54,9 @@ pub struct RunLine {
     pub limit: u64,
     /// The machine's version.
     pub version: Version,
-    /// Whether the state at the last visit is guessed again.
+    /// Whether states are guessed whose words are those of the last visit.
     pub last: bool,
-    /// Whether the states are guessed that the last two visits lead to by steps of one size.
+    /// Whether states are guessed whose words go on by their differences between the last two visits.
     pub stride: bool,
     /// The recognised address.
     pub pc: Option<u32>,
@@ -64,9 +64,9 @@ pub struct RunLine {
     pub profile: u32,
     /// How often an address must be met to be recognised, from 2 to 65,536.
     pub least: u32,
-    /// How many visits a guess is followed for, from 1 to 1,000,000.
+    /// How many visits on a guess is followed, from 1 to 1,000,000.
     pub laps: u64,
-    /// The most steps that a guess is followed for, from 1 to 1,000,000,000.
+    /// The most steps that a guess is followed, from 1 to 1,000,000,000.
     pub span: u64,
     /// How many visits ahead states are guessed, from 1 to 64.
     pub ahead: u32,

@@ -523,37 +523,33 @@ static WORKERS: [(WorkerCounts, &str); 3] = [
     ),
 ];
 
-// Whether the text of an outcome is these three lines, and all bytes behind it stay.
-fn is_text(outcome: Outcome, line: &str, numbers: &str, workers: &str) -> bool {
+// Whether this is the text of an outcome, and all bytes behind it stay.
+fn is_text(outcome: Outcome, want: &str) -> bool {
     let mut into = [0xEE; 512];
     let length = text(&outcome, &mut into);
-    let behind = line.len() + numbers.len();
-    length == behind + workers.len()
-        && &into[..line.len()] == line.as_bytes()
-        && &into[line.len()..behind] == numbers.as_bytes()
-        && &into[behind..length] == workers.as_bytes()
-        && into[length..].iter().all(|byte| *byte == 0xEE)
+    &into[..length] == want.as_bytes() && into[length..].iter().all(|byte| *byte == 0xEE)
 }
 
 #[test]
-fn answers(rt: HostRuntime) {
+fn answers(rt: HostRuntime) -> Result<(), Fail> {
+    let alloc = rt.alloc();
     for (answer, code, line) in &ANSWERS {
         assert_eq!(rt; answer.code(), *code, "code of {line}");
         let mut outcome = Outcome::of(*answer);
-        assert!(rt; is_text(outcome, line, "", ""), "text of {line}");
+        assert!(rt; is_text(outcome, line), "text of {line}");
         for (counts, numbers) in &NUMBERS {
             outcome.counts = Some(*counts);
             outcome.workers = None;
-            assert!(rt; is_text(outcome, line, numbers, ""), "{line}{numbers}");
+            let want = format!(in alloc; "{line}{numbers}")?;
+            assert!(rt; is_text(outcome, want.as_str()), "{want}");
             for (workers, more) in &WORKERS {
                 outcome.workers = Some(*workers);
-                assert!(rt;
-                    is_text(outcome, line, numbers, more),
-                    "{line}{numbers}{more}"
-                );
+                let want = format!(in alloc; "{line}{numbers}{more}")?;
+                assert!(rt; is_text(outcome, want.as_str()), "{want}");
             }
         }
     }
+    Ok(())
 }
 
 // Trials, and their texts.
@@ -633,16 +629,16 @@ static TRIALS: [(TrialOutcome, &str); 5] = [
     ),
 ];
 
+// Whether this is the text of a trial, and all bytes behind it stay.
+fn is_trial_text(trial: &TrialOutcome, want: &str) -> bool {
+    let mut into = [0xEE; 512];
+    let length = trial_text(trial, &mut into);
+    &into[..length] == want.as_bytes() && into[length..].iter().all(|byte| *byte == 0xEE)
+}
+
 #[test]
 fn trials(rt: HostRuntime) {
     for (trial, want) in &TRIALS {
-        let mut into = [0xEE; 512];
-        let length = trial_text(trial, &mut into);
-        assert_eq!(rt; length, want.len(), "length of {want}");
-        assert!(rt; &into[..length] == want.as_bytes(), "text of {want}");
-        assert!(rt;
-            into[length..].iter().all(|byte| *byte == 0xEE),
-            "behind {want}"
-        );
+        assert!(rt; is_trial_text(trial, want), "{want}");
     }
 }
