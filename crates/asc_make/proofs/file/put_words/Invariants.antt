@@ -1,0 +1,7 @@
+use Rattle.std.proofs.Common.{◌≡◌, ◌++◌, take}
+use Rattle.std.specs.List.{flat_map}
+use Rattle.asc_make.specs.File.{word}
+use Rattle.asc_make.proofs.file.put_words.Given as goal
+
+abbrev pub invariant-loop-number : goal.invariant-loop-number
+invariant-loop-number l = l.file.items ≡ l.fn.file.items ++ flat_map word (take l.number-index l.numbers)
