@@ -1,9 +1,10 @@
 -- The jobs that are due at a visit, and what becomes of them.
-use Rattle.std.specs.Prelude.{◌≡◌, ◌⊎◌, ℕ, ◌+◌, ◌-◌, ◌^◌, ◌<◌, ◌≤◌, min, List, [], ◌∷◌, ◌++◌, length, map}
+use Rattle.std.specs.Prelude.{◌≡◌, ◌⊎◌, ℕ, zero, suc, ◌+◌, ◌-◌, ◌<◌, ◌≤◌, List, [], ◌∷◌, ◌++◌, length, map}
 use Rattle.std.specs.Arc.{arc_value}
 use Rattle.std.specs.List.{flat_map, range_with_len}
 use Rattle.asc_model.specs.State.{State}
 use Rattle.asc_guess.specs.declared.kind.Kind.{Kind}
+use Rattle.asc_outside.specs.Outside.{one_more}
 use Rattle.asc_jobs.specs.declared.job.Job.{Job}
 use Rattle.asc_jobs.specs.Jobs.{Giver}
 use Rattle.asc_jobs.specs.JobRule.{CountUp}
@@ -36,9 +37,10 @@ abbrev pub IsSublist : {A : Type 0} → (some all : List A) → Type 0
 IsSublist some [] = some ≡ []
 IsSublist {A} some (x ∷ xs) = IsSublist some xs ⊎ ((rest : List A) × (some ≡ x ∷ rest) × IsSublist rest xs)
 
--- a count that rose by n; one that stands at its last value, 2 ^ 64 - 1, stays
+-- a count that rose n times
 abbrev pub raised : (count n : ℕ) → ℕ
-raised count n = min (count + n) (2 ^ 64 - 1)
+raised count zero = count
+raised count (suc n) = one_more (raised count n)
 
 -- what pushes jobs, and what it counted
 pub record Pusher : Type 0 where

@@ -3,12 +3,13 @@ use Rattle.std.specs.Prelude.{◌≡◌, ◌⊎◌, ℕ, ◌+◌, ◌^◌, ◌�
 use Rattle.std.specs.Global.{Global}
 use Rattle.std.specs.declared.sync.Arc.{Arc}
 use Rattle.asc_model.specs.State.{State}
+use Rattle.asc_outside.specs.Outside.{one_more}
 use Rattle.asc_jobs.specs.Jobs.{Giver}
 use Rattle.asc_traj.specs.declared.guessing.Guessing.{Guessing}
 use Rattle.asc_traj.specs.Finder.{Plan, Seen}
 use Rattle.asc_run.specs.Serial.{tasks_of}
 use Rattle.asc_run.specs.Seen.{seen, guesses_until}
-use Rattle.asc_live.specs.Due.{Due, Pusher, Pushes, jobs_of, raised}
+use Rattle.asc_live.specs.Due.{Due, Pusher, Pushes, jobs_of}
 
 -- the helper of a walk that has workers beside it
 pub record Live (F : Type 0) : Type 0 where
@@ -97,7 +98,7 @@ abbrev pub refused_visit : {F : Type 0} → Live F → Live F
 refused_visit l = record l {
   prev = None;
   last = None;
-  pusher = record l.pusher { refused = raised l.pusher.refused 1 };
+  pusher = record l.pusher { refused = one_more l.pusher.refused };
   seen = None;
 }
 

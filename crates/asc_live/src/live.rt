@@ -17,9 +17,6 @@ use std::alloc::Global;
 use std::marker::Model;
 use std::sync::{Arc, Wait};
 
-/// No job is pushed once so many were, which no run reaches.
-const MOST_JOBS: u64 = 1 << 60;
-
 /// The helper of a walk that has workers beside it. At each visit it pushes jobs for them: guesses of later visits, to
 /// be traced. It finds jumps by another finder.
 ///
@@ -91,8 +88,8 @@ impl<'a, F, G, R> Live<'a, F, G, R> {
 
     /// The finder that it asks, and the giver of its queue.
     pub fn into_parts(self) -> (F, Giver)
-        ensures finder { result.0 ≡ self.finder }
-        ensures giver { result.1 ≡ self.pusher.giver }
+        ensures finder { result.0 ≡ self.entry.finder }
+        ensures giver { result.1 ≡ self.entry.pusher.giver }
     {
         let Live {
             alloc: _,
@@ -151,14 +148,15 @@ impl<'a, F, G, R: Wait> Live<'a, F, G, R> {
           pusher = self.new.pusher;
         } }
     {
-        let (Some(prev), Some(last)) = (&self.prev, &self.last) else {
+        let Some(prev) = &self.prev else {
+            return;
+        };
+        let Some(last) = &self.last else {
             return;
         };
         let before = self.pusher.pushed();
-        if before < MOST_JOBS {
-            self.pusher
-                .push_visit(prev, last, &self.guessing, self.issued, number);
-        }
+        self.pusher
+            .push_visit(prev, last, &self.guessing, self.issued, number);
         self.issued = number + u64::from(self.guessing.ahead);
         if before < self.pusher.pushed() {
             self.wake();

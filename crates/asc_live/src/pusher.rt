@@ -1,7 +1,8 @@
-ghost use Rattle.std.specs.Prelude.{◌≡◌, ◌+◌, ◌-◌, ◌<◌, ◌≤◌, ◌^◌, [], ◌∷◌, length, map, ℕ};
+ghost use Rattle.std.specs.Prelude.{◌≡◌, ◌+◌, ◌-◌, ◌<◌, ◌≤◌, ◌^◌, [], ◌∷◌, length, map, nat_lt, if◌then◌else◌, ℕ};
 ghost use Rattle.std.specs.Arc.{arc_value};
 ghost use Rattle.asc_guess.specs.declared.kind.Kind.{Kind as kind_of};
-ghost use Rattle.asc_live.specs.Due.{Pushes, jobs_of, raised, tasks_for};
+ghost use Rattle.asc_outside.specs.Outside.{one_more};
+ghost use Rattle.asc_live.specs.Due.{Pushes, jobs_of, tasks_for};
 ghost use Rattle.asc_run.specs.Serial.{kinds_of, tasks_of};
 
 use asc_guess::{Kind, targets};
@@ -10,6 +11,9 @@ use asc_shape::Snapshot;
 use asc_traj::Guessing;
 use std::marker::Model;
 use std::sync::{Arc, Wait};
+
+/// As many jobs are pushed at most, but for those of one visit. No run reaches it.
+const MOST_JOBS: u64 = 1 << 60;
 
 /// Pushes jobs, and counts those that it could not push.
 #[derive(Drop)]
@@ -43,7 +47,7 @@ impl<'a, R> Pusher<'a, R> {
 
     /// The giver of its queue.
     pub(crate) fn into_giver(self) -> Giver
-        ensures { result ≡ self.giver }
+        ensures { result ≡ self.entry.giver }
     {
         let Pusher {
             rt: _,
@@ -77,7 +81,7 @@ impl<'a, R> Pusher<'a, R> {
 
     /// Counts that memory was wanting.
     pub(crate) fn refuse(&mut self)
-        ensures { self.new ≡ record self.old { refused = raised self.old.refused 1 } }
+        ensures { self.new ≡ record self.old { refused = one_more self.old.refused } }
     {
         self.refused = self.refused.saturating_add(1);
     }
@@ -85,7 +89,7 @@ impl<'a, R> Pusher<'a, R> {
 
 impl<'a, R: Wait> Pusher<'a, R> {
     /// Pushes the jobs of a visit, by the states of the last two: of the targets in rising order, and of each kind
-    /// that is on, `Last` before `Stride`.
+    /// that is on, `Last` before `Stride`. Nothing is pushed once `MOST_JOBS` were.
     pub(crate) fn push_visit(
         &mut self,
         prev: &Arc<Snapshot>,
@@ -94,16 +98,18 @@ impl<'a, R: Wait> Pusher<'a, R> {
         issued: u64,
         number: u64,
     )
-        requires tickets { length self.old.giver.pushed < 2 ^ 60 }
         requires full { self.old.full < 2 ^ 62 }
         requires ahead { guessing.now.ahead ≤ 64 }
         requires issued { issued ≤ 2 ^ 41 }
         requires number { number ≤ 2 ^ 40 }
-        ensures { Pushes (jobs_of (arc_value prev.now) (arc_value last.now) (tasks_of guessing.now issued number))
+        ensures { Pushes (if nat_lt (length self.old.giver.pushed) (2 ^ 60)
+            then jobs_of (arc_value prev.now) (arc_value last.now) (tasks_of guessing.now issued number) else [])
             self.old self.new }
     {
-        let due = targets(issued, number, guessing.ahead);
-        self.push_targets(prev, last, guessing, number, due.start, due.end);
+        if self.pushed() < MOST_JOBS {
+            let due = targets(issued, number, guessing.ahead);
+            self.push_targets(prev, last, guessing, number, due.start, due.end);
+        }
     }
 
     // Pushes the jobs of these targets.
@@ -118,6 +124,7 @@ impl<'a, R: Wait> Pusher<'a, R> {
     )
         requires tickets { length self.old.giver.pushed < 2 ^ 60 }
         requires full { self.old.full < 2 ^ 62 }
+        requires rises { start ≤ end }
         requires later { start < end → number ≤ start }
         requires few { end ≤ start + 64 }
         requires near { start < end → end ≤ number + 65 }
@@ -142,11 +149,26 @@ impl<'a, R: Wait> Pusher<'a, R> {
         ensures { Pushes (jobs_of (arc_value prev.now) (arc_value last.now)
             (map (λ (kind : kind_of). (kind, ahead)) (kinds_of guessing.now))) self.old self.new }
     {
-        if guessing.last {
-            self.push(prev, last, ahead, Kind::Last);
-        }
-        if guessing.stride {
-            self.push(prev, last, ahead, Kind::Stride);
+        self.push_where(guessing.last, prev, last, ahead, Kind::Last);
+        self.push_where(guessing.stride, prev, last, ahead, Kind::Stride);
+    }
+
+    // Pushes a job, where its kind is on.
+    fn push_where(
+        &mut self,
+        on: bool,
+        prev: &Arc<Snapshot>,
+        last: &Arc<Snapshot>,
+        ahead: u32,
+        kind: Kind,
+    )
+        requires tickets { length self.old.giver.pushed < 2 ^ 61 }
+        requires full { self.old.full < 2 ^ 63 }
+        ensures { Pushes (jobs_of (arc_value prev.now) (arc_value last.now)
+            (if on then (kind, ahead) ∷ [] else [])) self.old self.new }
+    {
+        if on {
+            self.push(prev, last, ahead, kind);
         }
     }
 
