@@ -35,7 +35,7 @@ Pushes-none p = record {
 pushed-is : (due : List Due) (p q : Pusher) (s : Pushes due p q) → q.giver.pushed ≡ p.giver.pushed ++ s.jobs
 pushed-is due p q s = ap (λ (g : Giver). g.pushed) s.giver
 
-pushed-length : (due : List Due) (p q : Pusher) (s : Pushes due p q) → length q.giver.pushed ≡ length p.giver.pushed + length s.jobs
+pub pushed-length : (due : List Due) (p q : Pusher) (s : Pushes due p q) → length q.giver.pushed ≡ length p.giver.pushed + length s.jobs
 pushed-length due p q s = ap length (pushed-is due p q s) ∙ length-append p.giver.pushed s.jobs
 
 room-more : (a b capacity m n : ℕ) → (0 < a → capacity ≤ m) → (0 < b → capacity ≤ n) → m ≤ n → 0 < a + b → capacity ≤ n
