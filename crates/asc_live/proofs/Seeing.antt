@@ -149,12 +149,12 @@ seen-was : (number refused n : ℕ) (before : Option ℕ) → seen_after number 
     → (b : ℕ) × (before ≡ Some b) × ((number ≡ b + 1) × ((refused ≡ 0) × (n ≡ number)))
 seen-was number refused n None e = absurd (cc)
 seen-was number refused n (Some b) e = elim (eqb_tells number (b + 1)) [
-    | inl p ↦ elim (eqb_tells refused 0) [
-        | inl q ↦ (b, refl, (p.1, (q.1, told-number number n (number == b + 1) (refused == 0) p.0 q.0 e)))
-        | inr q ↦ absurd (untold number n (number == b + 1) (refused == 0) q.0 e)
-      ]
-    | inr p ↦ absurd (untold' number n (number == b + 1) (refused == 0) p.0 e)
+  | inl p ↦ elim (eqb_tells refused 0) [
+    | inl q ↦ (b, refl, (p.1, (q.1, told-number number n (number == b + 1) (refused == 0) p.0 q.0 e)))
+    | inr q ↦ absurd (untold number n (number == b + 1) (refused == 0) q.0 e)
   ]
+  | inr p ↦ absurd (untold' number n (number == b + 1) (refused == 0) p.0 e)
+]
 
 pushes-sees : {F : Type 0} (n : ℕ) (now : State) (old : Live F) (p : Pusher) → IsLive old → HasSeen n old → Pushes (due_by (n + 1) old.last (Some now) old) old.pusher p → p.refused ≡ 0
     → length p.giver.pushed + p.full ≡ length old.pusher.giver.pushed + old.pusher.full + guesses_at old.guessing (n + 1)
@@ -227,8 +227,7 @@ visit-sees {F} number now old new q (inl v) before told next same =
     let none = same ∙ h.refused in
     let pushes = subst (λ m. Pushes (due_by m old.last (Some now) old) old.pusher new.pusher) next v.pushes in
     let seen_is : new.seen ≡ Some number = ap (λ (l : Live F). l.seen) v.rest ∙ (λ i. seen_after (next i) (none i) (is.0 i)) ∙ seen-next before.number ∙ ap Some (sym next) in
-    let guessing_is : new.guessing ≡ before.guessing = ap (λ (l : Live F). l.guessing) v.rest ∙ is.1 in
-    (
+    let guessing_is : new.guessing ≡ before.guessing = ap (λ (l : Live F). l.guessing) v.rest ∙ is.1 in (
       ap (λ (o : Option ℕ). elim o [ Some m ↦ Some (seen m new.guessing) | None ↦ None ]) seen_is ∙ ap (λ g. Some (seen number g)) guessing_is,
       pushes-sees before.number now old new.pusher q h pushes none
           ∙ (λ i. length old.pusher.giver.pushed + old.pusher.full + guesses_at (is.1 i) (sym next i)),

@@ -86,12 +86,12 @@ seen_after number refused None = None
 pub record Keeps {F : Type 0} (number : ℕ) (now : State) (old new : Live F) : Type 0 where
   pub pushes : Pushes (due_by number old.last (Some now) old) old.pusher new.pusher
   pub rest : new ≡ record old {
-      prev = old.last;
-      last = Some now;
-      issued = issued_by number old.last (Some now) old;
-      pusher = new.pusher;
-      seen = seen_after number new.pusher.refused old.seen;
-    }
+    prev = old.last;
+    last = Some now;
+    issued = issued_by number old.last (Some now) old;
+    pusher = new.pusher;
+    seen = seen_after number new.pusher.refused old.seen;
+  }
 
 -- memory was wanting for a visit's state: both states are given up, and no job is pushed
 abbrev pub refused_visit : {F : Type 0} → Live F → Live F

@@ -112,9 +112,7 @@ impl<'a, F, G, R> Live<'a, F, G, R> {
             worker.unpark();
         }
     }
-}
 
-impl<'a, F, G, R: Wait> Live<'a, F, G, R> {
     // Keeps the state of a visit, and lets go of that before the last. Where memory is wanting it answers false, and
     // both are given up.
     fn keep(&mut self, state: &State) -> bool
@@ -136,7 +134,9 @@ impl<'a, F, G, R: Wait> Live<'a, F, G, R> {
             }
         }
     }
+}
 
+impl<'a, F, G, R: Wait> Live<'a, F, G, R> {
     // Pushes the jobs of a visit, where two states are kept, and wakes the workers where any were pushed.
     fn push_due(&mut self, number: u64)
         requires seen { self.old.seen ≡ None }
