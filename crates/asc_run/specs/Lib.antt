@@ -4,7 +4,7 @@ pub mod Visits
 pub mod Serial
 pub mod Seen
 pub mod Helped
-pub mod Faults
+pub mod Way
 pub mod Walk
 pub mod Laws
 pub mod Rows

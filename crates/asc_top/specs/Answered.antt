@@ -1,12 +1,11 @@
 -- All that holds of an answer, whatever then becomes of its report.
 use Rattle.std.specs.Prelude.{◌≡◌, ◌≢◌, ◌⊎◌, ◌↔◌, ℕ, ◌<◌, List, length, Option, Some, None, Result, Ok, Err, IsErr, IsSome, IsTrue}
 use Rattle.asc_model.specs.declared.fault.Fault.{Fault}
-use Rattle.asc_outside.specs.Outside.{File, AsksFor, content_of}
+use Rattle.asc_outside.specs.Outside.{File, AsksFor, Blames, content_of}
 use Rattle.asc_elf.specs.declared.fault.ElfFault.{ElfFault}
 use Rattle.asc_calls.specs.GuestCall.{Device}
-use Rattle.asc_calls.specs.World.{Outside, Blames}
+use Rattle.asc_calls.specs.World.{Outside, BlamesOnly}
 use Rattle.asc_run.specs.declared.walk.Ended.TheVariants as ends
-use Rattle.asc_run.specs.Faults.{Faults, faults as faults_of, BlamesOnly}
 use Rattle.asc_words.specs.Line.{line_of}
 use Rattle.asc_words.specs.declared.line.RunLine.{RunLine}
 use Rattle.asc_words.specs.declared.line.Line.{Line}
@@ -21,22 +20,16 @@ use Rattle.asc_top.specs.Kinds.{Finished, kind_of, Completes, ComesOfFile, IsRef
 -- ---- what is told
 
 -- What is told of all that the program meets but its report: the store's files, the names that it was asked for and how
--- often it has failed, the guest's devices with the counter of steps, and how often each of these has failed.
+-- often it has failed, and the guest's devices with the counter of steps.
 pub record Devices : Type 0 where
   pub files : Option (List File)
   pub asked : Option (List (List ℕ))
   pub store_faults : ℕ
   pub guest : Outside
-  pub faults : Faults
 
-abbrev pub devices : Option (List File) → Option (List (List ℕ)) → Outside → (store input out err : ℕ) → Devices
-devices files asked guest store input out err = record {
-  files = files;
-  asked = asked;
-  store_faults = store;
-  guest = guest;
-  faults = faults_of input out err;
-}
+abbrev pub devices : Option (List File) → Option (List (List ℕ)) → (store_faults : ℕ) → Outside → Devices
+devices files asked store_faults guest =
+    record { files = files; asked = asked; store_faults = store_faults; guest = guest }
 
 -- the store tells that it holds a file of that name with this content
 abbrev pub IsHeld : Option (List File) → (name content : List ℕ) → Type 0
@@ -100,7 +93,7 @@ pub record IsAnswerTo (words : List (List ℕ)) (old new : Devices) (outcome : O
   -- StoreFault: the store failed, and once. Else it did not.
   pub store_fault : Blames (outcome.answer ≡ answers.StoreFault) old.store_faults new.store_faults
   -- ReadFault, WriteFault and ErrFault: that device failed, and once. Every other did not.
-  pub faults : BlamesOnly (device_of_answer outcome.answer) old.faults new.faults
+  pub faults : BlamesOnly (device_of_answer outcome.answer) old.guest.faults new.guest.faults
   -- ReportFault is answered in place of this answer, and is none.
   pub no_report_fault : outcome.answer ≢ answers.ReportFault
   -- the numbers of a run are told where the words ask for them and the guest came to an end, and else none are

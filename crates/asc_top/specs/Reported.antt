@@ -1,7 +1,6 @@
 -- What becomes of an outcome when its text is put to the report.
 use Rattle.std.specs.Prelude.{◌≡◌, ◌⊎◌, ℕ}
-use Rattle.asc_outside.specs.Outside.{Given, given_after, one_more}
-use Rattle.asc_calls.specs.Filling.{PutsPart}
+use Rattle.asc_outside.specs.Outside.{Given, PutsPart, given_after, one_more}
 use Rattle.asc_words.specs.declared.answer.Answer.{Answer}
 use Rattle.asc_words.specs.declared.answer.Outcome.{Outcome}
 use Rattle.asc_words.specs.declared.answer.Answer.TheVariants.{ReportFault}

@@ -1,18 +1,16 @@
 ghost use Rattle.std.specs.Prelude.{◌≡◌, ◌≢◌, ◌↔◌, ◌≤◌, ℕ, List, map, length, Some, None, Ok, IsSome, IsTrue};
 ghost use Rattle.std.specs.String.{string_bytes};
 ghost use Rattle.asc_calls.specs.GuestCall.{Device};
-ghost use Rattle.asc_calls.specs.World.{outside};
-ghost use Rattle.asc_run.specs.Faults.{faults, BlamesOnly};
+ghost use Rattle.asc_calls.specs.World.{outside, faults, BlamesOnly};
 ghost use Rattle.asc_words.specs.Line.{IsWithin, line_of};
 ghost use Rattle.asc_top.specs.Program.{Means, IsStopped, answer_at, counts_of, file_limit, reported_counts};
 ghost use Rattle.asc_top.specs.Kinds.{Finished, IsRefusal, device_of_answer, kind_of};
 ghost use Rattle.asc_top.specs.Answered.{Headline, IsAnswerTo, devices};
 ghost use Rattle.asc_top.specs.Reported.{IsReported, report_with};
 
-use asc_calls::put_all;
 use asc_elf::read;
 use asc_run::{Bare, Counts as WalkCounts, Ended, Helper, Settings, Walk};
-use asc_shape::{Failed, Gate, Loaded, Sink, Source, Steps, Store, StoreFault};
+use asc_shape::{Failed, Gate, Loaded, Sink, Source, Steps, Store, StoreFault, put_all};
 use asc_traj::Nothing;
 use asc_words::{Answer, Counts, Line, LineFault, Outcome, RunLine, parse, text};
 use std::alloc::Global;
@@ -45,22 +43,22 @@ pub fn top<F: Store, I: Source, O: Sink, E: Sink, R: Sink, G: Gate, L: Ledger>(
     // The headline. Where the words ask for a run of a file and over an input that are told, no device fails and no
     // memory is wanting, all that comes of it is plain execution's of what the file means.
     ensures headline { Headline (map string_bytes words.now)
-        (devices (F.files store.old) (F.asked store.old)
-        (outside (I.left input.old) (O.given out.old) (E.given err.old) steps.old)
-        (F.faults store.old) (I.faults input.old) (O.faults out.old) (E.faults err.old))
-        (devices (F.files store.new) (F.asked store.new)
-        (outside (I.left input.new) (O.given out.new) (E.given err.new) steps.new)
-        (F.faults store.new) (I.faults input.new) (O.faults out.new) (E.faults err.new)) result }
+        (devices (F.files store.old) (F.asked store.old) (F.faults store.old)
+        (outside (I.left input.old) (O.given out.old) (E.given err.old) steps.old
+        (faults (I.faults input.old) (O.faults out.old) (E.faults err.old))))
+        (devices (F.files store.new) (F.asked store.new) (F.faults store.new)
+        (outside (I.left input.new) (O.given out.new) (E.given err.new) steps.new
+        (faults (I.faults input.new) (O.faults out.new) (E.faults err.new)))) result }
 
     // There is an outcome of which all holds that an answer to these words promises, and its text was put to report:
     // its answer is the result. Or report failed, and the result is ReportFault.
     ensures answer { (outcome : Outcome) × IsAnswerTo (map string_bytes words.now)
-        (devices (F.files store.old) (F.asked store.old)
-        (outside (I.left input.old) (O.given out.old) (E.given err.old) steps.old)
-        (F.faults store.old) (I.faults input.old) (O.faults out.old) (E.faults err.old))
-        (devices (F.files store.new) (F.asked store.new)
-        (outside (I.left input.new) (O.given out.new) (E.given err.new) steps.new)
-        (F.faults store.new) (I.faults input.new) (O.faults out.new) (E.faults err.new)) outcome
+        (devices (F.files store.old) (F.asked store.old) (F.faults store.old)
+        (outside (I.left input.old) (O.given out.old) (E.given err.old) steps.old
+        (faults (I.faults input.old) (O.faults out.old) (E.faults err.old))))
+        (devices (F.files store.new) (F.asked store.new) (F.faults store.new)
+        (outside (I.left input.new) (O.given out.new) (E.given err.new) steps.new
+        (faults (I.faults input.new) (O.faults out.new) (E.faults err.new)))) outcome
         × IsReported (report_with (R.given report.old) (R.faults report.old))
         (report_with (R.given report.new) (R.faults report.new)) outcome result }
 {
@@ -93,12 +91,12 @@ fn outcome<F: Store, I: Source, O: Sink, E: Sink, L: Ledger>(
     steps: &mut Steps<L>,
 ) -> Outcome
     ensures { IsAnswerTo (map string_bytes words.now)
-        (devices (F.files store.old) (F.asked store.old)
-        (outside (I.left input.old) (O.given out.old) (E.given err.old) steps.old)
-        (F.faults store.old) (I.faults input.old) (O.faults out.old) (E.faults err.old))
-        (devices (F.files store.new) (F.asked store.new)
-        (outside (I.left input.new) (O.given out.new) (E.given err.new) steps.new)
-        (F.faults store.new) (I.faults input.new) (O.faults out.new) (E.faults err.new)) result }
+        (devices (F.files store.old) (F.asked store.old) (F.faults store.old)
+        (outside (I.left input.old) (O.given out.old) (E.given err.old) steps.old
+        (faults (I.faults input.old) (O.faults out.old) (E.faults err.old))))
+        (devices (F.files store.new) (F.asked store.new) (F.faults store.new)
+        (outside (I.left input.new) (O.given out.new) (E.given err.new) steps.new
+        (faults (I.faults input.new) (O.faults out.new) (E.faults err.new)))) result }
 {
     match parse(alloc, words) {
         Err(LineFault::Usage(bad)) => Outcome::of(Answer::Usage(bad)),
@@ -119,12 +117,12 @@ fn run_named<F: Store, I: Source, O: Sink, E: Sink, L: Ledger>(
 ) -> Outcome
     requires { IsWithin (Line.Run line.now) }
     ensures { (words : List (List ℕ)) → line_of words ≡ Ok (Line.Run line.now) → IsAnswerTo words
-        (devices (F.files store.old) (F.asked store.old)
-        (outside (I.left input.old) (O.given out.old) (E.given err.old) steps.old)
-        (F.faults store.old) (I.faults input.old) (O.faults out.old) (E.faults err.old))
-        (devices (F.files store.new) (F.asked store.new)
-        (outside (I.left input.new) (O.given out.new) (E.given err.new) steps.new)
-        (F.faults store.new) (I.faults input.new) (O.faults out.new) (E.faults err.new)) result }
+        (devices (F.files store.old) (F.asked store.old) (F.faults store.old)
+        (outside (I.left input.old) (O.given out.old) (E.given err.old) steps.old
+        (faults (I.faults input.old) (O.faults out.old) (E.faults err.old))))
+        (devices (F.files store.new) (F.asked store.new) (F.faults store.new)
+        (outside (I.left input.new) (O.given out.new) (E.given err.new) steps.new
+        (faults (I.faults input.new) (O.faults out.new) (E.faults err.new)))) result }
 {
     let mut file = Vec::new(alloc);
     match store.read(line.image.as_str(), &mut file, FILE_LIMIT) {
@@ -148,16 +146,22 @@ fn run_file<I: Source, O: Sink, E: Sink, L: Ledger>(
     requires line { IsWithin (Line.Run line.now) }
     requires file { length file.now ≤ file_limit }
     ensures means { result.answer ≢ Answer.Memory → device_of_answer result.answer ≡ None
-        → Means (outside (I.left input.old) (O.given out.old) (E.given err.old) steps.old)
-        (outside (I.left input.new) (O.given out.new) (E.given err.new) steps.new)
+        → Means (outside (I.left input.old) (O.given out.old) (E.given err.old) steps.old
+        (faults (I.faults input.old) (O.faults out.old) (E.faults err.old)))
+        (outside (I.left input.new) (O.given out.new) (E.given err.new) steps.new
+        (faults (I.faults input.new) (O.faults out.new) (E.faults err.new)))
         result line.now file.now }
     ensures stopped { (device : Device) → device_of_answer result.answer ≡ Some device
-        → IsStopped (outside (I.left input.old) (O.given out.old) (E.given err.old) steps.old)
-        (outside (I.left input.new) (O.given out.new) (E.given err.new) steps.new)
+        → IsStopped (outside (I.left input.old) (O.given out.old) (E.given err.old) steps.old
+        (faults (I.faults input.old) (O.faults out.old) (E.faults err.old)))
+        (outside (I.left input.new) (O.given out.new) (E.given err.new) steps.new
+        (faults (I.faults input.new) (O.faults out.new) (E.faults err.new)))
         device line.now file.now }
     ensures refused { IsRefusal result.answer
         → outside (I.left input.new) (O.given out.new) (E.given err.new) steps.new
-        ≡ outside (I.left input.old) (O.given out.old) (E.given err.old) steps.old }
+        (faults (I.faults input.new) (O.faults out.new) (E.faults err.new))
+        ≡ outside (I.left input.old) (O.given out.old) (E.given err.old) steps.old
+        (faults (I.faults input.old) (O.faults out.old) (E.faults err.old)) }
     ensures counts { IsSome result.counts ↔ (IsTrue line.now.report × (kind_of result.answer ≡ Finished)) }
     ensures faults { BlamesOnly (device_of_answer result.answer)
         (faults (I.faults input.old) (O.faults out.old) (E.faults err.old))
