@@ -10,6 +10,7 @@ use Rattle.asc_run.specs.declared.walk.Settings.{Settings}
 use Rattle.asc_run.specs.declared.walk.Ended.TheVariants.{Limit}
 use Rattle.asc_run.specs.Execution.{Run, exec, Progress, progress, first_position, device_of, StandsAtFailure}
 use Rattle.asc_run.specs.Visits.{Course, Visit, is_mark}
+use Rattle.asc_run.specs.Seen.{SeesAll}
 use Rattle.asc_run.specs.Helped.{Aid, Helped, HasVisits}
 
 -- A walk: where its program stands, its settings, the steps done or jumped over so far, what was asked for and given,
@@ -119,6 +120,8 @@ pub record GoesFirst (was now : Walk) (old new : Outside) (first last : Aid) (en
   -- leave on that run
   pub goes : GoesHelped was.settings.limit (is_mark was.settings.pc) (world_of was old) (world_of now new) first last
       now.count now.tally.given ended
+  -- where it is told that there was no visit yet, and memory was not wanting, each visit was guessed
+  pub seen : SeesAll now.tally.asked first.plan last.plan
   -- the settings stay
   pub settings : now.settings ≡ was.settings
   -- the answer is kept for a further call

@@ -1,5 +1,6 @@
 ghost use Rattle.std.specs.Prelude.{◌≡◌, ◌<◌, ◌≤◌, ◌^◌};
 ghost use Rattle.asc_run.specs.Helped.{aid, Plans, VisitsMachine};
+ghost use Rattle.asc_run.specs.Seen.{Sees};
 
 use asc_shape::State;
 use asc_traj::Finder;
@@ -15,6 +16,7 @@ pub trait Helper: Finder {
         ensures tally { Self.tally self.new ≡ Self.tally self.old }
         ensures replies { Self.replies self.new ≡ Self.replies self.old }
         ensures plan { Plans 1 (Self.plan self.old) (Self.plan self.new) }
+        ensures seen { Sees number (Self.plan self.old) (Self.plan self.new) }
         ensures machine { VisitsMachine number state.now
             (aid (Self.tally self.old) (Self.replies self.old) (Self.plan self.old) (Self.machine self.old))
             (aid (Self.tally self.new) (Self.replies self.new) (Self.plan self.new) (Self.machine self.new)) };

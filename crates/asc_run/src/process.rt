@@ -1,4 +1,4 @@
-ghost use Rattle.std.specs.Prelude.{◌≡◌, ◌≢◌, ◌≤◌, ◌<◌, ◌+◌, ◌-◌, ◌^◌, ℕ, Bool, length, [], Some, None, IsNone, false};
+ghost use Rattle.std.specs.Prelude.{◌≡◌, ◌≢◌, ◌≤◌, ◌<◌, ◌+◌, ◌-◌, ◌^◌, ℕ, Bool, length, [], Some, None, IsNone, true, false};
 
 use crate::helper::Helper;
 use crate::walk::Ended;
@@ -33,6 +33,7 @@ impl Process {
     ghost use Rattle.asc_run.specs.Turn.{Turns, TurnFails, device_of_turn};
     ghost use Rattle.asc_run.specs.Visits.{Course, Passes, is_at, with_landing};
     ghost use Rattle.asc_run.specs.Helped.{aid, HasRoom, Helped, Lands};
+    ghost use Rattle.asc_run.specs.Seen.{Sees, SeesAll};
     ghost use Rattle.asc_run.specs.Way.{ComesUnmarked};
     ghost use Rattle.asc_run.specs.Walk.{tally, GoesHelped, IsRaisedBy};
 
@@ -64,6 +65,7 @@ impl Process {
             self.new.count self.new.skipped result }
         ensures helper { IsRaisedBy (tally self.new.asked self.new.skipped self.new.hits)
             (H.tally helper.old) (H.tally helper.new) }
+        ensures seen { SeesAll self.new.asked (H.plan helper.old) (H.plan helper.new) }
         ensures unset { IsNone pc → helper.new ≡ helper.old }
         ensures limit { self.new.count ≤ limit }
         ensures skipped { self.new.skipped ≤ self.new.count }
@@ -106,6 +108,8 @@ impl Process {
         ensures helped { Helped (with_landing (is_at pc self.old.state) self.old.count result [])
             (aid (H.tally helper.old) (H.replies helper.old) (H.plan helper.old) (H.machine helper.old))
             (aid (H.tally helper.new) (H.replies helper.new) (H.plan helper.new) (H.machine helper.new)) }
+        ensures seen { is_at pc self.old.state ≡ true
+            → Sees (self.old.asked + 1) (H.plan helper.old) (H.plan helper.new) }
         ensures machine { Lands (is_at pc self.old.state) self.old.asked self.old.state left result
             (aid (H.tally helper.old) (H.replies helper.old) (H.plan helper.old) (H.machine helper.old))
             (aid (H.tally helper.new) (H.replies helper.new) (H.plan helper.new) (H.machine helper.new)) }

@@ -3,6 +3,7 @@ use Rattle.std.proofs.Common.{Some, None, refl, ap, ◌∙◌, arith}
 use Rattle.asc_run.specs.Visits.{is_at}
 use Rattle.asc_run.proofs.Landings.{asked-more, given-more, hits-more, landing-small}
 use Rattle.asc_run.proofs.Walking.{walk-first, walk-jump, walk-step, walk-plain, walk-still, walk-turn, walk-end, walk-limit, room-now, Plans-more}
+use Rattle.asc_run.proofs.Seeings.{SeesAll-none, SeesAll-more}
 use Rattle.asc_run.proofs.process.Process.run.Goals as goal
 
 pub loop-self-init : goal.loop-self-init
@@ -19,6 +20,7 @@ loop-self-init g c =
       asked = omega (arith, asked);
       hits = omega (arith, hits);
       plans = record { made = omega arith; full = omega arith; few = omega arith; refused = omega arith };
+      seen = rw asked (SeesAll-none _);
       visits = omega (arith, asked);
       skips = omega (arith, given);
       hit = omega (arith, hits);
@@ -58,6 +60,7 @@ loop-self-preserved-in-Some g c =
       asked = (let x = v.asked in omega (arith, x, asked, e.number));
       hits = (let x = v.hits in omega (arith, x, hits, same_hits));
       plans = Plans-more b c.loop-self.self.count (Some c.in-Some.n) c.loop-self.self.asked _ _ _ _ e.helped e.number v.plans;
+      seen = SeesAll-more b c.loop-self.self.count (Some c.in-Some.n) c.loop-self.self.asked _ _ _ _ _ _ e.machine e.seen e.helped e.number v.plans v.seen;
       visits = (let x = v.visits in omega (arith, x, e.number, small, least, count));
       skips = (let x = v.skips in omega (arith, x, skipped, count));
       hit = (let x = v.hit in omega (arith, x, same_hits, count, least));
@@ -71,6 +74,13 @@ returns-in-Some-stop-clause-run g c = λ mark start way.
     let grows = v.grows in let within = v.within in let not_limit = c.if-self-limit.false in let count = ap (λ p. p.count) e.kept in let landed = c.if-self-landed.true in
     let mid = walk-still c.args.limit mark c.args.pc c.args.self.now.count start _ _ _ _ _ _ _ _ _ _ _ _ _ _ _ _ _ _ (ap (λ p. p.calls) s.kept) (ap (λ p. p.skipped) s.kept) (ap (λ p. p.asked) s.kept) s.counter c.if-self-landed.true s.goes (walk-step c.args.limit mark c.args.pc c.args.self.now.count start _ _ _ _ _ _ _ _ _ _ _ _ _ _ _ _ _ _ v.grows (ap (λ p. p.calls) e.kept) (ap (λ p. p.count) e.kept) (ap (λ p. p.skipped) e.kept) e.jump (v.walk mark start way) e.number e.helped e.machine) in
     rw (ap (λ x. x.given) t.tally) (walk-end c.args.limit mark c.args.pc c.args.self.now.count start _ _ _ _ _ _ _ _ c.in-Some-stop.ended (omega (arith, grows, count, landed)) mid (omega (arith, within, not_limit, count, landed)) t.turn t.fails t.count)
+
+pub returns-in-Some-stop-clause-seen : goal.returns-in-Some-stop-clause-seen
+returns-in-Some-stop-clause-seen g c =
+    let v = c.loop-self.invariant in let e = c.in_default.ensures in let s = c.go_on-stopped.ensures in let t = c.in-Some-stop.ensures in
+    let same_asked = ap (λ x. x.asked) t.tally ∙ ap (λ p. p.asked) s.kept in
+    let b = is_at c.args.pc c.loop-self.self.state in
+    SeesAll-more b c.loop-self.self.count None c.loop-self.self.asked _ _ _ _ _ _ e.machine e.seen e.helped (same_asked ∙ e.number) v.plans v.seen
 
 pub loop-self-preserved-in_default-stop : goal.loop-self-preserved-in_default-stop
 loop-self-preserved-in_default-stop g c =
@@ -96,6 +106,7 @@ loop-self-preserved-in_default-stop g c =
       asked = (let x = v.asked in omega (arith, x, asked, same_asked, e.number));
       hits = (let x = v.hits in omega (arith, x, hits, same_hits));
       plans = Plans-more b c.loop-self.self.count None c.loop-self.self.asked _ _ _ _ e.helped (same_asked ∙ e.number) v.plans;
+      seen = SeesAll-more b c.loop-self.self.count None c.loop-self.self.asked _ _ _ _ _ _ e.machine e.seen e.helped (same_asked ∙ e.number) v.plans v.seen;
       visits = (let x = v.visits in omega (arith, x, same_asked, e.number, small, one, count, landed));
       skips = (let x = v.skips in omega (arith, x, same_given, one, count, landed));
       hit = (let x = v.hit in omega (arith, x, same_hits, one, count, landed));
@@ -125,6 +136,7 @@ loop-self-preserved g c =
       asked = (let x = v.asked in omega (arith, x, asked, same_asked, e.number));
       hits = (let x = v.hits in omega (arith, x, hits, same_hits));
       plans = Plans-more b c.loop-self.self.count None c.loop-self.self.asked _ _ _ _ e.helped (same_asked ∙ e.number) v.plans;
+      seen = SeesAll-more b c.loop-self.self.count None c.loop-self.self.asked _ _ _ _ _ _ e.machine e.seen e.helped (same_asked ∙ e.number) v.plans v.seen;
       visits = (let x = v.visits in omega (arith, x, same_asked, e.number, small, count, more, moved));
       skips = (let x = v.skips in omega (arith, x, same_given, count, more));
       hit = (let x = v.hit in omega (arith, x, same_hits, count, more));

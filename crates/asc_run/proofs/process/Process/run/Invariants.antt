@@ -3,6 +3,7 @@ use Rattle.std.proofs.Common.{◌≡◌, ◌+◌, ◌-◌, ◌≤◌, ℕ, Bool,
 use Rattle.asc_calls.specs.World.{World, world, faults}
 use Rattle.asc_run.specs.Visits.{Course}
 use Rattle.asc_run.specs.Helped.{aid, Plans}
+use Rattle.asc_run.specs.Seen.{SeesAll}
 use Rattle.asc_run.specs.Way.{ComesUnmarked}
 use Rattle.asc_run.proofs.Walking.{WalksOn}
 use Rattle.asc_run.proofs.process.Process.run.Given as goal
@@ -24,6 +25,7 @@ invariant-loop-self g l = record {
   asked : (g.H.Finder.tally l.helper).asked ≡ (g.H.Finder.tally l.fn.helper).asked + l.self.asked;
   hits : (g.H.Finder.tally l.helper).hits ≡ (g.H.Finder.tally l.fn.helper).hits + l.self.hits;
   plans : Plans l.self.asked (g.H.Finder.plan l.fn.helper) (g.H.Finder.plan l.helper);
+  seen : SeesAll l.self.asked (g.H.Finder.plan l.fn.helper) (g.H.Finder.plan l.helper);
   visits : l.self.asked ≤ l.self.count;
   skips : l.self.skipped ≤ l.self.count;
   hit : l.self.hits ≤ l.self.count;

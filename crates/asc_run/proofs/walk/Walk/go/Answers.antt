@@ -30,6 +30,7 @@ returns-clause-first g c = λ fresh.
       goes = r.ensures.run (is_mark pc) (world c.self.inside.process.state c.self.inside.process.calls (g.I.Source.left c.args.input.now) (g.O.Sink.given c.args.out.now) (g.E.Sink.given c.args.err.now) c.args.steps.now
           (faults (g.I.Source.faults c.args.input.now) (g.O.Sink.faults c.args.out.now) (g.E.Sink.faults c.args.err.now)))
           (comes-first pc _ _ begun.going begun.brk begun.none);
+      seen = r.ensures.seen;
       settings = refl;
       kept = refl;
     })

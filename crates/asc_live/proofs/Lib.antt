@@ -1,0 +1,4 @@
+pub mod Lists
+pub mod Pushing
+pub mod Tasks
+pub mod Seeing

@@ -1,0 +1,65 @@
+-- The jobs that are due at a visit, and what becomes of them.
+use Rattle.std.specs.Prelude.{◌≡◌, ◌⊎◌, ℕ, zero, suc, ◌+◌, ◌-◌, ◌<◌, ◌≤◌, List, [], ◌∷◌, ◌++◌, length, map}
+use Rattle.std.specs.Arc.{arc_value}
+use Rattle.std.specs.List.{flat_map, range_with_len}
+use Rattle.asc_model.specs.State.{State}
+use Rattle.asc_guess.specs.declared.kind.Kind.{Kind}
+use Rattle.asc_outside.specs.Outside.{one_more}
+use Rattle.asc_jobs.specs.declared.job.Job.{Job}
+use Rattle.asc_jobs.specs.Jobs.{Giver}
+use Rattle.asc_jobs.specs.JobRule.{CountUp}
+use Rattle.asc_traj.specs.declared.guessing.Guessing.{Guessing}
+use Rattle.asc_run.specs.Serial.{Task, kinds_of}
+
+-- a job that is due: from the states of the last visit and of the one before, a later visit is to be guessed
+pub record Due : Type 0 where
+  pub prev : State
+  pub last : State
+  -- how many visits past the last one it is
+  pub ahead : ℕ
+  pub kind : Kind
+
+-- what a job in a queue asks for
+abbrev pub due_of : Job → Due
+due_of job = record { prev = arc_value job.prev; last = arc_value job.last; ahead = job.ahead; kind = job.kind }
+
+-- the jobs of these guesses
+abbrev pub jobs_of : (prev last : State) → List Task → List Due
+jobs_of prev last tasks = map (λ (task : Task). record { prev = prev; last = last; ahead = task.1; kind = task.0 }) tasks
+
+-- the guesses of n targets from one on, at a visit of this number
+abbrev pub tasks_for : Guessing → (number start n : ℕ) → List Task
+tasks_for g number start n =
+    flat_map (λ target. map (λ kind. (kind, target - number)) (kinds_of g)) (range_with_len start n)
+
+-- some elements of a list, in its order
+abbrev pub IsSublist : {A : Type 0} → (some all : List A) → Type 0
+IsSublist some [] = some ≡ []
+IsSublist {A} some (x ∷ xs) = IsSublist some xs ⊎ ((rest : List A) × (some ≡ x ∷ rest) × IsSublist rest xs)
+
+-- a count that rose n times
+abbrev pub raised : (count n : ℕ) → ℕ
+raised count zero = count
+raised count (suc n) = one_more (raised count n)
+
+-- what pushes jobs, and what it counted
+pub record Pusher : Type 0 where
+  pub giver : Giver
+  -- how many jobs found no room
+  pub full : ℕ
+  -- how often memory was wanting
+  pub refused : ℕ
+
+-- Of the jobs that are due some were pushed, in order. Of the others some found no room, since the queue had been filled
+-- up, and for the rest memory was wanting.
+pub record Pushes (due : List Due) (old new : Pusher) : Type 0 where
+  pub jobs : List Job
+  pub lacked : ℕ
+  pub left_out : ℕ
+  pub some : IsSublist (map due_of jobs) due
+  pub all : length due ≡ length jobs + lacked + left_out
+  pub giver : new.giver ≡ record old.giver { pushed = old.giver.pushed ++ jobs }
+  pub tickets : CountUp (length old.giver.pushed) jobs
+  pub full : new.full ≡ old.full + lacked
+  pub room : 0 < lacked → old.giver.capacity ≤ length new.giver.pushed
+  pub refused : new.refused ≡ raised old.refused left_out

@@ -1,0 +1,124 @@
+-- A helper that has others do what it guesses.
+use Rattle.std.specs.Prelude.{◌≡◌, ◌⊎◌, ℕ, ◌+◌, ◌^◌, ◌≤◌, ◌<◌, nat_lt, ◌==◌, ◌&&◌, List, [], length, Option, Some, None, if◌then◌else◌}
+use Rattle.std.specs.Global.{Global}
+use Rattle.std.specs.declared.sync.Arc.{Arc}
+use Rattle.asc_model.specs.State.{State}
+use Rattle.asc_outside.specs.Outside.{one_more}
+use Rattle.asc_jobs.specs.Jobs.{Giver}
+use Rattle.asc_traj.specs.declared.guessing.Guessing.{Guessing}
+use Rattle.asc_traj.specs.Finder.{Plan, Seen}
+use Rattle.asc_run.specs.Serial.{tasks_of}
+use Rattle.asc_run.specs.Seen.{seen, guesses_until}
+use Rattle.asc_live.specs.Due.{Due, Pusher, Pushes, jobs_of}
+
+-- the helper of a walk that has workers beside it
+pub record Live (F : Type 0) : Type 0 where
+  pub finder : F
+  pub guessing : Guessing
+  -- the states of the last visit and of the one before, where they are kept
+  pub prev : Option State
+  pub last : Option State
+  -- the last visit that was guessed
+  pub issued : ℕ
+  pub pusher : Pusher
+  -- up to which visit all were guessed, where memory never was wanting
+  pub seen : Option ℕ
+
+-- the state of a copy, where there is one
+abbrev pub state_in : Option (Arc State Global) → Option State
+state_in None = None
+state_in (Some copy) = Some copy.value
+
+-- what is seen of its fields
+abbrev pub live : {F : Type 0} → F → Guessing → (prev last : Option (Arc State Global)) → (issued : ℕ) → Pusher
+    → (seen : Option ℕ) → Live F
+live finder guessing prev last issued pusher seen = record {
+  finder = finder;
+  guessing = guessing;
+  prev = state_in prev;
+  last = state_in last;
+  issued = issued;
+  pusher = pusher;
+  seen = seen;
+}
+
+-- one that was not visited yet, and whose queue never had a job
+abbrev pub new_live : {F : Type 0} → F → Giver → Guessing → Live F
+new_live finder giver guessing = record {
+  finder = finder;
+  guessing = guessing;
+  prev = None;
+  last = None;
+  issued = 0;
+  pusher = record { giver = giver; full = 0; refused = 0 };
+  seen = Some 0;
+}
+
+-- what was made for it, as a finder tells it: a guess is made where its job is pushed
+abbrev pub plan_of : {F : Type 0} → Live F → Plan
+plan_of l = record {
+  made = length l.pusher.giver.pushed;
+  refused = l.pusher.refused;
+  full = l.pusher.full;
+  seen = elim l.seen [ Some number ↦ Some (seen number l.guessing) | None ↦ None ];
+}
+
+-- The jobs that are due at a visit, by the states of the visit before and of this one. There are none where the former is
+-- not kept, and none once 2 ^ 60 were pushed.
+abbrev pub due_by : {F : Type 0} → (number : ℕ) → (prev last : Option State) → Live F → List Due
+due_by number (Some prev) (Some last) l = if nat_lt (length l.pusher.giver.pushed) (2 ^ 60)
+    then jobs_of prev last (tasks_of l.guessing l.issued number) else []
+due_by number (Some prev) None l = []
+due_by number None last l = []
+
+-- the last visit that is guessed once those jobs were pushed
+abbrev pub issued_by : {F : Type 0} → (number : ℕ) → (prev last : Option State) → Live F → ℕ
+issued_by number (Some prev) (Some last) l = number + l.guessing.ahead
+issued_by number (Some prev) None l = l.issued
+issued_by number None last l = l.issued
+
+-- up to which visit all are guessed after a visit, where so often memory was wanting
+abbrev pub seen_after : (number refused : ℕ) → Option ℕ → Option ℕ
+seen_after number refused (Some before) = if (number == before + 1) && (refused == 0) then Some number else None
+seen_after number refused None = None
+
+-- at a visit its state was kept, and the jobs that are due were pushed as far as could be
+pub record Keeps {F : Type 0} (number : ℕ) (now : State) (old new : Live F) : Type 0 where
+  pub pushes : Pushes (due_by number old.last (Some now) old) old.pusher new.pusher
+  pub rest : new ≡ record old {
+    prev = old.last;
+    last = Some now;
+    issued = issued_by number old.last (Some now) old;
+    pusher = new.pusher;
+    seen = seen_after number new.pusher.refused old.seen;
+  }
+
+-- memory was wanting for a visit's state: both states are given up, and no job is pushed
+abbrev pub refused_visit : {F : Type 0} → Live F → Live F
+refused_visit l = record l {
+  prev = None;
+  last = None;
+  pusher = record l.pusher { refused = one_more l.pusher.refused };
+  seen = None;
+}
+
+-- what a visit does
+abbrev pub Visits : {F : Type 0} → (number : ℕ) → State → (old new : Live F) → Type 0
+Visits number now old new = Keeps number now old new ⊎ (new ≡ refused_visit old)
+
+-- what holds where all visits up to one were guessed
+pub record HasSeen {F : Type 0} (number : ℕ) (l : Live F) : Type 0 where
+  pub most : number ≤ 2 ^ 40
+  pub refused : l.pusher.refused ≡ 0
+  pub guesses : length l.pusher.giver.pushed + l.pusher.full ≡ guesses_until l.guessing number
+  pub first : number ≡ 0 → l.last ≡ None
+  pub later : 0 < number → (last : State) × (l.last ≡ Some last)
+  pub none_issued : number < 2 → l.issued ≡ 0
+  pub issued : 2 ≤ number → l.issued ≡ number + l.guessing.ahead
+
+-- what holds of every such helper
+pub record IsLive {F : Type 0} (l : Live F) : Type 0 where
+  pub least : 1 ≤ l.guessing.ahead
+  pub most : l.guessing.ahead ≤ 64
+  pub issued : l.issued ≤ 2 ^ 41
+  pub seen : (number : ℕ) → l.seen ≡ Some number → HasSeen number l

@@ -1,0 +1,251 @@
+ghost use Rattle.std.specs.Prelude.{◌≡◌, ◌+◌, ◌<◌, ◌≤◌, ◌^◌, [], ◌∷◌, length, true, false, None, Some};
+ghost use Rattle.asc_traj.specs.Finder.{Tells, tally_after, IsJump};
+ghost use Rattle.asc_traj.specs.Serial.{Serial, serial_reply};
+ghost use Rattle.asc_run.specs.Helped.{aid, Plans, VisitsMachine};
+ghost use Rattle.asc_run.specs.Seen.{Sees};
+ghost use Rattle.asc_live.specs.Live.{new_live, plan_of, refused_visit, due_by, issued_by, seen_after as seen_by, Visits};
+ghost use Rattle.asc_live.specs.Due.{Pushes};
+
+use crate::pusher::Pusher;
+use asc_jobs::Giver;
+use asc_outside::{Gate, Point};
+use asc_run::Helper;
+use asc_shape::{Snapshot, State};
+use asc_traj::{Finder, Guessing};
+use crossbeam_utils::sync::Unparker;
+use std::alloc::Global;
+use std::marker::Model;
+use std::sync::{Arc, Wait};
+
+/// The helper of a walk that has workers beside it. At each visit it pushes jobs for them: guesses of later visits, to
+/// be traced. It finds jumps by another finder.
+///
+/// Want of memory is counted, and changes no jump's being one.
+#[derive(Drop)]
+pub struct Live<'a, F, G, R> {
+    alloc: Global,
+    gate: &'a G,
+    finder: F,
+    pusher: Pusher<'a, R>,
+    workers: Vec<Unparker>,
+    guessing: Guessing,
+    prev: Option<Arc<Snapshot>>,
+    last: Option<Arc<Snapshot>>,
+    // The last visit that was guessed.
+    issued: u64,
+    // Up to which visit all were guessed, where memory never was wanting.
+    seen: Option<u64>,
+}
+
+impl<'a, F, G, R> Model for Live<'a, F, G, R> {
+    ghost use Rattle.std.specs.Prelude.{Some, None};
+    ghost use Rattle.std.specs.Arc.{arc_value};
+    ghost use Rattle.asc_live.specs.Live as model;
+
+    ghost Value = { model.Live F };
+
+    ghost view = { λ s. model.live s.finder s.guessing s.prev s.last s.issued s.pusher s.seen };
+
+    ghost invariant = { λ s. model.IsLive (model.live s.finder s.guessing s.prev s.last s.issued s.pusher s.seen) };
+}
+
+impl<'a, F, G, R> Live<'a, F, G, R> {
+    /// A helper that was not visited yet. Its jobs are pushed by `giver`, and `workers` wake those that run them.
+    pub fn new(
+        alloc: Global,
+        rt: &'a R,
+        gate: &'a G,
+        finder: F,
+        giver: Giver,
+        workers: Vec<Unparker>,
+        guessing: Guessing,
+    ) -> Live<'a, F, G, R>
+        requires giver { giver.pushed ≡ [] }
+        requires least { 1 ≤ guessing.ahead }
+        requires most { guessing.ahead ≤ 64 }
+        ensures { result ≡ new_live finder giver guessing }
+    {
+        Live {
+            alloc,
+            gate,
+            finder,
+            pusher: Pusher::new(rt, giver),
+            workers,
+            guessing,
+            prev: None,
+            last: None,
+            issued: 0,
+            seen: Some(0),
+        }
+    }
+
+    /// The finder that it asks.
+    pub fn finder(&self) -> &F
+        ensures { result.now ≡ self.now.finder }
+    {
+        &self.finder
+    }
+
+    /// The finder that it asks, and the giver of its queue.
+    pub fn into_parts(self) -> (F, Giver)
+        ensures finder { result.0 ≡ self.entry.finder }
+        ensures giver { result.1 ≡ self.entry.pusher.giver }
+    {
+        let Live {
+            alloc: _,
+            gate: _,
+            finder,
+            pusher,
+            workers: _workers,
+            guessing: _,
+            prev: _prev,
+            last: _last,
+            issued: _,
+            seen: _,
+        } = self;
+        (finder, pusher.into_giver())
+    }
+
+    /// Wakes all workers.
+    pub fn wake(&self) {
+        for worker in &self.workers {
+            worker.unpark();
+        }
+    }
+
+    // Keeps the state of a visit, and lets go of that before the last. Where memory is wanting it answers false, and
+    // both are given up.
+    fn keep(&mut self, state: &State) -> bool
+        requires { self.old.seen ≡ None }
+        ensures kept { result ≡ true → self.new
+            ≡ record self.old { prev = self.old.last; last = Some state.now } }
+        ensures refused { result ≡ false → self.new ≡ refused_visit self.old }
+    {
+        self.prev = self.last.take();
+        match Snapshot::of(self.alloc, state) {
+            Ok(now) => {
+                self.last = Some(now);
+                true
+            }
+            Err(_) => {
+                self.prev = None;
+                self.pusher.refuse();
+                false
+            }
+        }
+    }
+}
+
+impl<'a, F, G, R: Wait> Live<'a, F, G, R> {
+    // Pushes the jobs of a visit, where two states are kept, and wakes the workers where any were pushed.
+    fn push_due(&mut self, number: u64)
+        requires seen { self.old.seen ≡ None }
+        requires number { number ≤ 2 ^ 40 }
+        requires full { self.old.pusher.full < 2 ^ 62 }
+        ensures pushes { Pushes (due_by number self.old.prev self.old.last self.old) self.old.pusher self.new.pusher }
+        ensures rest { self.new ≡ record self.old {
+          issued = issued_by number self.old.prev self.old.last self.old;
+          pusher = self.new.pusher;
+        } }
+    {
+        let Some(prev) = &self.prev else {
+            return;
+        };
+        let Some(last) = &self.last else {
+            return;
+        };
+        let before = self.pusher.pushed();
+        self.pusher
+            .push_visit(prev, last, &self.guessing, self.issued, number);
+        self.issued = number + u64::from(self.guessing.ahead);
+        if before < self.pusher.pushed() {
+            self.wake();
+        }
+    }
+}
+
+/// Up to which visit all were guessed after one more, where so often memory was wanting.
+fn seen_after(before: Option<u64>, number: u64, refused: u64) -> Option<u64>
+    requires { number ≤ 2 ^ 40 }
+    ensures { result ≡ seen_by number refused before }
+{
+    match before {
+        Some(before) if before < number && number - before == 1 && refused == 0 => Some(number),
+        _ => None,
+    }
+}
+
+/// It passes all on to its finder.
+impl<'a, F: Finder, G, R> Finder for Live<'a, F, G, R> {
+    ghost tally = { λ l. F.tally l.finder };
+
+    ghost replies = { λ l. F.replies l.finder };
+
+    ghost plan = { plan_of };
+
+    ghost machine = { λ _. None };
+
+    fn jump(&mut self, state: &mut State, left: u64) -> Option<u64>
+        requires left { left ≤ 2 ^ 40 }
+        requires asked { (F.tally self.old.finder).asked < 2 ^ 62 }
+        requires given { (F.tally self.old.finder).given < 2 ^ 62 }
+        ensures rest { self.new ≡ record self.old { finder = self.new.finder } }
+        ensures jump { IsJump result left state.old state.new }
+        ensures tally { F.tally self.new.finder ≡ tally_after (F.tally self.old.finder) result }
+        ensures replies { Tells (result ∷ []) (F.replies self.old.finder) (F.replies self.new.finder) }
+        ensures plan { plan_of self.new ≡ plan_of self.old }
+        ensures machine { Unit {0} }
+        ensures longest { (m : Serial) → None ≡ Some m → result ≡ serial_reply m state.old left }
+    {
+        self.finder.jump(state, left)
+    }
+
+    fn asked(&self) -> u64 {
+        self.finder.asked()
+    }
+
+    fn given(&self) -> u64 {
+        self.finder.given()
+    }
+
+    fn hits(&self) -> u64 {
+        self.finder.hits()
+    }
+}
+
+impl<'a, F: Finder, G: Gate, R: Wait> Helper for Live<'a, F, G, R> {
+    /// Pushes the jobs that are due, and wakes the workers where any were pushed. It costs a copy of the state, and
+    /// two owners more of a copy for each job. At its end the gate is passed at `Visit`.
+    fn visit(&mut self, state: &State, number: u64)
+        requires number { number ≤ 2 ^ 40 }
+        requires made { (plan_of self.old).made < 2 ^ 62 }
+        requires full { (plan_of self.old).full < 2 ^ 62 }
+        ensures visits { Visits number state.now self.old self.new }
+        ensures tally { F.tally self.new.finder ≡ F.tally self.old.finder }
+        ensures replies { F.replies self.new.finder ≡ F.replies self.old.finder }
+        ensures plan { Plans 1 (plan_of self.old) (plan_of self.new) }
+        ensures seen { Sees number (plan_of self.old) (plan_of self.new) }
+        ensures machine { VisitsMachine number state.now
+            (aid (F.tally self.old.finder) (F.replies self.old.finder) (plan_of self.old) None)
+            (aid (F.tally self.new.finder) (F.replies self.new.finder) (plan_of self.new) None) }
+    {
+        let before = self.seen.take();
+        if self.keep(state) {
+            self.push_due(number);
+        }
+        self.seen = seen_after(before, number, self.pusher.refused());
+        self.gate.pass(Point::Visit, number);
+    }
+
+    fn made(&self) -> u64 {
+        self.pusher.pushed()
+    }
+
+    fn refused(&self) -> u64 {
+        self.pusher.refused()
+    }
+
+    fn full(&self) -> u64 {
+        self.pusher.full()
+    }
+}

@@ -1,0 +1,195 @@
+ghost use Rattle.std.specs.Prelude.{◌≡◌, ◌+◌, ◌-◌, ◌<◌, ◌≤◌, ◌^◌, [], ◌∷◌, length, map, nat_lt, if◌then◌else◌, ℕ};
+ghost use Rattle.std.specs.Arc.{arc_value};
+ghost use Rattle.asc_guess.specs.declared.kind.Kind.{Kind as kind_of};
+ghost use Rattle.asc_outside.specs.Outside.{one_more};
+ghost use Rattle.asc_live.specs.Due.{Pushes, jobs_of, tasks_for};
+ghost use Rattle.asc_run.specs.Serial.{kinds_of, tasks_of};
+
+use asc_guess::{Kind, targets};
+use asc_jobs::{Full, Giver};
+use asc_shape::Snapshot;
+use asc_traj::Guessing;
+use std::marker::Model;
+use std::sync::{Arc, Wait};
+
+/// As many jobs are pushed at most, but for those of one visit. No run reaches it.
+const MOST_JOBS: u64 = 1 << 60;
+
+/// Pushes jobs, and counts those that it could not push.
+#[derive(Drop)]
+pub(crate) struct Pusher<'a, R> {
+    rt: &'a R,
+    giver: Giver,
+    full: u64,
+    refused: u64,
+}
+
+impl<'a, R> Model for Pusher<'a, R> {
+    ghost use Rattle.asc_live.specs.Due as model;
+
+    ghost Value = { model.Pusher };
+
+    ghost view = { λ s. record { giver = s.giver; full = s.full; refused = s.refused } };
+}
+
+impl<'a, R> Pusher<'a, R> {
+    /// It has pushed nothing yet.
+    pub(crate) fn new(rt: &'a R, giver: Giver) -> Pusher<'a, R>
+        ensures { result ≡ record { giver = giver; full = 0; refused = 0 } }
+    {
+        Pusher {
+            rt,
+            giver,
+            full: 0,
+            refused: 0,
+        }
+    }
+
+    /// The giver of its queue.
+    pub(crate) fn into_giver(self) -> Giver
+        ensures { result ≡ self.entry.giver }
+    {
+        let Pusher {
+            rt: _,
+            giver,
+            full: _,
+            refused: _,
+        } = self;
+        giver
+    }
+
+    /// How many jobs were pushed.
+    pub(crate) fn pushed(&self) -> u64
+        ensures { result ≡ length self.now.giver.pushed }
+    {
+        self.giver.pushed()
+    }
+
+    /// How many jobs found no room.
+    pub(crate) fn full(&self) -> u64
+        ensures { result ≡ self.now.full }
+    {
+        self.full
+    }
+
+    /// How often memory was wanting.
+    pub(crate) fn refused(&self) -> u64
+        ensures { result ≡ self.now.refused }
+    {
+        self.refused
+    }
+
+    /// Counts that memory was wanting.
+    pub(crate) fn refuse(&mut self)
+        ensures { self.new ≡ record self.old { refused = one_more self.old.refused } }
+    {
+        self.refused = self.refused.saturating_add(1);
+    }
+}
+
+impl<'a, R: Wait> Pusher<'a, R> {
+    /// Pushes the jobs of a visit, by the states of the last two: of the targets in rising order, and of each kind
+    /// that is on, `Last` before `Stride`. Nothing is pushed once `MOST_JOBS` were.
+    pub(crate) fn push_visit(
+        &mut self,
+        prev: &Arc<Snapshot>,
+        last: &Arc<Snapshot>,
+        guessing: &Guessing,
+        issued: u64,
+        number: u64,
+    )
+        requires full { self.old.full < 2 ^ 62 }
+        requires ahead { guessing.now.ahead ≤ 64 }
+        requires issued { issued ≤ 2 ^ 41 }
+        requires number { number ≤ 2 ^ 40 }
+        ensures { Pushes (if nat_lt (length self.old.giver.pushed) (2 ^ 60)
+            then jobs_of (arc_value prev.now) (arc_value last.now) (tasks_of guessing.now issued number) else [])
+            self.old self.new }
+    {
+        if self.pushed() < MOST_JOBS {
+            let due = targets(issued, number, guessing.ahead);
+            self.push_targets(prev, last, guessing, number, due.start, due.end);
+        }
+    }
+
+    // Pushes the jobs of these targets.
+    fn push_targets(
+        &mut self,
+        prev: &Arc<Snapshot>,
+        last: &Arc<Snapshot>,
+        guessing: &Guessing,
+        number: u64,
+        start: u64,
+        end: u64,
+    )
+        requires tickets { length self.old.giver.pushed < 2 ^ 60 }
+        requires full { self.old.full < 2 ^ 62 }
+        requires rises { start ≤ end }
+        requires later { start < end → number ≤ start }
+        requires few { end ≤ start + 64 }
+        requires near { start < end → end ≤ number + 65 }
+        ensures { Pushes (jobs_of (arc_value prev.now) (arc_value last.now)
+            (tasks_for guessing.now number start (end - start))) self.old self.new }
+    {
+        for target in start..end {
+            self.push_kinds(prev, last, guessing, (target - number) as u32);
+        }
+    }
+
+    // Pushes the jobs of one target.
+    fn push_kinds(
+        &mut self,
+        prev: &Arc<Snapshot>,
+        last: &Arc<Snapshot>,
+        guessing: &Guessing,
+        ahead: u32,
+    )
+        requires tickets { length self.old.giver.pushed + 1 < 2 ^ 61 }
+        requires full { self.old.full + 1 < 2 ^ 63 }
+        ensures { Pushes (jobs_of (arc_value prev.now) (arc_value last.now)
+            (map (λ (kind : kind_of). (kind, ahead)) (kinds_of guessing.now))) self.old self.new }
+    {
+        self.push_where(guessing.last, prev, last, ahead, Kind::Last);
+        self.push_where(guessing.stride, prev, last, ahead, Kind::Stride);
+    }
+
+    // Pushes a job, where its kind is on.
+    fn push_where(
+        &mut self,
+        on: bool,
+        prev: &Arc<Snapshot>,
+        last: &Arc<Snapshot>,
+        ahead: u32,
+        kind: Kind,
+    )
+        requires tickets { length self.old.giver.pushed < 2 ^ 61 }
+        requires full { self.old.full < 2 ^ 63 }
+        ensures { Pushes (jobs_of (arc_value prev.now) (arc_value last.now)
+            (if on then (kind, ahead) ∷ [] else [])) self.old self.new }
+    {
+        if on {
+            self.push(prev, last, ahead, kind);
+        }
+    }
+
+    // Pushes a job.
+    fn push(&mut self, prev: &Arc<Snapshot>, last: &Arc<Snapshot>, ahead: u32, kind: Kind)
+        requires tickets { length self.old.giver.pushed < 2 ^ 61 }
+        requires full { self.old.full < 2 ^ 63 }
+        ensures { Pushes (record {
+          prev = arc_value prev.now;
+          last = arc_value last.now;
+          ahead = ahead;
+          kind = kind;
+        } ∷ []) self.old self.new }
+    {
+        let (Ok(prev), Ok(last)) = (Arc::try_clone(prev), Arc::try_clone(last)) else {
+            self.refuse();
+            return;
+        };
+        match self.giver.push(self.rt, prev, last, ahead, kind) {
+            Ok(_) => {}
+            Err(Full) => self.full += 1,
+        }
+    }
+}

@@ -1,0 +1,103 @@
+use crate::Live;
+use asc_guess::Kind;
+use asc_jobs::Jobs;
+use asc_outside::{Gate, Point};
+use asc_run::Helper;
+use asc_shape::{Shape, State};
+use asc_traj::{Finder, Guessing, Nothing};
+use crossbeam_utils::sync::Parker;
+use std::sync::atomic::{AtomicU64, Ordering};
+use std::test::Fail;
+
+/// A gate that notes at which visit it was passed last.
+#[derive(Drop)]
+struct Noting {
+    visit: AtomicU64,
+}
+
+impl Gate for Noting {
+    fn pass(&self, point: Point, ticket: u64) {
+        if point == Point::Visit {
+            self.visit.store(ticket, Ordering::SeqCst);
+        }
+    }
+}
+
+/// It does nothing. Its call shows that a value may be handed to a thread.
+fn is_sent<T: Send>(_value: &T) {}
+
+/// A visit, the jobs taken before it, and what is counted after it: jobs pushed, and jobs that found no room.
+///
+/// The queue holds 3 jobs. Both kinds are on, and 2 visits ahead are guessed. So at visit 2 jobs are due for visits 3 and
+/// 4, and at each later visit for one visit more.
+static VISITS: [(u64, u64, u64, u64); 5] = [
+    (1, 0, 0, 0),
+    (2, 0, 3, 1),
+    (3, 0, 3, 3),
+    (4, 1, 4, 4),
+    (5, 2, 6, 4),
+];
+
+/// The jobs in the order in which they are taken: the pcs of the visit before and of the visit, how many visits ahead,
+/// and the kind. A visit's pc is 4 times its number.
+static JOBS: [(u32, u32, u32, Kind); 6] = [
+    (4, 8, 1, Kind::Last),
+    (4, 8, 1, Kind::Stride),
+    (4, 8, 2, Kind::Last),
+    (12, 16, 2, Kind::Last),
+    (16, 20, 2, Kind::Last),
+    (16, 20, 2, Kind::Stride),
+];
+
+#[test]
+fn visits(rt: HostRuntime) -> Result<(), Fail> {
+    let alloc = rt.alloc();
+    let mut state = State::new(
+        alloc,
+        Shape::new(65_536, 65_536).expect(&rt, "a good shape"),
+    )?;
+    let (giver, mut takers) = Jobs::open(alloc, 3, 1)?;
+    let mut taker = takers.pop().expect(&rt, "a taker");
+    let parker = Parker::new(alloc)?;
+    let mut workers = Vec::new(alloc);
+    workers.push(parker.unparker().clone()?)?;
+    let guessing = Guessing {
+        last: true,
+        stride: true,
+        laps: 1,
+        span: 100,
+        ahead: 2,
+    };
+    let gate = Noting {
+        visit: AtomicU64::new(0),
+    };
+    let mut live = Live::new(alloc, &rt, &gate, Nothing::new(), giver, workers, guessing);
+    is_sent(&live);
+    let mut jobs = JOBS.iter();
+    for &(number, taken, made, full) in &VISITS {
+        for _ in 0..taken {
+            let job = taker.pop(&rt).expect(&rt, "a job");
+            let found = (job.prev.pc(), job.last.pc(), job.ahead, job.kind);
+            let wanted = *jobs.next().expect(&rt, "a row");
+            assert!(rt; live.refused() > 0 || found == wanted);
+        }
+        assert!(rt; number < 9 && live.made() < 9 && live.full() < 9);
+        state.set_pc(4 * number as u32);
+        live.visit(&state, number);
+        assert_eq!(rt; gate.visit.load(Ordering::SeqCst), number);
+        let counts = (live.made(), live.full());
+        assert!(rt; live.refused() > 0 || counts == (made, full));
+    }
+    // The worker was woken.
+    if live.made() > 0 {
+        parker.park(&rt);
+    }
+    assert_eq!(rt; live.finder().asked(), 0);
+    let (_finder, _giver) = live.into_parts();
+    for &wanted in jobs {
+        let job = taker.pop(&rt).expect(&rt, "a job");
+        let found = (job.prev.pc(), job.last.pc(), job.ahead, job.kind);
+        assert_eq!(rt; found, wanted);
+    }
+    Ok(())
+}
