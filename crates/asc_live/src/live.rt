@@ -115,14 +115,15 @@ impl<'a, F, G, R> Live<'a, F, G, R> {
 
     // Keeps the state of a visit, and lets go of that before the last. Where memory is wanting it answers false, and
     // both are given up.
-    fn keep(&mut self, state: &State) -> bool
+    fn keep(&mut self, state: &mut State) -> bool
         requires { self.old.seen ≡ None }
         ensures kept { result ≡ true → self.new
-            ≡ record self.old { prev = self.old.last; last = Some state.now } }
+            ≡ record self.old { prev = self.old.last; last = Some state.old } }
+        ensures stays { state.new ≡ state.old }
         ensures refused { result ≡ false → self.new ≡ refused_visit self.old }
     {
         self.prev = self.last.take();
-        match Snapshot::of(self.alloc, state) {
+        match state.freeze(self.alloc) {
             Ok(now) => {
                 self.last = Some(now);
                 true
@@ -214,18 +215,19 @@ impl<'a, F: Finder, G, R> Finder for Live<'a, F, G, R> {
 }
 
 impl<'a, F: Finder, G: Gate, R: Wait> Helper for Live<'a, F, G, R> {
-    /// Pushes the jobs that are due, and wakes the workers where any were pushed. It costs a copy of the state, and
-    /// two owners more of a copy for each job. At its end the gate is passed at `Visit`.
-    fn visit(&mut self, state: &State, number: u64)
+    /// Pushes the jobs that are due, and wakes the workers where any were pushed. It costs a copy of what changed in the
+    /// state since the last one, and two owners more of a copy for each job. At its end the gate is passed at `Visit`.
+    fn visit(&mut self, state: &mut State, number: u64)
         requires number { number ≤ 2 ^ 40 }
         requires made { (plan_of self.old).made < 2 ^ 62 }
         requires full { (plan_of self.old).full < 2 ^ 62 }
-        ensures visits { Visits number state.now self.old self.new }
+        ensures visits { Visits number state.old self.old self.new }
+        ensures stays { state.new ≡ state.old }
         ensures tally { F.tally self.new.finder ≡ F.tally self.old.finder }
         ensures replies { F.replies self.new.finder ≡ F.replies self.old.finder }
         ensures plan { Plans 1 (plan_of self.old) (plan_of self.new) }
         ensures seen { Sees number (plan_of self.old) (plan_of self.new) }
-        ensures machine { VisitsMachine number state.now
+        ensures machine { VisitsMachine number state.old
             (aid (F.tally self.old.finder) (F.replies self.old.finder) (plan_of self.old) None)
             (aid (F.tally self.new.finder) (F.replies self.new.finder) (plan_of self.new) None) }
     {

@@ -83,7 +83,7 @@ fn visits(rt: HostRuntime) -> Result<(), Fail> {
         }
         assert!(rt; number < 9 && live.made() < 9 && live.full() < 9);
         state.set_pc(4 * number as u32);
-        live.visit(&state, number);
+        live.visit(&mut state, number);
         assert_eq!(rt; gate.visit.load(Ordering::SeqCst), number);
         let counts = (live.made(), live.full());
         assert!(rt; live.refused() > 0 || counts == (made, full));

@@ -8,8 +8,9 @@ use std::marker::Model;
 
 /// What a walk tells of the states at which it then asks for a jump.
 pub trait Helper: Finder {
-    /// Learns of the state at a visit, which is the walk's `number`th. At most 128 guesses are made of it.
-    fn visit(&mut self, state: &State, number: u64)
+    /// Learns of the state at a visit, which is the walk's `number`th. The state is lent for writing so that a copy of it
+    /// costs what changed since the last one, and stays as it is. At most 128 guesses are made of it.
+    fn visit(&mut self, state: &mut State, number: u64)
         requires number { number ≤ 2 ^ 40 }
         requires made { (Self.plan self.old).made < 2 ^ 62 }
         requires full { (Self.plan self.old).full < 2 ^ 62 }
@@ -17,7 +18,8 @@ pub trait Helper: Finder {
         ensures replies { Self.replies self.new ≡ Self.replies self.old }
         ensures plan { Plans 1 (Self.plan self.old) (Self.plan self.new) }
         ensures seen { Sees number (Self.plan self.old) (Self.plan self.new) }
-        ensures machine { VisitsMachine number state.now
+        ensures stays { state.new ≡ state.old }
+        ensures machine { VisitsMachine number state.old
             (aid (Self.tally self.old) (Self.replies self.old) (Self.plan self.old) (Self.machine self.old))
             (aid (Self.tally self.new) (Self.replies self.new) (Self.plan self.new) (Self.machine self.new)) };
 
@@ -93,7 +95,7 @@ impl<F: Finder> Finder for Bare<F> {
 }
 
 impl<F: Finder> Helper for Bare<F> {
-    fn visit(&mut self, _state: &State, _number: u64) {}
+    fn visit(&mut self, _state: &mut State, _number: u64) {}
 
     fn made(&self) -> u64 {
         0

@@ -117,7 +117,7 @@ impl Process {
         match pc {
             Some(pc) if self.state.pc() == pc => {
                 self.asked += 1;
-                helper.visit(&self.state, self.asked);
+                helper.visit(&mut self.state, self.asked);
                 helper.jump(&mut self.state, left)
             }
             _ => None,

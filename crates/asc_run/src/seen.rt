@@ -16,14 +16,15 @@ pub(crate) enum Seen {
 }
 
 impl Seen {
-    /// What was seen once one more state is.
-    pub(crate) fn and(self, alloc: Global, state: &State) -> Result<Seen, Memory>
-        requires { AreOfShape state.now.shape self }
+    /// What was seen once one more state is, which stays.
+    pub(crate) fn and(self, alloc: Global, state: &mut State) -> Result<Seen, Memory>
+        requires { AreOfShape state.old.shape self }
         ensures prev { IfOk result (λ seen. prev_of seen ≡ last_of self) }
-        ensures last { IfOk result (λ seen. last_of seen ≡ Some state.now) }
-        ensures shape { IfOk result (λ seen. AreOfShape state.now.shape seen) }
+        ensures last { IfOk result (λ seen. last_of seen ≡ Some state.old) }
+        ensures shape { IfOk result (λ seen. AreOfShape state.old.shape seen) }
+        ensures stays { state.new ≡ state.old }
     {
-        let now = Snapshot::of(alloc, state)?;
+        let now = state.freeze(alloc)?;
         Ok(match self {
             Seen::Nothing => Seen::One(now),
             Seen::One(last) => Seen::Two(Pair::of(alloc, last, now)?),

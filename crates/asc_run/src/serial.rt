@@ -104,14 +104,15 @@ impl Serial {
     }
 
     /// Plans the guesses of a visit, which is the walk's `number`th, and answers how many jobs they are. A copy of the
-    /// state is kept, which costs what the program uses. Where memory is wanting, both copies that are kept are given up.
+    /// state is kept, which costs what changed since the last one. Where memory is wanting, both copies that are kept are given up.
     /// At a state of another shape there is no job, and nothing is planned.
-    pub fn plan(&mut self, state: &State, number: u64) -> usize
+    pub fn plan(&mut self, state: &mut State, number: u64) -> usize
         requires number { number ≤ 2 ^ 40 }
         requires made { self.old.made < 2 ^ 62 }
         ensures jobs { result ≡ length self.new.jobs }
         ensures few { result ≤ MOST_JOBS }
-        ensures planned { IsPlanned number state.now self.old self.new }
+        ensures planned { IsPlanned number state.old self.old self.new }
+        ensures stays { state.new ≡ state.old }
     {
         self.jobs.clear();
         if state.shape() != self.shape {
@@ -253,7 +254,7 @@ impl Finder for Serial {
 }
 
 impl Helper for Serial {
-    fn visit(&mut self, state: &State, number: u64) {
+    fn visit(&mut self, state: &mut State, number: u64) {
         let jobs = self.plan(state, number);
         for i in 0..jobs {
             let made = self.make(i);

@@ -133,10 +133,10 @@ fn plans(rt: HostRuntime) {
     let alloc = rt.alloc();
     let shape = Shape::new(0x10000, 65_536).expect(&rt, "a shape");
     let mut serial = Serial::new(alloc, shape, two_ahead(true, true)).expect(&rt, "memory");
-    let state = State::new(alloc, shape).expect(&rt, "memory");
-    assert_eq!(rt; serial.plan(&state, 1), 0);
+    let mut state = State::new(alloc, shape).expect(&rt, "memory");
+    assert_eq!(rt; serial.plan(&mut state, 1), 0);
     assert!(rt; serial.pair().is_none());
-    assert_eq!(rt; serial.plan(&state, 2), 4);
+    assert_eq!(rt; serial.plan(&mut state, 2), 4);
     assert!(rt; serial.pair().is_some());
     // The jobs' kinds, and how far ahead they are.
     for (i, job) in [
