@@ -20,7 +20,7 @@ use Rattle.asc_words.specs.declared.answer.Answer.{Answer}
 use Rattle.asc_words.specs.declared.answer.Answer.TheVariants as answers
 use Rattle.asc_words.specs.declared.answer.Counts.{Counts}
 use Rattle.asc_words.specs.Answer.{outcome_of}
-use Rattle.asc_top.specs.Program.{file_limit, load_of, answer_at, refusal, reported_counts, ProgramResult, AreNumbers, AreNumbersOf, course_of_image, visits_of, result_of_run, result_of_load, run_of_image, meaning, Gives, Means, IsStopped}
+use Rattle.asc_top.specs.Program.{file_limit, load_of, answer_at, refusal, reported_counts, ProgramResult, AreNumbers, AreNumbersOf, course_of_image, recognised_of, visits_of, result_of_run, result_of_load, run_of_image, meaning, Gives, Means, IsStopped}
 use Rattle.asc_top.specs.Kinds.{Kind, Finished, Stopped, IsRefusal, kind_of, device_of_answer}
 use Rattle.asc_top.proofs.Visited.{asked_where_marked}
 use Rattle.asc_top.proofs.Causes.{meaning-within, meaning-long}
@@ -64,16 +64,16 @@ same_numbers (Some c) one other count visits are =
 
 -- how a line asks for a walk
 abbrev pub settings_of : RunLine → Settings
-settings_of line = record { limit = line.limit; pc = line.pc }
+settings_of line = record { limit = line.limit; recognised = recognised_of line.pc }
 
 -- a walk from an image's start with a helper that gave no jump
 module _ (line : RunLine) (content : List ℕ) (image : loader.Image) (walk : Walk) (is : walk ≡ new_walk image (settings_of line))
     (within : length content ≤ file_limit) (loads : load_of line content ≡ Ok image) (told : Option (List ℕ)) (out err : Given) (n : ℕ) (faults : Faults)
     (new : World) (first last : Aid) (none_before : first.tally.hits ≡ 0) (none_after : last.tally.hits ≡ 0) (walked : Tally) (raised : IsRaisedBy walked first.tally last.tally)
     (none : walked.given ≡ 0) (count : ℕ) (how : Ended)
-    (goes : GoesHelped walk.settings.limit (is_mark walk.settings.pc) (world_of walk (outside told out err n faults)) new first last count walked.given how) where
-  here : GoesHelped line.limit (is_mark line.pc) (world_of (new_walk image (settings_of line)) (outside told out err n faults)) new first last count walked.given how
-  here = subst (λ (w : Walk). GoesHelped w.settings.limit (is_mark w.settings.pc) (world_of w (outside told out err n faults)) new first last count walked.given how) is goes
+    (goes : GoesHelped walk.settings.limit (is_mark walk.settings.recognised) (world_of walk (outside told out err n faults)) new first last count walked.given how) where
+  here : GoesHelped line.limit (is_mark (recognised_of line.pc)) (world_of (new_walk image (settings_of line)) (outside told out err n faults)) new first last count walked.given how
+  here = subst (λ (w : Walk). GoesHelped w.settings.limit (is_mark w.settings.recognised) (world_of w (outside told out err n faults)) new first last count walked.given how) is goes
 
   -- it did what its file means
   pub means_walk : (counts : Option Counts) → ((visits : ℕ) → walked.asked ≡ visits → AreNumbers (result_of_run (record { ended = how; count = count; io = nothing }) visits) counts)
@@ -84,9 +84,9 @@ module _ (line : RunLine) (content : List ℕ) (image : loader.Image) (walk : Wa
       let left = f.io.taken ++ r.rest in
       let own : Run = record { ended = how; count = count; io = f.io } in
       let run : run_of_image line image left ≡ own = f.run r.rest r.may in
-      let visits = visits_of line.pc (course_of_image image left) line.limit in
+      let visits = visits_of (recognised_of line.pc) (course_of_image image left) line.limit in
       let asked : walked.asked ≡ visits =
-      asked_where_marked line.pc (course_of_image image left) line.limit here.visits walked first.tally last.tally none_before none_after raised here.helped.tally (f.says r.rest r.may).are in
+      asked_where_marked (recognised_of line.pc) (course_of_image image left) line.limit here.visits walked first.tally last.tally none_before none_after raised here.helped.tally (f.says r.rest r.may).are in
       let gives : Gives (outside told out err n faults) new.outside (answer_at how count) (result_of_run own visits) =
       record { answer = refl; does = f.does; steps = omega (arith, f.steps) } in
       let is : meaning line content left ≡ result_of_run own visits =

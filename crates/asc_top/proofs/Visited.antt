@@ -2,6 +2,7 @@
 use Rattle.std.proofs.Common.{◌≡◌, ◌∙◌, ℕ, zero, suc, ◌+◌, ◌-◌, ◌≤◌, true, false, List, [], ◌∷◌, length, Option, Some, None, refl, sym, ap, add-one, arith}
 use Rattle.std.specs.Prelude.{if◌then◌else◌}
 use Rattle.asc_traj.specs.Finder.{Tally, hits_of}
+use Rattle.asc_run.specs.declared.recognised.Recognised.{Recognised}
 use Rattle.asc_run.specs.Visits.{AreVisits, Course, HasNoMark, Visit, is_mark, landing, tally_of}
 use Rattle.asc_run.specs.Walk.{IsRaisedBy}
 use Rattle.asc_top.specs.Program.{visits_of}
@@ -26,7 +27,7 @@ asked_of : (visits : List Visit) (t : Tally) → (tally_of visits t).asked ≡ t
 asked_of [] t = omega arith
 asked_of (v ∷ before) t = let rest = asked_of before t in omega arith
 
-module _ (address : Option ℕ) (run : Course) where
+module _ (address : Recognised) (run : Course) where
   -- steps at which there is no mark add no visit
   no_more : (a k b : ℕ) → b ≡ a + k → HasNoMark (is_mark address run) a b → visits_of address run b ≡ visits_of address run a
   unfolding visits_of
@@ -55,7 +56,7 @@ module _ (address : Option ℕ) (run : Course) where
       omega (arith, earlier, here, later, ap (visits_of address run) lands)
 
 -- so many jumps were asked for: from first to last none was given, and the counts rose by those of a walk
-pub asked_where_marked : (address : Option ℕ) (run : Course) (limit : ℕ) (visits : List Visit) (walk first last : Tally) → first.hits ≡ 0 → last.hits ≡ 0
+pub asked_where_marked : (address : Recognised) (run : Course) (limit : ℕ) (visits : List Visit) (walk first last : Tally) → first.hits ≡ 0 → last.hits ≡ 0
     → IsRaisedBy walk first last → last ≡ tally_of visits first → AreVisits limit run (is_mark address run) visits limit
     → walk.asked ≡ visits_of address run limit
 asked_where_marked address run limit visits walk first last begin end raised told are =

@@ -7,6 +7,8 @@ use Rattle.asc_calls.specs.GuestCall.{Io, nothing, then_io, IsBeginning, Device}
 use Rattle.asc_calls.specs.World.{Outside, DoesIo, Agrees}
 use Rattle.asc_traj.specs.Finder.{Plan}
 use Rattle.asc_run.specs.declared.walk.Counts.{Counts as WalkCounts}
+use Rattle.asc_run.specs.declared.recognised.Recognised.{Recognised}
+use Rattle.asc_run.specs.declared.recognised.Recognised.TheVariants.{Nowhere, At}
 use Rattle.asc_run.specs.declared.walk.Ended.{Ended}
 use Rattle.asc_run.specs.declared.walk.Ended.TheVariants as ends
 use Rattle.asc_run.specs.Execution.{Run, exec, progress, first_position, StandsAtFailure}
@@ -37,8 +39,13 @@ run_of_image line image left = exec line.limit image.low (loader.high_of image) 
 abbrev pub course_of_image : loader.Image → (left : List ℕ) → Course
 course_of_image image left = progress image.low (loader.high_of image) (first_position image.start image.low left)
 
--- at how many counts below a limit a run goes on and stands at an address, where one is set
-unfoldable pub visits_of : Option ℕ → Course → (limit : ℕ) → ℕ
+-- which address is recognised
+abbrev pub recognised_of : (pc : Option ℕ) → Recognised
+recognised_of None = Nowhere
+recognised_of (Some address) = At address
+
+-- how many counts of a run below a limit are marks, by which address is recognised
+unfoldable pub visits_of : Recognised → Course → (limit : ℕ) → ℕ
 visits_of address run zero = 0
 visits_of address run (suc n) = visits_of address run n + (if is_mark address run n then 1 else 0)
 
@@ -95,7 +102,8 @@ result_of_run run visits = record {
 abbrev pub result_of_load : RunLine → Result loader.Image ElfFault → (left : List ℕ) → ProgramResult
 result_of_load line (Err fault) left = refusal (answers.Image fault)
 result_of_load line (Ok image) left =
-    result_of_run (run_of_image line image left) (visits_of line.pc (course_of_image image left) line.limit)
+    result_of_run (run_of_image line image left) (visits_of (recognised_of line.pc) (course_of_image image left)
+    line.limit)
 
 -- What a file means as a program, for a line and over an input: one that is too long and one that is no image are
 -- refused, and every other is run plainly.

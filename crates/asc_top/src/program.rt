@@ -3,13 +3,13 @@ ghost use Rattle.std.specs.String.{string_bytes};
 ghost use Rattle.asc_calls.specs.GuestCall.{Device};
 ghost use Rattle.asc_calls.specs.World.{outside, faults, BlamesOnly};
 ghost use Rattle.asc_words.specs.Line.{IsWithin, line_of};
-ghost use Rattle.asc_top.specs.Program.{Means, IsStopped, answer_at, counts_of, file_limit, reported_counts};
+ghost use Rattle.asc_top.specs.Program.{Means, IsStopped, answer_at, counts_of, file_limit, recognised_of, reported_counts};
 ghost use Rattle.asc_top.specs.Kinds.{Finished, IsRefusal, device_of_answer, kind_of};
 ghost use Rattle.asc_top.specs.Answered.{Headline, IsAnswerTo, devices};
 ghost use Rattle.asc_top.specs.Reported.{IsReported, report_with};
 
 use asc_elf::read;
-use asc_run::{Bare, Counts as WalkCounts, Ended, Helper, Settings, Walk};
+use asc_run::{Bare, Counts as WalkCounts, Ended, Helper, Recognised, Settings, Walk};
 use asc_shape::{Failed, Gate, Loaded, Sink, Source, Steps, Store, StoreFault, put_all};
 use asc_traj::Nothing;
 use asc_words::{Answer, Counts, Line, LineFault, Outcome, RunLine, parse, text};
@@ -174,7 +174,7 @@ fn run_file<I: Source, O: Sink, E: Sink, L: Ledger>(
     };
     let settings = Settings {
         limit: line.limit,
-        pc: line.pc,
+        recognised: recognised_of(line.pc),
     };
     let Ok(mut walk) = Walk::new(alloc, &image, settings) else {
         return Outcome::of(Answer::Memory);
@@ -185,6 +185,16 @@ fn run_file<I: Source, O: Sink, E: Sink, L: Ledger>(
     Outcome {
         answer: answer_at(ended, counts.count),
         counts: reported_counts(line.report, ended, counts_of(counts, &helper)),
+    }
+}
+
+/// Which address is recognised, by the one that a line sets.
+fn recognised_of(pc: Option<u32>) -> Recognised
+    ensures { result ≡ recognised_of pc }
+{
+    match pc {
+        Some(address) => Recognised::At(address),
+        None => Recognised::Nowhere,
     }
 }
 

@@ -4,7 +4,8 @@ use Rattle.asc_calls.specs.GuestCall.{Device, nothing}
 use Rattle.asc_calls.specs.World.{outside, faults, BlamesOnly}
 use Rattle.asc_traj.specs.Finder.{Tally}
 use Rattle.asc_run.specs.Execution.{device_of}
-use Rattle.asc_run.specs.Walk.{Walk, device_in, world_of}
+use Rattle.asc_run.specs.declared.recognised.Recognised.{Recognised}
+use Rattle.asc_run.specs.Walk.{Walk, device_in, new_walk, world_of}
 use Rattle.asc_words.specs.declared.answer.Answer.{Answer}
 use Rattle.asc_words.specs.declared.answer.Counts.{Counts}
 use Rattle.asc_words.specs.declared.answer.Outcome.{Outcome}
@@ -27,7 +28,7 @@ returns-in-Err-clause-means g c = λ _ _.
 pub returns-clause-means : goal.returns-clause-means
 returns-clause-means g c = λ _ none.
     let line = c.args.line.now in
-    let is = c.in-Ok-new.ensures in
+    let is = c.in-Ok-new.ensures ∙ ap (λ (r : Recognised). new_walk c.in-Ok.image (record { limit = c.args.line.now.limit; recognised = r })) c.recognised_of.ensures in
     let fresh = subst (λ (w : Walk). IsNone w.ended) (sym is) refl in
     let left = g.I.Source.left c.args.input.now in
     let out = g.O.Sink.given c.args.out.now in
@@ -59,7 +60,7 @@ returns-clause-means g c = λ _ none.
 pub returns-clause-stopped : goal.returns-clause-stopped
 returns-clause-stopped g c = λ device failed.
     let line = c.args.line.now in
-    let is = c.in-Ok-new.ensures in
+    let is = c.in-Ok-new.ensures ∙ ap (λ (r : Recognised). new_walk c.in-Ok.image (record { limit = c.args.line.now.limit; recognised = r })) c.recognised_of.ensures in
     let fresh = subst (λ (w : Walk). IsNone w.ended) (sym is) refl in
     let new = world_of c.go-ended.new.self (outside (g.I.Source.left c.go-ended.new.input) (g.O.Sink.given c.go-ended.new.out) (g.E.Sink.given c.go-ended.new.err) c.go-ended.new.steps (faults (g.I.Source.faults c.go-ended.new.input) (g.O.Sink.faults c.go-ended.new.out) (g.E.Sink.faults c.go-ended.new.err))) in
     let ended = c.go-ended.result in
