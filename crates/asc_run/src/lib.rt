@@ -18,5 +18,5 @@ pub use laws::{
     progress_is_plain, replies_determine_visits, rows_are_computed, serial_runs_are_one,
 };
 pub use made::Made;
-pub use serial::Serial;
+pub use serial::{MOST_AHEAD, MOST_JOBS, Serial};
 pub use walk::{Counts, Ended, MOST_STEPS, Settings, Walk};
