@@ -26,8 +26,8 @@ const TRACE_CAP: usize = 4096;
 /// The greatest number of visits ahead that may be guessed.
 pub const MOST_AHEAD: u32 = 64;
 
-/// As many guesses are planned at a visit at most: one of each kind for each visit ahead.
-const MOST_JOBS: usize = 128;
+/// The greatest number of jobs of a visit: one of each kind for each visit ahead.
+pub const MOST_JOBS: usize = 128;
 
 /// The helper of a run without workers. At a visit it guesses the states of visits to come, traces them, and keeps the
 /// entries, by which it then finds jumps.
@@ -35,7 +35,7 @@ const MOST_JOBS: usize = 128;
 /// A visit is made of calls that another runner may make in its place, and do the jobs itself: `plan`, and then, for
 /// each of its jobs in order, `settle` with what became of it. `job` and `pair` tell what a job is.
 ///
-/// Want of memory is counted, and changes no jump's being one.
+/// Where memory is wanting less is guessed, and that is counted. Each jump is a plain run all the same.
 #[derive(Drop)]
 pub struct Serial {
     alloc: Global,
