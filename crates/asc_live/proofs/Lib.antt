@@ -2,3 +2,4 @@ pub mod Lists
 pub mod Pushing
 pub mod Tasks
 pub mod Seeing
+pub mod LawsHold
