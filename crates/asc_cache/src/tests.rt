@@ -1,4 +1,4 @@
-ghost use Rattle.std.specs.Prelude.{◌≡◌, ◌<◌, length, IfOk};
+ghost use Rattle.std.specs.Prelude.{IfOk};
 ghost use Rattle.asc_traj.specs.Trace.{StandsFor};
 ghost use Rattle.asc_cache.specs.Cache.{AreLater, IsOwnReader};
 
@@ -146,7 +146,10 @@ fn play_row<R: Wait + Drop, Q: Abort>(
     };
     assert_eq!(rt; became, row.became);
     readers.meet(writer);
-    assert_eq!(rt; (writer.stored(), readers.seen(writer.index())), (row.seen, row.seen));
+    assert_eq!(rt;
+        (writer.stored(), readers.seen(writer.index())),
+        (row.seen, row.seen)
+    );
     for x5 in 0..3u32 {
         find_row(rt, alloc, readers, x5, row.finds[x5 as usize])?;
     }
@@ -196,7 +199,10 @@ fn play_rows<R: Wait + Drop, Q: Abort>(
     for row in &ROWS {
         play_row(rt, alloc, writer, readers, row)?;
     }
-    assert_eq!(rt; (readers.asked(), readers.given(), readers.hits()), (15, 18, 9));
+    assert_eq!(rt;
+        (readers.asked(), readers.given(), readers.hits()),
+        (15, 18, 9)
+    );
     Ok(())
 }
 

@@ -1,4 +1,4 @@
-use Rattle.std.proofs.Common.{rules, arith}
+use Rattle.std.proofs.Common.{rules}
 use Rattle.asc_cache.proofs.Opened.{own-of-split}
 use Rattle.asc_cache.proofs.tests.play.Goals as goal
 
