@@ -1,6 +1,6 @@
 -- The smallest executable around some words of code (System V ABI, edition 4.1, chapter 4 "ELF Header" and chapter 5
 -- "Program Header"). All numbers are little-endian.
-use Rattle.std.specs.Prelude.{ℕ, ◌*◌, codes, List, [], ◌∷◌, ◌++◌, length, replicate}
+use Rattle.std.specs.Prelude.{ℕ, ◌*◌, codes, List, ◌∷◌, ◌++◌, length, replicate}
 use Rattle.std.specs.Int.{to_le_bytes, w16, w32}
 use Rattle.std.specs.List.{flat_map}
 use Rattle.asc_make.specs.Table.{words_of}

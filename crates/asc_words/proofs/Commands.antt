@@ -1,6 +1,6 @@
 -- A command as it is built, argument by argument.
 use Rattle.std.proofs.Common.{◌≡◌, ◌∙◌, ◌||◌, ap, ap₂, true, false}
-use Rattle.clap.specs.Words.{App, Rule, app_of, rule_of, shape_of, with_rule, with_subcommand}
+use Rattle.clap.specs.Words.{App, Rule, app_of, rule_of, with_rule, with_subcommand}
 use Rattle.clap.specs.Simple.{Shape, app_of_fields}
 use Rattle.clap.specs.Built.{AddsArg, AddsSubcommand}
 use Rattle.clap.specs.declared.builder.arg.Arg.{Arg}

@@ -1,5 +1,5 @@
 -- The line of words that clap takes, and of words that it refuses.
-use Rattle.std.proofs.Common.{◌≡◌, ◌∙◌, ◌^◌, ◌-◌, ◌<◌, ◌≤◌, ◌⊎◌, ℕ, arith, codes, inl, inr, true, refl, sym, ap, subst, List, [], ◌∷◌, Option, Some, None, Result, Ok, Err, IsErrAnd, IsSome, Bor, rules}
+use Rattle.std.proofs.Common.{◌≡◌, ◌∙◌, ◌^◌, ◌-◌, ◌<◌, ◌≤◌, ◌⊎◌, ℕ, arith, codes, inl, inr, true, refl, sym, ap, subst, List, [], ◌∷◌, Option, Some, None, Result, Ok, Err, IsErrAnd, Bor}
 use Rattle.std.specs.Prelude.{option_map, if◌then◌else◌, Box}
 use Rattle.std.specs.Box.{box_value}
 use Rattle.clap.specs.Matches.{found_of, subcommand_name_of}

@@ -1,7 +1,7 @@
 -- What is known of words that clap takes for asc's command.
 use Rattle.std.proofs.Common.{◌≡◌, ◌∙◌, ◌||◌, ◌^◌, ◌-◌, ◌⊎◌, ℕ, zero, suc, inl, inr, Bool, codes, cond, true, false, not, refl, ap, subst, List, [], ◌∷◌, Option, Some, None, is_some}
 use Rattle.std.specs.Prelude.{option_and_then, option_map, slice_get}
-use Rattle.std.specs.List.{find, list_any}
+use Rattle.std.specs.List.{find}
 use Rattle.std.specs.Str.{bytes_eq}
 use Rattle.std.specs.Option.{option_map_or}
 use Rattle.clap.specs.ValueTests.{accepts}
@@ -11,7 +11,7 @@ use Rattle.clap.specs.Facts.{parser_of_value}
 use Rattle.clap.specs.declared.builder.value_parser.Reading.TheVariants.{AsWritten}
 use Rattle.clap.specs.declared.builder.value_parser.ValueParser.{ValueParser}
 use Rattle.clap.specs.declared.builder.value_parser.ValueParser.TheVariants as parsers
-use Rattle.clap.specs.Walk.{Held, Names, Row, Rule, Text, answers_to, finished, first_of, nothing_held, row_text, rows_after, settled, stop_after, walk, walk_from, is_empty}
+use Rattle.clap.specs.Walk.{Held, Names, Row, Rule, Text, answers_to, finished, nothing_held, row_text, settled, stop_after, walk, walk_from, is_empty}
 use Rattle.clap.specs.Simple.{Shape, argument_words, built, entered, filled, label_of, with_index, names_of, rows_at, subcommand_of}
 use Rattle.clap.specs.Takes.{is_given}
 use Rattle.clap.specs.Kinds.{Kinds, or_else}

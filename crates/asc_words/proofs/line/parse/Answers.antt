@@ -1,4 +1,4 @@
-use Rattle.std.proofs.Common.{◌∙◌, Err, Ok, ap, sym, subst, codes, inl, inr, ◌^◌, ◌-◌}
+use Rattle.std.proofs.Common.{◌∙◌, Err, Ok, ap, sym, subst, inl, inr, ◌^◌, ◌-◌}
 use Rattle.asc_words.specs.declared.line.Line.{Line}
 use Rattle.asc_words.specs.declared.line.Line.TheVariants.{Make, Trial}
 use Rattle.asc_words.specs.declared.line.LineFault.{LineFault}

@@ -1,4 +1,4 @@
-use Rattle.std.proofs.Common.{◌≡◌, ◌∙◌, ap, sym, rules, codes, true, Bor, Option, Some, None, Result, Ok, Err, IsSome, is_some, option_map, unwrap_or, [], ℕ}
+use Rattle.std.proofs.Common.{◌≡◌, ◌∙◌, ap, sym, rules, codes, true, Bor, Option, Some, None, Result, Ok, Err, IsSome, is_some, option_map, unwrap_or, []}
 use Rattle.clap.specs.Words.{found_of, rows_of}
 use Rattle.clap.specs.Walk.{Text, first_of}
 use Rattle.clap.proofs.WalkLemmas.{first_value-rows}
