@@ -1,5 +1,5 @@
 -- The proofs of the laws.
-use Rattle.std.proofs.Common.{◌≡◌, ap, sym, ◌∙◌, arith}
+use Rattle.std.proofs.Common.{ap, sym, ◌∙◌, arith}
 use Rattle.asc_traj.specs.Finder.{Plan}
 use Rattle.asc_live.specs.Laws.{GuessesAreCounted}
 

@@ -1,7 +1,7 @@
 -- Up to which visit all were guessed.
-use Rattle.std.proofs.Common.{◌≡◌, ◌≢◌, ◌⊎◌, inl, inr, ◌≤◌, ◌<◌, ◌+◌, ◌-◌, ◌*◌, ◌^◌, ◌==◌, ◌&&◌, ℕ, zero, suc, Bool, true, false, List, [], ◌∷◌, length, Option, Some, None, refl, sym, ap, ◌∙◌, subst, arith, nat_lt, if◌then◌else◌}
+use Rattle.std.proofs.Common.{◌≡◌, inl, inr, ◌≤◌, ◌<◌, ◌+◌, ◌-◌, ◌*◌, ◌^◌, ◌==◌, ◌&&◌, ℕ, zero, suc, Bool, true, false, List, [], length, Option, Some, None, refl, sym, ap, ◌∙◌, subst, arith, nat_lt, if◌then◌else◌}
 use Rattle.std.specs.Prelude.{max}
-use Rattle.std.proofs.lemmas.Bool.{le-ltb, lt-ltb, ne_eqb}
+use Rattle.std.proofs.lemmas.Bool.{le-ltb, lt-ltb}
 use Rattle.std.proofs.lemmas.Bool.Decides.{eqb_tells}
 use Rattle.asc_model.specs.State.{State}
 use Rattle.asc_outside.specs.Outside.{one_more}
@@ -9,10 +9,10 @@ use Rattle.asc_traj.specs.declared.guessing.Guessing.{Guessing}
 use Rattle.asc_traj.specs.Finder.{Seen}
 use Rattle.asc_run.specs.Helped.{Plans}
 use Rattle.asc_run.specs.Serial.{kinds_of, tasks_of}
-use Rattle.asc_run.specs.Seen.{Sees, seen, newly_guessed, guesses_at, guesses_until}
+use Rattle.asc_run.specs.Seen.{Sees, seen, newly_guessed, guesses_at}
 use Rattle.asc_run.proofs.Seeings.{newly-later, guesses_until-more}
 use Rattle.asc_live.specs.Due.{Due, Pusher, Pushes, jobs_of, raised}
-use Rattle.asc_live.specs.Live.{Live, IsLive, HasSeen, Keeps, Visits, plan_of, due_by, issued_by, seen_after, refused_visit}
+use Rattle.asc_live.specs.Live.{Live, IsLive, HasSeen, Visits, plan_of, due_by, issued_by, seen_after}
 use Rattle.asc_live.proofs.Pushing.{Pushes-few, pushed-length}
 use Rattle.asc_live.proofs.Tasks.{kinds-few, twice, visit-length}
 

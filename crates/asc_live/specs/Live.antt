@@ -6,7 +6,7 @@ use Rattle.asc_model.specs.State.{State}
 use Rattle.asc_outside.specs.Outside.{one_more}
 use Rattle.asc_jobs.specs.Jobs.{Giver}
 use Rattle.asc_traj.specs.declared.guessing.Guessing.{Guessing}
-use Rattle.asc_traj.specs.Finder.{Plan, Seen}
+use Rattle.asc_traj.specs.Finder.{Plan}
 use Rattle.asc_run.specs.Serial.{tasks_of}
 use Rattle.asc_run.specs.Seen.{seen, guesses_until}
 use Rattle.asc_live.specs.Due.{Due, Pusher, Pushes, jobs_of}

@@ -1,6 +1,6 @@
 -- The state was kept, and the jobs were pushed, or memory was wanting.
 use Rattle.std.proofs.Common.{rules}
-use Rattle.asc_live.specs.Live.{Visits, live}
+use Rattle.asc_live.specs.Live.{live}
 use Rattle.asc_live.proofs.Seeing.{visit-live, visit-plans, visit-sees}
 use Rattle.asc_live.proofs.live.LiveHelper.visit.Goals as goal
 

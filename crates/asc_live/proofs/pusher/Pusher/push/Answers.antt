@@ -1,5 +1,5 @@
 -- The job was pushed, found no room, or memory was wanting.
-use Rattle.std.proofs.Common.{List, [], ◌∷◌, ◌+◌, refl, ap, ◌∙◌, subst}
+use Rattle.std.proofs.Common.{[], ◌∷◌, ◌+◌, refl, subst}
 use Rattle.std.specs.Arc.{arc_value}
 use Rattle.asc_live.specs.Due.{Due, Pusher, Pushes}
 use Rattle.asc_live.proofs.Pushing.{Pushes-refused, Pushes-full, Pushes-one, asks-same}

@@ -1,5 +1,5 @@
 -- Target by target the jobs are pushed.
-use Rattle.std.proofs.Common.{◌≡◌, ◌+◌, ◌-◌, ◌*◌, length, sym, subst, arith}
+use Rattle.std.proofs.Common.{◌≡◌, ◌+◌, ◌-◌, sym, subst, arith}
 use Rattle.std.specs.Arc.{arc_value}
 use Rattle.asc_live.specs.Due.{Pushes, jobs_of, tasks_for}
 use Rattle.asc_live.proofs.Pushing.{Pushes-none, Pushes-more, Pushes-few}

@@ -1,5 +1,5 @@
 -- All jobs of the visit are pushed, or none.
-use Rattle.std.proofs.Common.{◌≡◌, ◌≤◌, ◌<◌, ◌+◌, ◌-◌, ◌^◌, false, [], length, nat_lt, ap, sym, subst, arith, if◌then◌else◌}
+use Rattle.std.proofs.Common.{◌≡◌, ◌^◌, false, length, nat_lt, arith}
 use Rattle.std.proofs.lemmas.Bool.{le-ltb}
 use Rattle.asc_live.proofs.Pushing.{Pushes-none}
 use Rattle.asc_live.proofs.Tasks.{targets-few, targets-near}

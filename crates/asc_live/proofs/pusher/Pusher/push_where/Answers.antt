@@ -1,6 +1,3 @@
-use Rattle.std.proofs.Common.{[], ◌∷◌, sym, subst, if◌then◌else◌}
-use Rattle.std.specs.Arc.{arc_value}
-use Rattle.asc_live.specs.Due.{Pushes, jobs_of}
 use Rattle.asc_live.proofs.Pushing.{Pushes-none}
 use Rattle.asc_live.proofs.pusher.Pusher.push_where.Goals as goal
 
