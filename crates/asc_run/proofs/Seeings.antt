@@ -3,10 +3,11 @@ use Rattle.std.proofs.Common.{◌≡◌, ◌<◌, ◌≤◌, ◌+◌, ◌-◌, �
 use Rattle.std.proofs.lemmas.Bool.{le-ltb, ne_eqb}
 use Rattle.asc_traj.specs.declared.guessing.Guessing.{Guessing}
 use Rattle.asc_model.specs.State.{State}
-use Rattle.asc_traj.specs.Finder.{Plan}
+use Rattle.asc_traj.specs.Finder.{Plan, Tally}
 use Rattle.asc_run.specs.Serial.{kinds_of}
 use Rattle.asc_run.specs.Visits.{with_landing}
 use Rattle.asc_run.specs.Helped.{Aid, Helped, Lands, Plans}
+use Rattle.asc_run.specs.Walk.{tally}
 use Rattle.asc_run.specs.Seen.{newly_guessed, guesses_at, guesses_until, seen, Sees, SeesAll}
 
 -- from the third visit on one more visit is guessed at each
@@ -34,6 +35,10 @@ guesses_until-more g (suc (suc m)) =
 -- no visit yet
 pub SeesAll-none : (p : Plan) → SeesAll 0 p p
 SeesAll-none p = λ g told same. (told, omega arith)
+
+-- a walk that was not visited saw all
+pub unvisited : (asked given hits : ℕ) (p : Plan) → tally asked given hits ≡ tally 0 0 0 → SeesAll asked p p
+unvisited asked given hits p is = subst (λ (t : Tally). SeesAll t.asked p p) (sym is) (SeesAll-none p)
 
 one-visit : (before : ℕ) (old now new : Plan) → old.refused ≤ now.refused → now.refused ≤ new.refused → Sees (before + 1) now new → SeesAll before old now → SeesAll (before + 1) old new
 one-visit before old now new earlier later sees all g told same =

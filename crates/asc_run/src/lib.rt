@@ -20,10 +20,6 @@ pub use laws::{
     progress_is_plain, replies_determine_visits, rows_are_computed, serial_runs_are_one,
 };
 pub use made::Made;
-<<<<<<< HEAD
 pub use recognised::Recognised;
-pub use serial::Serial;
-=======
 pub use serial::{MOST_AHEAD, MOST_JOBS, Serial};
->>>>>>> d24ef2073256e637b12c939e77c0ee64de47152b
 pub use walk::{Counts, Ended, MOST_STEPS, Settings, Walk};

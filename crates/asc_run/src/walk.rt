@@ -140,6 +140,7 @@ impl Walk {
     /// recognised the helper is neither visited nor asked.
     ///
     /// A second call answers as the first did, and changes nothing.
+    #[tactic(auto, using(crate::proofs::Seeings::unvisited))]
     pub fn go<H: Helper, I: Source, O: Sink, E: Sink, L: Ledger>(
         &mut self,
         helper: &mut H,
@@ -181,10 +182,14 @@ impl Walk {
         }
         let settings = self.settings;
         let process = &mut self.process;
-        let ended = match process.recognise(settings, &mut self.notes, input, out, err, steps) {
-            Ok(address) => process.run(settings.limit, address, helper, input, out, err, steps),
-            Err(ended) => ended,
+        let address = match process.recognise(settings, &mut self.notes, input, out, err, steps) {
+            Ok(address) => address,
+            Err(ended) => {
+                self.ended = Some(ended);
+                return ended;
+            }
         };
+        let ended = process.run(settings.limit, address, helper, input, out, err, steps);
         self.ended = Some(ended);
         ended
     }
