@@ -4,7 +4,9 @@ use Rattle.atomic_table.specs.Seated.{TableId}
 use Rattle.asc_outside.specs.Outside.{one_more}
 use Rattle.asc_jobs.specs.Hands.{hand}
 use Rattle.asc_jobs.specs.Jobs.{Taker}
+use Rattle.asc_jobs.specs.Tally.{Counts, no_jobs, added}
 use Rattle.asc_work.specs.Worker.{Worker}
+use Rattle.asc_work.specs.declared.post.Post.{Post}
 
 -- A count of yes answers has risen: one answer since was yes.
 abbrev pub HasRisen : (before now : ℕ) → Type 0
@@ -19,3 +21,20 @@ pub record HasWorked {W H : Type 0} (w : Worker W H) (t : Taker) (v : Worker W H
   pub shape : v.shape ≡ w.shape
   pub laps : v.laps ≡ w.laps
   pub span : v.span ≡ w.span
+
+-- A worker at its post took jobs and ran them, until its halt said to stop.
+pub record HasServed {W H : Type 0} (count : H → ℕ) (p q : Post W H) : Type 0 where
+  pub halted : HasRisen (count p.worker.halt) (count q.worker.halt)
+  pub worked : HasWorked p.worker p.taker q.worker q.taker
+
+-- a worker of a queue, in whose tally is each job that its taker took
+pub record IsManned {W H : Type 0} (queue : TableId) (p : Post W H) : Type 0 where
+  pub queue_is : p.taker.queue ≡ queue
+  pub popped : p.taker.hand ≡ hand false [] 0 1 p.taker.hand.popped
+  pub jobs : length p.taker.hand.popped ≡ p.worker.tally.ran
+  pub most : p.worker.tally.ran ≤ 2 ^ 57
+
+-- the tallies of workers, column by column
+abbrev pub all_tallies : {W H : Type 0} → List (Post W H) → Counts
+all_tallies [] = no_jobs
+all_tallies (p ∷ posts) = added p.worker.tally (all_tallies posts)

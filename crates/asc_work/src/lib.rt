@@ -2,10 +2,14 @@
 #![tactic(auto)]
 
 mod hold;
+mod post;
+mod scope;
 mod work;
 mod worker;
 
 pub use asc_jobs::Column as Ran;
 pub use hold::{Hold, HoldGate};
+pub use post::{Post, TakenIn, man, take_in};
+pub use scope::beside;
 pub use work::work_loop;
 pub use worker::Worker;
