@@ -1,5 +1,6 @@
 ghost use Rattle.std.specs.Prelude.{◌≡◌, ◌<◌, ◌^◌};
 ghost use Rattle.asc_run.specs.Helped.{aid, HasRoom};
+ghost use Rattle.asc_run.specs.Visits.{HasBounds};
 
 use crate::{Bare, Counts, Ended, Helper, MOST_STEPS, Recognised, Settings, Walk};
 use asc_depvec::Tracer;
@@ -40,6 +41,21 @@ pub(crate) const COUNTING: [u32; 7] = [
     0x0000_0073,
 ];
 
+/// Fails where what is to be noted is out of its bounds.
+fn check_bounds<R: Abort>(rt: &R, recognised: Recognised)
+    ensures { HasBounds recognised }
+{
+    match recognised {
+        Recognised::Nowhere | Recognised::At(_) => {}
+        Recognised::Chosen { profile, least } => {
+            assert!(rt; profile >= 2);
+            assert!(rt; profile <= 65_536);
+            assert!(rt; least >= 2);
+            assert!(rt; least <= 65_536);
+        }
+    }
+}
+
 /// How a program with 64 KiB of memory and no input ends, and its numbers. A second call of `go` changes neither.
 pub(crate) fn run<H: Helper, L: Ledger, R: Abort>(
     rt: &R,
@@ -56,9 +72,7 @@ pub(crate) fn run<H: Helper, L: Ledger, R: Abort>(
         (aid (H.tally helper.old) (H.replies helper.old) (H.plan helper.old) (H.machine helper.old)) }
 {
     assert!(rt; settings.limit <= MOST_STEPS);
-    if let Recognised::Chosen { profile, least } = settings.recognised {
-        assert!(rt; (2..=65_536).contains(&profile) && (2..=65_536).contains(&least));
-    }
+    check_bounds(rt, settings.recognised);
     let mut file = HEAD.to_vec(alloc).expect(rt, "memory");
     for word in words {
         file.extend_from_slice(&word.to_le_bytes())
