@@ -26,15 +26,6 @@ pub is_true : (b : Bool) → IsTrue b → b ≡ true
 is_true true e = refl
 is_true false e = absurd (false≢true e)
 
--- bytes put behind those that a sink was given of a piece
-pub given_more : (before mid after : Given) (piece rest : List ℕ) (m k : ℕ) → mid ≡ given_after before (take m piece) → rest ≡ drop m piece
-    → after ≡ given_after mid (take k rest) → after ≡ given_after before (take (m + k) piece)
-given_more before mid after piece rest m k was is now =
-    now ∙ ap (λ g. given_after g (take k rest)) was
-    ∙ ap (λ l. given_after (given_after before (take m piece)) (take k l)) is
-    ∙ given_after-given_after before (take m piece) (take k (drop m piece))
-    ∙ ap (given_after before) (sym (take-add m k piece))
-
 -- bytes in memory are a splice of the state's bytes
 state_after-memory : (s : State) (a : ℕ) (bytes : List ℕ) → IsState s → IsTrue (holds s.shape a (length bytes)) → AreBytes bytes
     → state_after s (Memory a bytes) ≡ record s { bytes = splice s.bytes (place_of s.shape a) bytes }

@@ -1,7 +1,7 @@
 -- All that a run changes: the state, what the calls keep, the devices, and the count of steps.
 use Rattle.std.specs.Prelude.{◌≡◌, ℕ, Bool, IsTrue, MatchBool, List, [], Option, Some, None}
 use Rattle.asc_model.specs.State.{State}
-use Rattle.asc_outside.specs.Outside.{one_more, Takes, IsAtEnd, Given, given_after}
+use Rattle.asc_outside.specs.Outside.{Takes, IsAtEnd, Given, given_after, Blames}
 use Rattle.asc_calls.specs.GuestCall.{Io}
 
 -- What the calls of one run keep: the bounds of the program's break, the break, and whether the end of the input was
@@ -41,11 +41,6 @@ pub record DoesIo (old new : Outside) (io : Io) : Type 0 where
   pub taken : Takes old.left new.left io.taken
   pub out : new.out ≡ given_after old.out io.out
   pub err : new.err ≡ given_after old.err io.err
-
--- a count of faults rises by one where its device is blamed, and else it stays
-pub record Blames (blamed : Type 0) (before now : ℕ) : Type 0 where
-  pub rose : blamed → now ≡ one_more before
-  pub stays : ¬ blamed → now ≡ before
 
 -- an input that agrees with what is told
 abbrev pub Agrees : Option (List ℕ) → List ℕ → Type 0

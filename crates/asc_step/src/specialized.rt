@@ -22,7 +22,7 @@ use asc_isa::{Instr, Op, decode_specialized};
 use asc_shape::{Shape, Words};
 
 /// Takes one step of a state of this shape as `try_step` does, with code of its own for each operation.
-#[inline]
+#[inline(always)]
 pub(crate) fn step_specialized<B: Words>(bytes: &mut B, shape: Shape) -> Stepped
     requires shape { shape ≡ (B.face bytes.old).state.shape }
     requires room { step_room ≤ room_of (B.face bytes.old).marks }
@@ -44,7 +44,7 @@ pub(crate) fn step_specialized<B: Words>(bytes: &mut B, shape: Shape) -> Stepped
 /// Carries out the instruction at this pc, as `execute` does.
 ///
 /// Each arm does the same: so the compiler makes code of its own for each operation, to which decoding leads at once.
-#[inline]
+#[inline(always)]
 fn execute_specialized<B: Words>(
     bytes: &mut B,
     shape: Shape,

@@ -77,7 +77,7 @@ pub fn try_step<B: Words>(bytes: &mut B) -> Stepped
 }
 
 /// Takes one step as `try_step_of` does, and counts it where the program went on.
-#[inline]
+#[inline(always)]
 pub(crate) fn step_of<B: Words, L: Ledger>(
     bytes: &mut B,
     shape: Shape,

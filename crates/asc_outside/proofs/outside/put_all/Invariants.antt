@@ -1,7 +1,7 @@
 -- The sink was given the first bytes of the piece.
 use Rattle.std.proofs.Common.{◌≡◌, ◌≤◌, ◌-◌, length, take}
 use Rattle.asc_outside.specs.Outside.{given_after}
-use Rattle.asc_calls.proofs.devices.put_all.Given as goal
+use Rattle.asc_outside.proofs.outside.put_all.Given as goal
 
 abbrev pub invariant-loop-put : goal.invariant-loop-put
 invariant-loop-put g l = record {

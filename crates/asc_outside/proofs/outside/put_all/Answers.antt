@@ -1,8 +1,8 @@
 -- Each call of the sink puts on where the ones before it ended.
 use Rattle.std.proofs.Common.{arith, ◌∙◌}
 use Rattle.std.proofs.lemmas.List.{take_rest}
-use Rattle.asc_calls.proofs.Taken.{given_more}
-use Rattle.asc_calls.proofs.devices.put_all.Goals as goal
+use Rattle.asc_outside.proofs.Streams.{given_more}
+use Rattle.asc_outside.proofs.outside.put_all.Goals as goal
 
 pub loop-put-preserved : goal.loop-put-preserved
 loop-put-preserved g c = record {
