@@ -9,11 +9,14 @@ use Rattle.asc_model.specs.State.{State}
 use Rattle.asc_model.specs.Step.{At}
 use Rattle.asc_model.specs.Plain.{plain}
 use Rattle.asc_model.specs.Entry.{Entry}
-use Rattle.asc_traj.specs.Serial.{Stride, Guessing, Serial, serial_reply}
+use Rattle.asc_guess.specs.declared.kind.Kind.TheVariants.{Stride}
+use Rattle.asc_guess.specs.Guess.{guess_of, targets_of}
+use Rattle.asc_traj.specs.declared.guessing.Guessing.{Guessing}
+use Rattle.asc_traj.specs.Serial.{Serial, serial_reply}
 use Rattle.asc_run.specs.Execution.{progress, first_position}
 use Rattle.asc_run.specs.Visits.{Course, Visit, is_mark, AreVisits, replies_of, tally_of}
 use Rattle.asc_run.specs.Walk.{tally}
-use Rattle.asc_run.specs.Serial.{guess_of, targets_of, visited, made_at}
+use Rattle.asc_run.specs.Serial.{visited, made_at}
 
 abbrev pub code : List ℕ
 code = 0x00000293 ∷ 0x00400313 ∷ 0x00128293 ∷ 0xFE629EE3 ∷ 0x05D00893 ∷ 0x00000513 ∷ 0x00000073 ∷ []
