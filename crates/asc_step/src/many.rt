@@ -27,7 +27,7 @@ pub fn step_many<L: Ledger>(state: &mut State, most: u64, steps: &mut Steps<L>) 
     let shape = state.shape();
     let mut count = 0;
     while count < most {
-        match step_of(state, shape, steps) {
+        match step_of::<State, L, false>(state, shape, steps) {
             Stepped::Went => count += 1,
             ended => return (count, ended),
         }
@@ -55,7 +55,7 @@ pub fn step_until<L: Ledger>(
     let shape = state.shape();
     let mut done = 0;
     while done < most {
-        match step_of(state, shape, steps) {
+        match step_of::<State, L, true>(state, shape, steps) {
             Stepped::Went => done += 1,
             ended => return (done, ended),
         }
