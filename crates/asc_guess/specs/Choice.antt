@@ -1,16 +1,11 @@
 -- At which address a run is best visited. A profile is a list of pairs, each an address and a count of steps.
 use Rattle.std.specs.Prelude.{ℕ, ◌+◌, ◌-◌, ◌*◌, ◌<◌, Bool, nat_lt, nat_le, ◌==◌, ◌&&◌, ◌||◌, List, [], ◌∷◌, map, filter, fold, length, slice_index_or, Option, Some, None, if◌then◌else◌}
+use Rattle.asc_guess.specs.declared.choosing.Candidate.{Candidate}
 
 -- the counts of a profile rise
 abbrev pub CountsRise : List (ℕ × ℕ) → Type 0
 CountsRise profile = (k : ℕ) (d : ℕ × ℕ) → k + 1 < length profile
     → (slice_index_or profile k d).1 < (slice_index_or profile (k + 1) d).1
-
--- how often an address stands in a profile, and how many steps lie between the first time and the last
-pub record Candidate : Type 0 where
-  pub address : ℕ
-  pub times : ℕ
-  pub distance : ℕ
 
 -- the counts at which an address stands
 abbrev pub counts_of : List (ℕ × ℕ) → (address : ℕ) → List ℕ
@@ -21,6 +16,7 @@ abbrev pub distance_in : List ℕ → ℕ
 distance_in [] = 0
 distance_in (x ∷ xs) = slice_index_or (x ∷ xs) (length xs) x - x
 
+-- how often an address stands in a profile, and how many steps lie between the first time and the last
 abbrev pub candidate_of : List (ℕ × ℕ) → (address : ℕ) → Candidate
 candidate_of profile address = let counts = counts_of profile address in
     record { address = address; times = length counts; distance = distance_in counts }
