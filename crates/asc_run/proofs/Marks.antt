@@ -63,19 +63,19 @@ pub GoesPlain-on : (n : ℕ) (p : Progress) (r : Position) (s t : State) → r.s
 GoesPlain-on n p r s t e h g = subst (GoesPlain n) (sym h) (t, ap (plain n) e ∙ g)
 
 -- ---- the replies determine the visits
-floor : List Visit → ℕ
+pub floor : List Visit → ℕ
 floor [] = 0
 floor (v ∷ vs) = landing v
 
-floor_of : (limit : ℕ) (run : Course) (mark : ℕ → Bool) (vs : List Visit) (a : ℕ) → AreVisits limit run mark vs a → (floor vs ≤ a) × HasNoMark mark (floor vs) a
+pub floor_of : (limit : ℕ) (run : Course) (mark : ℕ → Bool) (vs : List Visit) (a : ℕ) → AreVisits limit run mark vs a → (floor vs ≤ a) × HasNoMark mark (floor vs) a
 unfolding floor
 floor_of limit run mark [] a x = (omega arith, x)
 floor_of limit run mark (v ∷ vs) a x = (x.1.1.1.0, x.1.1.1.1)
 
-same_at : (mark : ℕ → Bool) (f a b : ℕ) → f ≤ a → HasNoMark mark f b → mark a ≡ true → b ≤ a
+pub same_at : (mark : ℕ → Bool) (f a b : ℕ) → f ≤ a → HasNoMark mark f b → mark a ≡ true → b ≤ a
 same_at mark f a b l n m = elim (cases_lt a b) [ inl x ↦ absurd (false≢true (sym (n a l x) ∙ m)) | inr x ↦ x ]
 
-same_visit : (v u : Visit) → v.at ≡ u.at → v.reply ≡ u.reply → v ≡ u
+pub same_visit : (v u : Visit) → v.at ≡ u.at → v.reply ≡ u.reply → v ≡ u
 same_visit v u p q = ap (λ x. let y : Visit = record { at = x; reply = v.reply } in y) p ∙ ap (λ x. let y : Visit = record { at = u.at; reply = x } in y) q
 
 no_push : (xs : List (Option ℕ)) (x : Option ℕ) → [] ≡ xs ++ x ∷ [] → ⊥

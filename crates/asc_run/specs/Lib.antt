@@ -5,5 +5,9 @@ pub mod Serial
 pub mod Helped
 pub mod Faults
 pub mod Walk
+pub mod SerialRun
+pub mod Made
+pub mod SerialHelper
+pub mod SerialInside
 pub mod Laws
 pub mod Rows
