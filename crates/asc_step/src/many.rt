@@ -48,7 +48,7 @@ pub fn step_until<L: Ledger>(
     ensures passes { PassesBy state.old pc result.0 }
     ensures counter { steps.new ≡ steps.old + result.0 }
     ensures most { result.0 ≤ most }
-    ensures all { result.1 ≡ Went → (result.0 ≡ most) ⊎ ((view_of state.new).pc ≡ pc) }
+    ensures all { result.1 ≡ Went → (result.0 ≡ most) ⊎ ((0 < result.0) × ((view_of state.new).pc ≡ pc)) }
     ensures fewer { result.1 ≢ Went → result.0 < most }
     ensures ends { result.1 ≢ Went → result.1 ≡ stepped_of (next state.new) }
 {

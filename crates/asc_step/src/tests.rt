@@ -54,8 +54,14 @@ fn run_three<L: Ledger, R: Abort>(rt: &R, blank: Blank, state: &mut State)
     assert_eq!(rt; step(state, &mut steps), Stepped::Call);
     assert_eq!(rt; step_many(state, 5, &mut steps), (0, Stepped::Call));
     state.set_pc(0x10000);
-    assert_eq!(rt; step_until(state, 0x10004, 5, &mut steps), (1, Stepped::Went));
-    assert_eq!(rt; step_until(state, 0x10004, 5, &mut steps), (1, Stepped::Call));
+    assert_eq!(rt;
+        step_until(state, 0x10004, 5, &mut steps),
+        (1, Stepped::Went)
+    );
+    assert_eq!(rt;
+        step_until(state, 0x10004, 5, &mut steps),
+        (1, Stepped::Call)
+    );
     counts_four(&steps);
 }
 
