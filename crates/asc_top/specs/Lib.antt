@@ -4,5 +4,6 @@ pub use Rattle.asc_words.specs.Report
 pub mod Program
 pub mod Numbers
 pub mod Kinds
+pub mod Ran
 pub mod Answered
 pub mod Reported
