@@ -17,6 +17,11 @@ abbrev pub is_at : Option ℕ → State → Bool
 is_at None s = false
 is_at (Some address) s = (view_of s).pc == address
 
+-- of so many plain steps of a state, none but the last leads to an address, where one is set
+abbrev pub Passes : Option ℕ → State → (n : ℕ) → Type 0
+Passes address s n =
+    (k : ℕ) → 0 < k → k < n → (after : State) → plain k s ≡ At after → is_at address after ≡ false
+
 -- whether a run goes on there
 abbrev pub goes_on_at : Option ℕ → Progress → Bool
 goes_on_at address (On position) = is_at address position.state
@@ -48,6 +53,11 @@ Fits limit run count (Some n) = (1 ≤ n) × ((count + n ≤ limit) × GoesPlain
 -- none of the counts from a to b, b aside, is a mark
 abbrev pub HasNoMark : (ℕ → Bool) → (a b : ℕ) → Type 0
 HasNoMark mark a b = (count : ℕ) → a ≤ count → count < b → mark count ≡ false
+
+-- Up to a count a run has no mark. From there on it has one wherever it goes on at this address.
+pub record IsMarkedFrom (from : ℕ) (address : Option ℕ) (mark : ℕ → Bool) (run : Course) : Type 0 where
+  pub none : HasNoMark mark 0 from
+  pub later : (count : ℕ) → from ≤ count → mark count ≡ goes_on_at address (run count)
 
 -- These are the visits of a walk up to a count, the newest first: each is at a mark, its reply fits, and between its
 -- landing and the next visit, or the count, there is no mark. Before the first visit there is none either.

@@ -98,9 +98,9 @@ impl Model for Walk {
 }
 
 impl Walk {
-    ghost use Rattle.asc_run.specs.Faults.{faults, BlamesOnly};
+    ghost use Rattle.asc_calls.specs.World.{faults, outside, BlamesOnly};
     ghost use Rattle.asc_run.specs.Helped.{aid, HasRoom};
-    ghost use Rattle.asc_run.specs.Walk.{new_walk, world_of, device_in, GoesHelped, IsRaisedBy};
+    ghost use Rattle.asc_run.specs.Walk.{new_walk, device_in, GoesFirst, HelpsFirst};
 
     /// A walk that has not begun. It takes the memory of one state.
     pub fn new(alloc: Global, image: &Image<'_>, settings: Settings) -> Result<Walk, Memory>
@@ -142,25 +142,23 @@ impl Walk {
 
         // The first call goes as plain execution does, or stops where a device failed. The helper's visits are those
         // that its replies leave on that run.
-        ensures first { IsNone self.old.ended → GoesHelped self.old.settings.limit self.old.settings.pc
-            (world_of self.old (I.left input.old) (O.given out.old) (E.given err.old) steps.old)
-            (world_of self.new (I.left input.new) (O.given out.new) (E.given err.new) steps.new)
+        ensures first { IsNone self.old.ended → GoesFirst self.old self.new
+            (outside (I.left input.old) (O.given out.old) (E.given err.old) steps.old
+            (faults (I.faults input.old) (O.faults out.old) (E.faults err.old)))
+            (outside (I.left input.new) (O.given out.new) (E.given err.new) steps.new
+            (faults (I.faults input.new) (O.faults out.new) (E.faults err.new)))
             (aid (H.tally helper.old) (H.replies helper.old) (H.plan helper.old) (H.machine helper.old))
-            (aid (H.tally helper.new) (H.replies helper.new) (H.plan helper.new) (H.machine helper.new))
-            self.new.count self.new.tally.given result }
+            (aid (H.tally helper.new) (H.replies helper.new) (H.plan helper.new) (H.machine helper.new)) result }
 
         // The helper's counts rise by the walk's. Where no address is set, the helper stays as it was.
-        ensures helper { IsNone self.old.ended
-            → IsRaisedBy self.new.tally (H.tally helper.old) (H.tally helper.new) }
-        ensures unset { IsNone self.old.settings.pc → helper.new ≡ helper.old }
-        ensures limit { self.new.count ≤ self.old.settings.limit }
-        ensures settings { self.new.settings ≡ self.old.settings }
-        ensures kept { self.new.ended ≡ Some result }
+        ensures helper { IsNone self.old.ended → HelpsFirst self.old.settings.pc self.new.tally helper.old helper.new
+            (H.tally helper.old) (H.tally helper.new) }
 
         // A second one answers the same, and changes nothing.
         ensures again { IfSome self.old.ended (λ ended. (result ≡ ended) × (self.new ≡ self.old)
             × (helper.new ≡ helper.old) × (input.new ≡ input.old) × (out.new ≡ out.old) × (err.new ≡ err.old)
             × (steps.new ≡ steps.old)) }
+        ensures limit { self.new.count ≤ self.old.settings.limit }
 
         // The count of faults of the device that failed in this call rises by one, and those of the others stay.
         ensures faults { BlamesOnly (device_in self.old.ended result)

@@ -3,7 +3,7 @@ use Rattle.std.proofs.Common.{◌≡◌, ◌↔◌, ◌≢◌, ℕ, ◌+◌, ◌
 use Rattle.std.proofs.lemmas.List.{length-replicate}
 use Rattle.asc_outside.specs.Outside.{File, MayHold, MayHoldLonger, AsksFor}
 use Rattle.asc_calls.specs.GuestCall.{Device}
-use Rattle.asc_calls.specs.World.{Agrees}
+use Rattle.asc_calls.specs.World.{Agrees, BlamesOnly}
 use Rattle.asc_words.specs.Line.{line_of}
 use Rattle.asc_words.specs.declared.line.RunLine.{RunLine}
 use Rattle.asc_words.specs.declared.line.Line.{Line}
@@ -13,7 +13,6 @@ use Rattle.asc_words.specs.declared.answer.Answer.TheVariants as answers
 use Rattle.asc_words.specs.declared.answer.Outcome.{Outcome}
 use Rattle.asc_words.specs.declared.answer.Bad.{Bad}
 use Rattle.asc_words.specs.Answer.{outcome_of}
-use Rattle.asc_run.specs.Faults.{BlamesOnly}
 use Rattle.asc_top.specs.Program.{file_limit, meaning, Gives, Means, HasFile, IsStopped}
 use Rattle.asc_top.specs.Kinds.{Finished, Completes, IsRefusal, kind_of, device_of_answer, device_of_kind}
 use Rattle.asc_top.specs.Answered.{Devices, IsHeld, IsAnswerTo, AskForCounts, Headline}
@@ -83,7 +82,7 @@ pub record FileRead (words : List (List ℕ)) (old new : Devices) (outcome : Out
   pub counts : IsSome outcome.counts ↔ (IsTrue line.report × (kind_of outcome.answer ≡ Finished))
   pub names : AsksFor line.image old.asked new.asked
   pub store_faults : new.store_faults ≡ old.store_faults
-  pub faults : BlamesOnly (device_of_answer outcome.answer) old.faults new.faults
+  pub faults : BlamesOnly (device_of_answer outcome.answer) old.guest.faults new.guest.faults
   pub no_report_fault : outcome.answer ≢ answers.ReportFault
 
 module _ (words : List (List ℕ)) (old new : Devices) (outcome : Outcome) (f : FileRead words old new outcome) where

@@ -4,12 +4,13 @@ use Rattle.asc_outside.specs.Outside.{IsAtEnd, Given}
 use Rattle.asc_elf.specs.declared.fault.ElfFault.{ElfFault}
 use Rattle.asc_elf.specs.Image as loader
 use Rattle.asc_calls.specs.GuestCall.{Device, nothing}
-use Rattle.asc_calls.specs.World.{Outside, outside, World, Agrees, MayCome, KnowsEnd}
+use Rattle.asc_calls.specs.World.{Faults, Outside, outside, World, Agrees, MayCome, KnowsEnd}
 use Rattle.asc_run.specs.declared.walk.Ended.{Ended}
 use Rattle.asc_run.specs.declared.walk.Ended.TheVariants as ends
 use Rattle.asc_run.specs.Execution.{Run, device_of}
 use Rattle.asc_run.specs.declared.walk.Settings.{Settings}
 use Rattle.asc_traj.specs.Finder.{Tally}
+use Rattle.asc_run.specs.Visits.{is_mark}
 use Rattle.asc_run.specs.Helped.{Aid}
 use Rattle.asc_run.specs.Walk.{Walk, GoesHelped, IsRaisedBy, new_walk, world_of}
 use Rattle.asc_run.proofs.Reach.{DoesIo-nothing}
@@ -67,16 +68,16 @@ settings_of line = record { limit = line.limit; pc = line.pc }
 
 -- a walk from an image's start with a helper that gave no jump
 module _ (line : RunLine) (content : List ℕ) (image : loader.Image) (walk : Walk) (is : walk ≡ new_walk image (settings_of line))
-    (within : length content ≤ file_limit) (loads : load_of line content ≡ Ok image) (told : Option (List ℕ)) (out err : Given) (n : ℕ)
+    (within : length content ≤ file_limit) (loads : load_of line content ≡ Ok image) (told : Option (List ℕ)) (out err : Given) (n : ℕ) (faults : Faults)
     (new : World) (first last : Aid) (none_before : first.tally.hits ≡ 0) (none_after : last.tally.hits ≡ 0) (walked : Tally) (raised : IsRaisedBy walked first.tally last.tally)
     (none : walked.given ≡ 0) (count : ℕ) (how : Ended)
-    (goes : GoesHelped walk.settings.limit walk.settings.pc (world_of walk told out err n) new first last count walked.given how) where
-  here : GoesHelped line.limit line.pc (world_of (new_walk image (settings_of line)) told out err n) new first last count walked.given how
-  here = subst (λ (w : Walk). GoesHelped w.settings.limit w.settings.pc (world_of w told out err n) new first last count walked.given how) is goes
+    (goes : GoesHelped walk.settings.limit (is_mark walk.settings.pc) (world_of walk (outside told out err n faults)) new first last count walked.given how) where
+  here : GoesHelped line.limit (is_mark line.pc) (world_of (new_walk image (settings_of line)) (outside told out err n faults)) new first last count walked.given how
+  here = subst (λ (w : Walk). GoesHelped w.settings.limit (is_mark w.settings.pc) (world_of w (outside told out err n faults)) new first last count walked.given how) is goes
 
   -- it did what its file means
   pub means_walk : (counts : Option Counts) → ((visits : ℕ) → walked.asked ≡ visits → AreNumbers (result_of_run (record { ended = how; count = count; io = nothing }) visits) counts)
-      → device_of how ≡ None → Means (outside told out err n) new.outside (record { answer = answer_at how count; counts = counts }) line content
+      → device_of how ≡ None → Means (outside told out err n faults) new.outside (record { answer = answer_at how count; counts = counts }) line content
   means_walk counts numbers going =
       let f = here.goes.follows going in
       let r = rest_of new f.known in
@@ -86,7 +87,7 @@ module _ (line : RunLine) (content : List ℕ) (image : loader.Image) (walk : Wa
       let visits = visits_of line.pc (course_of_image image left) line.limit in
       let asked : walked.asked ≡ visits =
       asked_where_marked line.pc (course_of_image image left) line.limit here.visits walked first.tally last.tally none_before none_after raised here.helped.tally (f.says r.rest r.may).are in
-      let gives : Gives (outside told out err n) new.outside (answer_at how count) (result_of_run own visits) =
+      let gives : Gives (outside told out err n faults) new.outside (answer_at how count) (result_of_run own visits) =
       record { answer = refl; does = f.does; steps = omega (arith, f.steps) } in
       let is : meaning line content left ≡ result_of_run own visits =
       meaning-within line content left within ∙ ap (λ i. result_of_load line i left) loads ∙ ap (λ (x : Run). result_of_run x visits) run in
@@ -94,12 +95,12 @@ module _ (line : RunLine) (content : List ℕ) (image : loader.Image) (walk : Wa
       record {
         left = left;
         agrees = Agrees-before told new.left f.io.taken r.rest f.does.taken r.agrees;
-        gives = subst (λ (x : ProgramResult). Gives (outside told out err n) new.outside (answer_at how count) x) (sym is) gives;
+        gives = subst (λ (x : ProgramResult). Gives (outside told out err n faults) new.outside (answer_at how count) x) (sym is) gives;
         numbers = subst (λ (x : ProgramResult). AreNumbers x counts) (sym is) told_numbers;
       }
 
   -- a device's failure stopped it
-  pub stopped_walk : (device : Device) → device_of how ≡ Some device → IsStopped (outside told out err n) new.outside device line content
+  pub stopped_walk : (device : Device) → device_of how ≡ Some device → IsStopped (outside told out err n faults) new.outside device line content
   stopped_walk device failed =
       let s = here.goes.stops device failed in
       let r = rest_of new s.known in

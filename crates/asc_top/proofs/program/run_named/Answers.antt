@@ -1,7 +1,7 @@
 -- What holds of the answers of a file that was read, and of one that is too long.
 use Rattle.std.proofs.Common.{◌≡◌, ℕ, List, Ok, ap, subst, sym, arith}
 use Rattle.asc_outside.specs.Outside.{AsksFor, MayHold, MayHoldLonger}
-use Rattle.asc_calls.specs.World.{outside}
+use Rattle.asc_calls.specs.World.{outside, faults}
 use Rattle.asc_words.specs.declared.answer.Outcome.{Outcome}
 use Rattle.asc_top.specs.Program.{file_limit}
 use Rattle.asc_top.specs.Answered.{IsAnswerTo, devices}
@@ -11,12 +11,12 @@ use Rattle.asc_top.proofs.program.run_named.Goals as goal
 pub returns-in-Ok-Longer : goal.returns-in-Ok-Longer
 returns-in-Ok-Longer g c = λ words asked.
     let name : c.as_str.result.now ≡ c.args.line.now.image = c.as_str.ensures in
-    let guest = outside (g.I.Source.left c.args.input.now) (g.O.Sink.given c.args.out.now) (g.E.Sink.given c.args.err.now) c.args.steps.now in
+    let guest = outside (g.I.Source.left c.args.input.now) (g.O.Sink.given c.args.out.now) (g.E.Sink.given c.args.err.now) c.args.steps.now (faults (g.I.Source.faults c.args.input.now) (g.O.Sink.faults c.args.out.now) (g.E.Sink.faults c.args.err.now)) in
     let longer = subst (λ (n : List ℕ). MayHoldLonger (g.F.Store.files c.args.store.now) n file_limit) name
     (c.in-Ok-Longer.ensures.longer (ap (λ x. Ok x) c.in-Ok-Longer.field-0-is)) in
     let names = subst (λ (n : List ℕ). AsksFor n (g.F.Store.asked c.args.store.now) (g.F.Store.asked c.read.new.self)) name c.in-Ok-Longer.ensures.asked in
-    let old = devices (g.F.Store.files c.args.store.now) (g.F.Store.asked c.args.store.now) guest (g.F.Store.faults c.args.store.now) (g.I.Source.faults c.args.input.now) (g.O.Sink.faults c.args.out.now) (g.E.Sink.faults c.args.err.now) in
-    let new = devices (g.F.Store.files c.read.new.self) (g.F.Store.asked c.read.new.self) guest (g.F.Store.faults c.read.new.self) (g.I.Source.faults c.args.input.now) (g.O.Sink.faults c.args.out.now) (g.E.Sink.faults c.args.err.now) in
+    let old = devices (g.F.Store.files c.args.store.now) (g.F.Store.asked c.args.store.now) (g.F.Store.faults c.args.store.now) guest in
+    let new = devices (g.F.Store.files c.read.new.self) (g.F.Store.asked c.read.new.self) (g.F.Store.faults c.read.new.self) guest in
     subst (λ (outcome : Outcome). IsAnswerTo words old new outcome) (sym c.of-in-Ok-Longer.ensures)
     (answer_of_long words _ _ _ _ c.args.line.now asked longer c.in-Ok-Longer.ensures.files names c.in-Ok-Longer.ensures.cause.stays)
 
