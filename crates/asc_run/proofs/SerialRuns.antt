@@ -45,13 +45,12 @@ module _ (limit : ℕ) (run : Course) (mark : ℕ → Bool) (first : Serial) whe
       let by_visits = subst (λ z. SerialAt limit (length z + 1) u (run u.at) t.0 y) (sym i.0) t.3.0 in
       let by_machine = subst (λ z. SerialAt limit (length vs + 1) u (run u.at) z y) (sym i.1.0) by_visits in
       let by_place = subst (λ k. SerialAt limit (length vs + 1) u (run k) s.0 y) (sym here) by_machine in
-      let r = one_reply limit (length vs + 1) v u (run v.at) s.0 x y here s.3.0 by_place in
-      (
+      let r = one_reply limit (length vs + 1) v u (run v.at) s.0 x y here s.3.0 by_place in (
         ap (λ z. z ∷ vs) (same_visit v u here r.1) ∙ ap (λ z. u ∷ z) i.0,
         (
           r.0,
           s.3.1 ∙ ap (λ k. k + made_at (length vs + 1) s.0) i.1.1 ∙ ap (λ z. t.1 + made_at (length z + 1) s.0) i.0
-          ∙ ap (λ z. t.1 + made_at (length us + 1) z) i.1.0 ∙ sym t.3.1,
+              ∙ ap (λ z. t.1 + made_at (length us + 1) z) i.1.0 ∙ sym t.3.1,
         ),
       )
 
@@ -73,27 +72,27 @@ module _ (limit : ℕ) (run : Course) (mark : ℕ → Bool) (first : Serial) whe
       let lands : u.at < b = omega (arith, later limit run u.at u.reply a.1.1.0, a.1.1.1.0) in
       elim (cases_lt k (length us)) [
         | inl h ↦ let c = oldest us u.at k s.0 s.1 a.0 s.2 h in record {
-            visits = c.visits;
-            at = c.at;
-            now = c.now;
-            made = c.made;
-            size_is = c.size_is;
-            are = c.are;
-            serial = c.serial;
-            marked = c.marked;
-            below = omega (arith, lands, c.below);
-          }
+          visits = c.visits;
+          at = c.at;
+          now = c.now;
+          made = c.made;
+          size_is = c.size_is;
+          are = c.are;
+          serial = c.serial;
+          marked = c.marked;
+          below = omega (arith, lands, c.below);
+        }
         | inr h ↦ record {
-            visits = us;
-            at = u.at;
-            now = s.0;
-            made = s.1;
-            size_is = omega arith;
-            are = a.0;
-            serial = s.2;
-            marked = a.1.0;
-            below = lands;
-          }
+          visits = us;
+          at = u.at;
+          now = s.0;
+          made = s.1;
+          size_is = omega arith;
+          are = a.0;
+          serial = s.2;
+          marked = a.1.0;
+          below = lands;
+        }
       ]
 
   -- no such list has more visits than another

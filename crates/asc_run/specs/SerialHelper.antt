@@ -1,5 +1,5 @@
 -- A helper that is the machine of a run without workers.
-use Rattle.std.specs.Prelude.{◌≡◌, ◌⊎◌, ℕ, ◌+◌, ◌-◌, ◌^◌, nat_lt, List, [], length, Option, Some, None, if◌then◌else◌}
+use Rattle.std.specs.Prelude.{◌≡◌, ◌≢◌, ◌⊎◌, ℕ, ◌+◌, ◌-◌, ◌^◌, nat_lt, List, [], length, Option, Some, None, if◌then◌else◌}
 use Rattle.std.specs.Arc.{arc_value}
 use Rattle.asc_model.specs.Shape.{Shape}
 use Rattle.asc_model.specs.State.{State}
@@ -59,9 +59,15 @@ refused_visit h = record h {
   refused = one_more h.refused;
 }
 
--- planned, or memory was wanting
+-- a visit at a state of another shape: nothing is to be made
+abbrev pub passed_over : SerialHelper → SerialHelper
+passed_over h = record h { jobs = [] }
+
+-- The visit of a state of the machine's shape was planned, or memory was wanting. One of another shape is passed over.
 abbrev pub IsPlanned : (number : ℕ) → State → (old new : SerialHelper) → Type 0
-IsPlanned number now old new = (new ≡ planned number now old) ⊎ (new ≡ refused_visit old)
+IsPlanned number now old new =
+    ((now.shape ≡ old.machine.shape) × ((new ≡ planned number now old) ⊎ (new ≡ refused_visit old)))
+    ⊎ ((now.shape ≢ old.machine.shape) × (new ≡ passed_over old))
 
 -- what became of a guess is noted: an entry is added
 abbrev pub settled : SerialHelper → Made → SerialHelper

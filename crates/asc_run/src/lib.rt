@@ -8,6 +8,8 @@ mod process;
 mod seen;
 mod serial;
 #[cfg(test)]
+mod serial_tests;
+#[cfg(test)]
 mod tests;
 mod walk;
 

@@ -1,13 +1,10 @@
-ghost use Rattle.std.specs.Prelude.{◌≡◌, ◌≢◌, ◌+◌, ◌<◌, ◌≤◌, ◌^◌, [], length, slice_index_or, Some, None, IfOk, MatchOption, ℕ, vec_capacity, vec_len, ◌*◌, ◌-◌};
-ghost use Rattle.asc_model.specs.State.{State as state_of};
-ghost use Rattle.asc_guess.specs.Guess.{guess_of};
+ghost use Rattle.std.specs.Prelude.{◌≡◌, ◌+◌, ◌-◌, ◌*◌, ◌^◌, ◌<◌, ◌≤◌, [], ◌∷◌, length, slice_index_or, vec_capacity, vec_len, Some, None, IfOk, MatchOption};
 ghost use Rattle.asc_traj.specs.Finder.{IsJump, tally_after, Tells};
 ghost use Rattle.asc_traj.specs.Serial.{Serial as machine, serial_reply};
 ghost use Rattle.asc_run.specs.Helped.{aid, Plans, VisitsMachine};
-ghost use Rattle.asc_run.specs.Serial.{bounds_at, serial_capacity};
-ghost use Rattle.asc_run.specs.Made.{IsMade};
+ghost use Rattle.asc_run.specs.Serial.{serial_capacity};
 ghost use Rattle.asc_run.specs.SerialHelper.{IsPlanned, first_helper, plan_of, settled, told_machine};
-ghost use Rattle.asc_run.specs.SerialInside.{tasks_for};
+ghost use Rattle.asc_run.specs.SerialInside.{MakesJob, tasks_for};
 
 use crate::made::make;
 use crate::seen::Seen;
@@ -114,8 +111,7 @@ impl Serial {
         requires made { self.old.made < 2 ^ 62 }
         ensures jobs { result ≡ length self.new.jobs }
         ensures few { result ≤ MOST_JOBS }
-        ensures planned { state.now.shape ≡ self.old.machine.shape → IsPlanned number state.now self.old self.new }
-        ensures other { state.now.shape ≢ self.old.machine.shape → self.new ≡ record self.old { jobs = [] } }
+        ensures planned { IsPlanned number state.now self.old self.new }
     {
         self.jobs.clear();
         if state.shape() != self.shape {
@@ -133,13 +129,7 @@ impl Serial {
             return 0;
         }
         let due = targets(self.issued, number, self.guessing.ahead);
-        list_jobs(
-            &mut self.jobs,
-            &self.guessing,
-            number,
-            due.start,
-            due.end,
-        );
+        list_jobs(&mut self.jobs, &self.guessing, number, due.start, due.end);
         self.issued = number + u64::from(self.guessing.ahead);
         self.made += self.jobs.len() as u64;
         self.jobs.len()
@@ -178,9 +168,7 @@ impl Serial {
     fn make(&mut self, i: usize) -> Made
         requires { i < length self.old.jobs }
         ensures stays { self.new ≡ self.old }
-        ensures made { (prev last : state_of) → self.old.machine.prev ≡ Some prev → self.old.machine.last ≡ Some last
-            → (kind : Kind) (ahead : ℕ) → slice_index_or self.old.jobs i (kind, ahead) ≡ (kind, ahead)
-            → IsMade (bounds_at self.old.machine.guessing last) (guess_of kind ahead prev last) result }
+        ensures made { MakesJob self.old i result }
     {
         let (kind, ahead) = self.jobs[i];
         match self.seen.pair() {
@@ -198,13 +186,7 @@ impl Serial {
 }
 
 /// Lists the guesses of these targets, which are visits after this one, each once for each kind that is on.
-fn list_jobs(
-    jobs: &mut Vec<(Kind, u32)>,
-    guessing: &Guessing,
-    number: u64,
-    start: u64,
-    end: u64,
-)
+fn list_jobs(jobs: &mut Vec<(Kind, u32)>, guessing: &Guessing, number: u64, start: u64, end: u64)
     requires none { jobs.old.items ≡ [] }
     requires room { 2 * (end - start) ≤ vec_capacity jobs.old }
     requires rises { start ≤ end }

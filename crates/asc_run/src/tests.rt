@@ -30,7 +30,7 @@ const EXIT_SEVEN: [u32; 7] = [0x05D0_0893, 0x0070_0513, 0x0000_0073, 0, 0, 0, 0]
 const ILLEGAL: [u32; 7] = [0x05D0_0893, 0x0070_0513, 0, 0, 0, 0, 0];
 
 /// A loop of two instructions from 0x10008 on, which counts x5 from 0 to 4, and then an end with code 0.
-const COUNTING: [u32; 7] = [
+pub(crate) const COUNTING: [u32; 7] = [
     0x0000_0293,
     0x0040_0313,
     0x0012_8293,
@@ -41,7 +41,7 @@ const COUNTING: [u32; 7] = [
 ];
 
 /// How a program with 64 KiB of memory and no input ends, and its numbers. A second call of `go` changes neither.
-fn run<H: Helper, L: Ledger, R: Abort>(
+pub(crate) fn run<H: Helper, L: Ledger, R: Abort>(
     rt: &R,
     alloc: Global,
     blank: Blank,

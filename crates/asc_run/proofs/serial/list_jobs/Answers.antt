@@ -9,15 +9,15 @@ pub loop-target-preserved : goal.loop-target-preserved
 loop-target-preserved c = record {
   items =
       let ys : c.if-guessing.jobs.items ≡ c.loop-target.jobs.items ++ one_if c.args.guessing.now.last (Last, c.loop-target.target - c.args.number) =
-          elim c.if-guessing.branch [
-            | then-guessing w ↦ pushed-on _ _ _ _ w.if-guessing.true (ap (λ v. v.items) w.jobs-is ∙ w.push_reserved.ensures.items)
-            | else-guessing w ↦ pushed-off _ _ _ _ w.if-guessing.false (ap (λ v. v.items) w.jobs-is)
-          ] in
+      elim c.if-guessing.branch [
+        | then-guessing w ↦ pushed-on _ _ _ _ w.if-guessing.true (ap (λ v. v.items) w.jobs-is ∙ w.push_reserved.ensures.items)
+        | else-guessing w ↦ pushed-off _ _ _ _ w.if-guessing.false (ap (λ v. v.items) w.jobs-is)
+      ] in
       let zs : c.if-guessing-2.jobs.items ≡ c.if-guessing.jobs.items ++ one_if c.args.guessing.now.stride (Stride, c.loop-target.target - c.args.number) =
-          elim c.if-guessing-2.branch [
-            | then-guessing-2 w ↦ pushed-on _ _ _ _ w.if-guessing-2.true (ap (λ v. v.items) w.jobs-is ∙ w.push_reserved-then-guessing-2.ensures.items)
-            | else-guessing-2 w ↦ pushed-off _ _ _ _ w.if-guessing-2.false (ap (λ v. v.items) w.jobs-is)
-          ] in
+      elim c.if-guessing-2.branch [
+        | then-guessing-2 w ↦ pushed-on _ _ _ _ w.if-guessing-2.true (ap (λ v. v.items) w.jobs-is ∙ w.push_reserved-then-guessing-2.ensures.items)
+        | else-guessing-2 w ↦ pushed-off _ _ _ _ w.if-guessing-2.false (ap (λ v. v.items) w.jobs-is)
+      ] in
       jobs-more c.args.guessing.now c.args.number c.args.start c.loop-target.target _ _ _ c.loop-target.auto.target c.loop-target.invariant.items ys zs;
   few =
       let f : vec_len c.if-guessing.jobs ≤ vec_len c.loop-target.jobs + 1 = elim c.if-guessing.branch [
