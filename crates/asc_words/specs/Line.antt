@@ -38,14 +38,15 @@ abbrev pub address_of : Option Text → Result (Option ℕ) Bad
 address_of None = Ok None
 address_of (Some text) = if is_address text then Ok (Some (digits_value 16 text)) else Err Pc
 
--- which guesses a word asks for: those that the last visit gives, and those that the stride from the one before gives
-abbrev pub guesses_of : Text → Option Guesses
+-- The guesses that a word asks for: whether the state at the last visit is guessed again, and whether those that the
+-- last two visits lead to.
+abbrev pub guesses_of : Text → Result Guesses Bad
 guesses_of text =
-    if bytes_eq text (codes "none") then Some (record { last = false; stride = false })
-    else if bytes_eq text (codes "last") then Some (record { last = true; stride = false })
-    else if bytes_eq text (codes "stride") then Some (record { last = false; stride = true })
-    else if bytes_eq text (codes "both") then Some (record { last = true; stride = true })
-    else None
+    if bytes_eq text (codes "none") then Ok (record { last = false; stride = false })
+    else if bytes_eq text (codes "last") then Ok (record { last = true; stride = false })
+    else if bytes_eq text (codes "stride") then Ok (record { last = false; stride = true })
+    else if bytes_eq text (codes "both") then Ok (record { last = true; stride = true })
+    else Err Words
 
 -- ---- lines
 
@@ -72,10 +73,10 @@ run_with rows guesses pc = record {
 }
 
 -- wrong words come before a wrong address
-abbrev pub run_at : List Row → Option Guesses → Result (Option ℕ) Bad → Result Line Bad
-run_at rows None pc = Err Words
-run_at rows (Some guesses) (Ok pc) = Ok (Run (run_with rows guesses pc))
-run_at rows (Some guesses) (Err bad) = Err bad
+abbrev pub run_at : List Row → Result Guesses Bad → Result (Option ℕ) Bad → Result Line Bad
+run_at rows (Err bad) pc = Err bad
+run_at rows (Ok guesses) (Ok pc) = Ok (Run (run_with rows guesses pc))
+run_at rows (Ok guesses) (Err bad) = Err bad
 
 -- the line of `asc run`, of what clap found for its arguments, or what is wrong with them
 abbrev pub run_of : List Row → Result Line Bad

@@ -1,7 +1,7 @@
 //! The command that `clap` reads.
 ghost use Rattle.std.specs.Prelude.{◌≡◌, IfOk, false};
 ghost use Rattle.clap.specs.Words.{app_of, rule_of};
-ghost use Rattle.asc_words.specs.Command.{asc_command, flag, number_argument, make_command, number_option, required, run_command, text_option, trial_command, workers_option};
+ghost use Rattle.asc_words.specs.Command.{asc_command, flag, number_argument, make_command, number_option, required, run_command, text_option, text_with_default, trial_command, workers_option};
 ghost use Rattle.asc_words.specs.Subcommands.{IsSubcommand};
 
 use clap::builder::ValueParser;
@@ -30,7 +30,7 @@ fn run_command<'a>(alloc: Global) -> Result<Command<'a>, AllocError>
         .arg(number(alloc, "memory", 64, 65_536, "1024"))?
         .arg(number(alloc, "steps", 0, 1 << 40, "1099511627776"))?
         .arg(number(alloc, "machine", 1, 2, "2"))?
-        .arg(text(alloc, "guess").default_value("stride"))?
+        .arg(text_with_default(alloc, "guess", "stride"))?
         .arg(text(alloc, "pc"))?
         .arg(number(alloc, "profile", 2, 65_536, "4096"))?
         .arg(number(alloc, "min", 2, 65_536, "4"))?
@@ -99,6 +99,14 @@ fn text<'a>(alloc: Global, name: &'a str) -> Arg<'a>
     ensures local { result.global ≡ false }
 {
     Arg::new(alloc, name).long(name)
+}
+
+/// `--NAME TEXT`, and what it is where it is absent.
+fn text_with_default<'a>(alloc: Global, name: &'a str, default: &'a str) -> Arg<'a>
+    ensures rule { rule_of result ≡ text_with_default name.entry.now default.entry.now }
+    ensures local { result.global ≡ false }
+{
+    text(alloc, name).default_value(default)
 }
 
 /// `--NAME`, which takes no value.

@@ -170,7 +170,7 @@ fn run_line(alloc: Global, found: &ArgMatches<'_>) -> Result<RunLine, LineFault>
     ensures usage { (bad : Bad) → result ≡ Err (LineFault.Usage bad)
         → run_of (rows_of (found_of found.now)) ≡ Err bad }
 {
-    let guesses = guesses_of(found.get_str("guess").unwrap()).ok_or(Bad::Words)?;
+    let guesses = guesses_of(found.get_str("guess").unwrap())?;
     let pc = address(found.get_str("pc"))?;
     Ok(RunLine {
         image: FileName::new(String::from_str(alloc, found.get_str("image").unwrap())?),
@@ -192,7 +192,7 @@ fn run_line(alloc: Global, found: &ArgMatches<'_>) -> Result<RunLine, LineFault>
 }
 
 /// The guesses that a word asks for.
-fn guesses_of(word: &str) -> Option<Guesses>
+fn guesses_of(word: &str) -> Result<Guesses, Bad>
     ensures { result ≡ guesses_of word.now }
 {
     let (last, stride) = match word {
@@ -200,9 +200,9 @@ fn guesses_of(word: &str) -> Option<Guesses>
         "last" => (true, false),
         "stride" => (false, true),
         "both" => (true, true),
-        _ => return None,
+        _ => return Err(Bad::Words),
     };
-    Some(Guesses { last, stride })
+    Ok(Guesses { last, stride })
 }
 
 /// The number that was found for an option.
