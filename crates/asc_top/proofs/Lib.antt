@@ -1,4 +1,0 @@
-pub mod Causes
-pub mod Visited
-pub mod Outcomes
-pub mod Headline

@@ -1,7 +1,6 @@
 -- All that holds of an answer, whatever then becomes of its report.
 use Rattle.std.specs.Prelude.{◌≡◌, ◌≢◌, ◌⊎◌, ◌↔◌, ℕ, ◌<◌, List, [], length, Option, Some, None, Result, Ok, Err, IsSome, IsTrue}
 use Rattle.asc_model.specs.declared.fault.Fault.{Fault}
-<<<<<<< HEAD
 use Rattle.asc_outside.specs.Outside.{File, Blames, AsksFor, Given, MayHold, content_of, given_after}
 use Rattle.asc_elf.specs.declared.fault.ElfFault.{ElfFault}
 use Rattle.asc_calls.specs.GuestCall.{Device, Out}
@@ -9,13 +8,6 @@ use Rattle.asc_calls.specs.World.{Outside, BlamesOnly}
 use Rattle.asc_make.specs.File.{image_of}
 use Rattle.asc_run.specs.declared.walk.Ended.TheVariants as ends
 use Rattle.asc_run.specs.Execution.{Run}
-=======
-use Rattle.asc_outside.specs.Outside.{File, AsksFor, Blames, content_of}
-use Rattle.asc_elf.specs.declared.fault.ElfFault.{ElfFault}
-use Rattle.asc_calls.specs.GuestCall.{Device}
-use Rattle.asc_calls.specs.World.{Outside, BlamesOnly}
-use Rattle.asc_run.specs.declared.walk.Ended.TheVariants as ends
->>>>>>> 19d955ddf699b8660f7298b7303c73f18ba2783a
 use Rattle.asc_words.specs.Line.{line_of}
 use Rattle.asc_words.specs.Report.{trial_text}
 use Rattle.asc_words.specs.declared.line.RunLine.{RunLine}
@@ -41,17 +33,12 @@ pub record Devices : Type 0 where
   pub guest : Outside
 
 abbrev pub devices : Option (List File) → Option (List (List ℕ)) → (store_faults : ℕ) → Outside → Devices
-<<<<<<< HEAD
 devices files asked store_faults guest = record {
   files = files;
   asked = asked;
   store_faults = store_faults;
   guest = guest;
 }
-=======
-devices files asked store_faults guest =
-    record { files = files; asked = asked; store_faults = store_faults; guest = guest }
->>>>>>> 19d955ddf699b8660f7298b7303c73f18ba2783a
 
 -- the store tells that it holds a file of that name with this content
 abbrev pub IsHeld : Option (List File) → (name content : List ℕ) → Type 0

@@ -1,5 +1,5 @@
 //! `asc trial`.
-ghost use Rattle.std.specs.Prelude.{◌≡◌, List, Option, Ok, ℕ};
+ghost use Rattle.std.specs.Prelude.{◌≡◌, ◌≤◌, List, Option, Ok, ℕ};
 ghost use Rattle.asc_outside.specs.Outside.{File, Given};
 ghost use Rattle.asc_calls.specs.World.{faults, outside};
 ghost use Rattle.asc_top.specs.Program.{trial_run};
