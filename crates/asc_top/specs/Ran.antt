@@ -1,5 +1,7 @@
 -- What the functions of this crate promise that run a program.
-use Rattle.std.specs.Prelude.{◌≡◌, ◌≢◌, ◌↔◌, ℕ, Bool, IsTrue, ◌+◌, ◌≤◌, List, Option, Some, None, IsSome, IfSome}
+use Rattle.std.specs.Prelude.{◌≡◌, ◌≢◌, ◌↔◌, ℕ, Bool, IsTrue, ◌+◌, ◌≤◌, List, Option, Some, None, Ok, IsSome, IfSome}
+use Rattle.asc_model.specs.Shape.{IsShape}
+use Rattle.asc_elf.specs.Image as loader
 use Rattle.asc_calls.specs.GuestCall.{Device}
 use Rattle.asc_calls.specs.World.{Outside, BlamesOnly}
 use Rattle.asc_traj.specs.Finder.{Tally}
@@ -12,7 +14,7 @@ use Rattle.asc_run.specs.Visits.{is_mark}
 use Rattle.asc_words.specs.declared.line.RunLine.{RunLine}
 use Rattle.asc_words.specs.declared.answer.Answer.TheVariants as answers
 use Rattle.asc_words.specs.declared.answer.Outcome.{Outcome}
-use Rattle.asc_top.specs.Program.{IsStopped, answer_at}
+use Rattle.asc_top.specs.Program.{IsStopped, answer_at, load_of}
 use Rattle.asc_top.specs.Numbers.{Means, counts_of, reported_counts}
 use Rattle.asc_top.specs.Kinds.{Finished, IsRefusal, device_of_answer, kind_of}
 
@@ -24,6 +26,7 @@ pub record Ran (old new : Outside) (line : RunLine) (content : List ℕ) (outcom
       → IsStopped old new device line content
   pub refused : IsRefusal outcome.answer → new ≡ old
   pub counts : IsSome outcome.counts ↔ (IsTrue line.report × (kind_of outcome.answer ≡ Finished))
+  pub shape : (image : loader.Image) → load_of line content ≡ Ok image → IsShape image.start.shape
   pub limit : IfSome outcome.counts (λ counts. counts.executed + counts.skipped ≤ line.limit)
   pub faults : BlamesOnly (device_of_answer outcome.answer) old.faults new.faults
 

@@ -72,6 +72,7 @@ pub(crate) fn run_file<I: Source, O: Sink, E: Sink, L: Ledger>(
         Ok(image) => image,
         Err(fault) => return Outcome::of(Answer::Image(fault)),
     };
+    let shape = image.shape();
     let Ok(mut walk) = Walk::new(alloc, &image, settings_of(line)) else {
         return Outcome::of(Answer::Memory);
     };
@@ -79,7 +80,7 @@ pub(crate) fn run_file<I: Source, O: Sink, E: Sink, L: Ledger>(
         let mut helper = Bare::new(Nothing::new());
         return run_with(line.report, &mut walk, &mut helper, input, out, err, steps);
     }
-    match Serial::new(alloc, image.shape(), guessing_of(line)) {
+    match Serial::new(alloc, shape, guessing_of(line)) {
         Ok(mut helper) => run_with(line.report, &mut walk, &mut helper, input, out, err, steps),
         Err(Memory) => Outcome::of(Answer::Memory),
     }

@@ -1,0 +1,173 @@
+-- When the answers of a file that was run come.
+use Rattle.std.proofs.Common.{◌≡◌, ℕ, ◌<◌, ◌≤◌, Bool, true, false, nat_lt, cond, List, length, Option, Some, None, Result, Ok, Err, refl, sym, ◌∙◌, ap, subst, arith}
+use Rattle.std.proofs.lemmas.Bool.Decides.{nat_tests}
+use Rattle.asc_model.specs.declared.fault.Fault.{Fault}
+use Rattle.asc_calls.specs.World.{Outside}
+use Rattle.asc_elf.specs.declared.fault.ElfFault.{ElfFault}
+use Rattle.asc_elf.specs.Image as loader
+use Rattle.asc_run.specs.declared.walk.Ended.{Ended}
+use Rattle.asc_run.specs.declared.walk.Ended.TheVariants as ends
+use Rattle.asc_run.specs.Execution.{Run}
+use Rattle.asc_words.specs.declared.line.RunLine.{RunLine}
+use Rattle.asc_words.specs.declared.answer.Answer.{Answer}
+use Rattle.asc_words.specs.declared.answer.Answer.TheVariants as answers
+use Rattle.asc_words.specs.declared.answer.Outcome.{Outcome}
+use Rattle.asc_words.specs.declared.answer.Bad.{Bad}
+use Rattle.asc_top.specs.Program.{file_limit, load_of, IsNoImage, answer_at, refusal, result_of_load, run_of_image, meaning, Runs}
+use Rattle.asc_top.specs.Numbers.{Means}
+use Rattle.asc_top.specs.Kinds.{Finished, kind_of}
+
+-- a file that is not too long means what its load comes to
+pub meaning-within : (line : RunLine) (content left : List ℕ) → length content ≤ file_limit → meaning line content left ≡ result_of_load line (load_of line content) left
+unfolding meaning
+meaning-within line content left within =
+    let short : nat_lt file_limit (length content) ≡ false = grind (arith, nat_tests) in
+    ap (λ (b : Bool). cond b (refusal answers.TooLong) (result_of_load line (load_of line content) left)) short
+
+-- one that is too long is refused
+pub meaning-long : (line : RunLine) (content left : List ℕ) → file_limit < length content → meaning line content left ≡ refusal answers.TooLong
+unfolding meaning
+meaning-long line content left long =
+    let is : nat_lt file_limit (length content) ≡ true = grind (arith, nat_tests) in
+    ap (λ (b : Bool). cond b (refusal answers.TooLong) (result_of_load line (load_of line content) left)) is
+
+-- the image of a load, and the answer of its run
+record RunOf (line : RunLine) (result : Result loader.Image ElfFault) (left : List ℕ) (answered : Answer) : Type 0 where
+  image : loader.Image
+  loads : result ≡ Ok image
+  answer : answered ≡ answer_at (run_of_image line image left).ended (run_of_image line image left).count
+
+-- an answer of a guest that ended by itself is an image's
+run_of-answer : (line : RunLine) (result : Result loader.Image ElfFault) (left : List ℕ) (answered : Answer) → kind_of answered ≡ Finished
+    → answered ≡ (result_of_load line result left).answer → RunOf line result left answered
+run_of-answer line (Ok image) left answered ended is = record { image = image; loads = refl; answer = is }
+run_of-answer line (Err fault) left answered ended is = let refused = ap kind_of is in absurd (cc)
+
+-- how a run ended, by its answer
+end_in : Answer → Option Ended
+end_in (answers.Exit code) = Some (ends.Exit code)
+end_in (answers.Done refused) = None
+end_in (answers.Limit count) = Some ends.Limit
+end_in (answers.Fault fault count) = Some (ends.Fault fault)
+end_in answers.ReadFault = Some ends.ReadFault
+end_in answers.WriteFault = Some ends.WriteFault
+end_in answers.ErrFault = Some ends.ErrFault
+end_in (answers.Usage bad) = None
+end_in (answers.Image fault) = None
+end_in answers.TooLong = None
+end_in answers.StoreFault = None
+end_in answers.Memory = None
+end_in answers.ReportFault = None
+
+end_in-answer_at : (how : Ended) (count : ℕ) → end_in (answer_at how count) ≡ Some how
+unfolding end_in
+end_in-answer_at (ends.Exit code) count = refl
+end_in-answer_at (ends.Fault fault) count = refl
+end_in-answer_at ends.Limit count = refl
+end_in-answer_at ends.ReadFault count = refl
+end_in-answer_at ends.WriteFault count = refl
+end_in-answer_at ends.ErrFault count = refl
+
+-- the answer of a run tells how it ended
+end_of : (how own : Ended) (count : ℕ) (answered : Answer) → end_in answered ≡ Some own → answered ≡ answer_at how count → how ≡ own
+end_of how own count answered own_is is =
+    let ends_so : end_in answered ≡ Some how = ap end_in is ∙ end_in-answer_at how count in
+    cc
+
+limit_of : (how : Ended) (count n : ℕ) → how ≡ ends.Limit → answers.Limit n ≡ answer_at how count → count ≡ n
+limit_of how count n ended is =
+    let limit : answers.Limit n ≡ answers.Limit count = is ∙ ap (λ (h : Ended). answer_at h count) ended in
+    cc
+
+fault_of : (how : Ended) (count n : ℕ) (f : Fault) → how ≡ ends.Fault f → answers.Fault f n ≡ answer_at how count → count ≡ n
+fault_of how count n f ended is =
+    let fault : answers.Fault f n ≡ answers.Fault f count = is ∙ ap (λ (h : Ended). answer_at h count) ended in
+    cc
+
+-- an answer of a load by which no run ended is that of a file that is no image
+record IsOfFault (result : Result loader.Image ElfFault) (answered : Answer) : Type 0 where
+  fault : ElfFault
+  loads : result ≡ Err fault
+  answer : answered ≡ answers.Image fault
+
+of_fault : (line : RunLine) (result : Result loader.Image ElfFault) (left : List ℕ) (answered : Answer) → end_in answered ≡ None
+    → answered ≡ (result_of_load line result left).answer → IsOfFault result answered
+of_fault line (Err fault) left answered none is = record { fault = fault; loads = refl; answer = is }
+of_fault line (Ok image) left answered none is =
+    let run = run_of_image line image left in
+    let ended : end_in answered ≡ Some run.ended = ap end_in is ∙ end_in-answer_at run.ended run.count in
+    absurd (cc)
+
+module _ (line : RunLine) (content : List ℕ) (within : length content ≤ file_limit) (old new : Outside) (outcome : Outcome) (m : Means old new outcome line content) where
+  answer : outcome.answer ≡ (result_of_load line (load_of line content) m.left).answer
+  answer = subst (λ r. outcome.answer ≡ r.answer) (meaning-within line content m.left within) m.gives.answer
+
+  runs : (P : Run → Type 0) → kind_of outcome.answer ≡ Finished
+      → ((image : loader.Image) (left : List ℕ) → outcome.answer ≡ answer_at (run_of_image line image left).ended (run_of_image line image left).count → P (run_of_image line image left))
+      → Runs old.left P line content
+  runs P ended holds =
+      let o = run_of-answer line (load_of line content) m.left outcome.answer ended answer in
+      record {
+        within = within;
+        image = o.image;
+        loads = o.loads;
+        left = m.left;
+        agrees = m.agrees;
+        holds = holds o.image m.left o.answer;
+      }
+
+  -- how the run of such an answer ended
+  ends_as : (own : Ended) (known : Answer) → outcome.answer ≡ known → end_in known ≡ Some own → (image : loader.Image) (left : List ℕ)
+      → outcome.answer ≡ answer_at (run_of_image line image left).ended (run_of_image line image left).count → (run_of_image line image left).ended ≡ own
+  ends_as own known is own_is image left answer =
+      let run = run_of_image line image left in
+      end_of run.ended own run.count outcome.answer (ap end_in is ∙ own_is) answer
+
+  pub runs-exit : (code : ℕ) → outcome.answer ≡ answers.Exit code → Runs old.left (λ run. run.ended ≡ ends.Exit code) line content
+  unfolding end_in
+  runs-exit code is = runs _ (ap kind_of is) (ends_as (ends.Exit code) (answers.Exit code) is refl)
+
+  pub runs-limit : (count : ℕ) → outcome.answer ≡ answers.Limit count → Runs old.left (λ run. (run.ended ≡ ends.Limit) × (run.count ≡ count)) line content
+  unfolding end_in
+  runs-limit count is = runs _ (ap kind_of is) (λ image left answer.
+      let run = run_of_image line image left in
+      let ended : run.ended ≡ ends.Limit = ends_as ends.Limit (answers.Limit count) is refl image left answer in
+      (ended, limit_of run.ended run.count count ended (sym is ∙ answer)))
+
+  pub runs-fault : (fault : Fault) (count : ℕ) → outcome.answer ≡ answers.Fault fault count → Runs old.left (λ run. (run.ended ≡ ends.Fault fault) × (run.count ≡ count)) line content
+  unfolding end_in
+  runs-fault fault count is = runs _ (ap kind_of is) (λ image left answer.
+      let run = run_of_image line image left in
+      let ended : run.ended ≡ ends.Fault fault = ends_as (ends.Fault fault) (answers.Fault fault count) is refl image left answer in
+      (ended, fault_of run.ended run.count count fault ended (sym is ∙ answer)))
+
+  unrun : (known : Answer) → outcome.answer ≡ known → end_in known ≡ None → IsOfFault (load_of line content) outcome.answer
+  unrun known is none = of_fault line (load_of line content) m.left outcome.answer (ap end_in is ∙ none) answer
+
+  pub image-is : (fault : ElfFault) → outcome.answer ≡ answers.Image fault → IsNoImage fault line content
+  unfolding end_in
+  image-is fault is =
+      let of = unrun (answers.Image fault) is refl in
+      let same : of.fault ≡ fault = cc (of.answer, is) in
+      record { within = within; loads = of.loads ∙ ap (λ (f : ElfFault). Err f) same }
+
+  -- answers that no file that was read gives
+  pub usage-never : (bad : Bad) → outcome.answer ≡ answers.Usage bad → ⊥
+  unfolding end_in
+  usage-never bad is = let of = unrun (answers.Usage bad) is refl in cc (of.answer, is)
+
+  pub too_long-never : outcome.answer ≡ answers.TooLong → ⊥
+  unfolding end_in
+  too_long-never is = let of = unrun answers.TooLong is refl in cc (of.answer, is)
+
+  pub done-never : (refused : ℕ) → outcome.answer ≡ answers.Done refused → ⊥
+  unfolding end_in
+  done-never refused is = let of = unrun (answers.Done refused) is refl in cc (of.answer, is)
+
+  pub report_fault-never : outcome.answer ≡ answers.ReportFault → ⊥
+  unfolding end_in
+  report_fault-never is = let of = unrun answers.ReportFault is refl in cc (of.answer, is)
+
+  pub store_fault-never : outcome.answer ≡ answers.StoreFault → ⊥
+  unfolding end_in
+  store_fault-never is = let of = unrun answers.StoreFault is refl in cc (of.answer, is)
