@@ -115,38 +115,38 @@ machine-more true limit c k run r s reply vs start old now new e at shape number
 -- ---- all that a walk says of a run
 
 -- All that is said of a run while a walk goes on that had no mark up to a count: so far it has these visits, and from that
--- count on a count is a mark where the run goes on at an address.
+-- count on, below the limit, a count is a mark where the run goes on at an address.
 pub record SoFar (limit : ℕ) (mark : Course → ℕ → Bool) (address : Option ℕ) (from : ℕ) (start : State) (visits : List Visit) (old now : Aid) (to : ℕ) (run : Course) : Type 0 where
   pub has : HasVisits limit mark start visits old now to run
-  pub later : (count : ℕ) → from ≤ count → mark run count ≡ goes_on_at address (run count)
+  pub later : (count : ℕ) → from ≤ count → count < limit → mark run count ≡ goes_on_at address (run count)
 
 module _ (limit : ℕ) (mark : Course → ℕ → Bool) (address : Option ℕ) (from : ℕ) (start : State) where
   -- no visit yet
-  pub SoFar-first : (a : Aid) (run : Course) → IsMarkedFrom from address (mark run) run → SoFar limit mark address from start [] a a from run
+  pub SoFar-first : (a : Aid) (run : Course) → IsMarkedFrom limit from address (mark run) run → SoFar limit mark address from start [] a a from run
   SoFar-first a run marked = record {
     has = record { are = marked.none; serial = λ m told shape memory. (m, 0, told, refl, ((refl, refl), omega arith)) };
     later = marked.later;
   }
 
-  module _ (s : State) (c k : ℕ) (visits : List Visit) (old now new : Aid) (least : from ≤ c) (shape : s.shape ≡ start.shape) (number : k ≡ length visits) (earlier : old.plan.refused ≤ now.plan.refused) (later : now.plan.refused ≤ new.plan.refused) where
+  module _ (s : State) (c k : ℕ) (visits : List Visit) (old now new : Aid) (least : from ≤ c) (below : c < limit) (shape : s.shape ≡ start.shape) (number : k ≡ length visits) (earlier : old.plan.refused ≤ now.plan.refused) (later : now.plan.refused ≤ new.plan.refused) where
     -- a landing from which it does not jump
     pub SoFar-step : Lands (is_at address s) k s (limit - c) None now new
         → Leads (SoFar limit mark address from start visits old now c) (SoFar limit mark address from start (with_landing (is_at address s) c None visits) old new (c + 1)) s c
     SoFar-step lands run r e at q = record {
       has = record {
-        are = AreVisits-step (is_at address s) limit run (mark run) visits c q.has.are (q.later c least ∙ goes_on_at-on address (run c) r s e at);
+        are = AreVisits-step (is_at address s) limit run (mark run) visits c q.has.are (q.later c least below ∙ goes_on_at-on address (run c) r s e at);
         serial = machine-more (is_at address s) limit c k run r s None visits start old now new e at shape number earlier later lands q.has.serial;
       };
       later = q.later;
     }
 
     -- a jump
-    pub SoFar-jump : (t : State) (n : ℕ) → c < limit → JumpsBy n (limit - c) s t → (is_at address s ≡ false → Some n ≡ None) → Lands (is_at address s) k s (limit - c) (Some n) now new
+    pub SoFar-jump : (t : State) (n : ℕ) → JumpsBy n (limit - c) s t → (is_at address s ≡ false → Some n ≡ None) → Lands (is_at address s) k s (limit - c) (Some n) now new
         → Leads (SoFar limit mark address from start visits old now c) (SoFar limit mark address from start (with_landing (is_at address s) c (Some n) visits) old new (c + n)) s c
-    SoFar-jump t n below jump passed lands run r e at q =
+    SoFar-jump t n jump passed lands run r e at q =
         let most = jump.most in record {
           has = record {
-            are = AreVisits-jump (is_at address s) limit run (mark run) visits c n q.has.are (q.later c least ∙ goes_on_at-on address (run c) r s e at) passed jump.least (omega (arith, most))
+            are = AreVisits-jump (is_at address s) limit run (mark run) visits c n q.has.are (q.later c least below ∙ goes_on_at-on address (run c) r s e at) passed jump.least (omega (arith, most))
                 (GoesPlain-on n (run c) r s t e at jump.goes);
             serial = machine-more (is_at address s) limit c k run r s (Some n) visits start old now new e at shape number earlier later lands q.has.serial;
           };
@@ -154,16 +154,16 @@ module _ (limit : ℕ) (mark : Course → ℕ → Bool) (address : Option ℕ) (
         }
 
   -- plain steps that pass the address: no count between is a mark
-  pub SoFar-passed : (s t : State) (c n : ℕ) (visits : List Visit) (old now : Aid) → from ≤ c → 0 < n → plain n s ≡ At t → Passes address s n
+  pub SoFar-passed : (s t : State) (c n : ℕ) (visits : List Visit) (old now : Aid) → from ≤ c → c + n ≤ limit → 0 < n → plain n s ≡ At t → Passes address s n
       → LeadsAlong (SoFar limit mark address from start visits old now (c + 1)) (SoFar limit mark address from start visits old now (c + n)) s c
-  SoFar-passed s t c n visits old now least some goes passes run r e at along q = record {
+  SoFar-passed s t c n visits old now least within some goes passes run r e at along q = record {
     has = record {
       are = AreVisits-later limit run (mark run) visits (c + 1) (c + n) q.has.are (omega arith) (λ count from_c to.
           let k : ℕ = count - c in
           let sum : c + k ≡ count = omega arith in
           let reached = plain-part k n s t (omega arith) goes in
           let there = ap run (sym sum) ∙ along k reached.0 reached.1 in
-          q.later count (omega arith) ∙ goes_on_at-on address (run count) (record r { state = reached.0 }) reached.0 refl there ∙ passes k (omega arith) (omega arith) reached.0 reached.1);
+          q.later count (omega arith) (omega arith) ∙ goes_on_at-on address (run count) (record r { state = reached.0 }) reached.0 refl there ∙ passes k (omega arith) (omega arith) reached.0 reached.1);
       serial = q.has.serial;
     };
     later = q.later;
@@ -173,6 +173,6 @@ module _ (limit : ℕ) (mark : Course → ℕ → Bool) (address : Option ℕ) (
   pub SoFar-end : (s : State) (c : ℕ) (visits : List Visit) (old now : Aid) → from ≤ c → c < limit
       → LeadsToEnd (SoFar limit mark address from start visits old now (c + 1)) (HasVisits limit mark start visits old now limit) s c
   SoFar-end s c visits old now least below run r e at off q = record {
-    are = AreVisits-later limit run (mark run) visits (c + 1) limit q.has.are (omega arith) (λ m le l. q.later m (omega arith) ∙ goes_on_at-off address (run m) (off m (omega arith)));
+    are = AreVisits-later limit run (mark run) visits (c + 1) limit q.has.are (omega arith) (λ m le l. q.later m (omega arith) l ∙ goes_on_at-off address (run m) (off m (omega arith)));
     serial = q.has.serial;
   }

@@ -1,5 +1,5 @@
 -- A walk so far: one landing more, one turn more, and the end.
-use Rattle.std.proofs.Common.{◌≡◌, ◌≤◌, ◌<◌, ◌+◌, ◌-◌, ◌^◌, ℕ, Bool, false, List, [], length, Option, Some, None, refl, sym, ap, ◌∙◌, subst, arith}
+use Rattle.std.proofs.Common.{◌≡◌, ◌≤◌, ◌<◌, ◌+◌, ◌-◌, ◌^◌, ℕ, Bool, false, List, [], length, Option, Some, None, sym, ap, ◌∙◌, subst, arith}
 use Rattle.asc_model.specs.State.{State}
 use Rattle.asc_model.specs.Step.{At}
 use Rattle.asc_model.specs.Plain.{plain}
@@ -12,17 +12,12 @@ use Rattle.asc_run.specs.declared.walk.Ended.{Ended}
 use Rattle.asc_run.specs.declared.walk.Ended.TheVariants.{Limit}
 use Rattle.asc_run.specs.Execution.{device_of}
 use Rattle.asc_run.specs.Turn.{Turns, TurnFails}
-use Rattle.asc_run.specs.Visits.{Course, Visit, Passes, IsMarkedFrom, is_at, is_mark, with_landing}
+use Rattle.asc_run.specs.Visits.{Course, Visit, Passes, is_at, with_landing}
 use Rattle.asc_run.specs.Helped.{Aid, HasRoom, Helped, Lands, Plans, HasVisits}
 use Rattle.asc_run.specs.Way.{Reaches, ComesUnmarked}
 use Rattle.asc_run.specs.Walk.{tally, GoesHelped, StopsAt, IsRaisedBy}
-use Rattle.asc_run.proofs.Reach.{Reaches-first_position, Reaches-turn, Reaches-says, Reaches-along, Reaches-jump, Reaches-steps, Follows-turn, Follows-limit, StopsAt-fails}
+use Rattle.asc_run.proofs.Reach.{Reaches-turn, Reaches-says, Reaches-along, Reaches-jump, Reaches-steps, Follows-turn, Follows-limit, StopsAt-fails}
 use Rattle.asc_run.proofs.Landings.{Helped-none, Helped-more, number-more, SoFar, SoFar-first, SoFar-step, SoFar-jump, SoFar-passed, SoFar-end}
-
--- a program that has not begun has come nowhere
-pub comes-first : (address : Option ℕ) (w : World) (n : ℕ) → w.calls.ended ≡ false → w.calls.brk ≡ w.calls.low → n ≡ 0 → ComesUnmarked (is_mark address) address w w n
-comes-first address w n going brk none =
-    Reaches-first_position (λ run. IsMarkedFrom n address (is_mark address run) run) w n (λ run. record { none = λ count _ below. absurd (let no : ⊥ = omega (arith, below, none) in no); later = λ _ _. refl }) going brk none
 
 -- From old to now a walk went on for c steps, of which k were jumped over. Its visits, which are so many, are all up to a
 -- count. It had no mark up to another, and from there on it has one wherever it goes on at an address.
@@ -32,7 +27,7 @@ WalksOn limit mark address from old now c to k number first last = (visits : Lis
 
 module _ (limit : ℕ) (mark : Course → ℕ → Bool) (address : Option ℕ) (from : ℕ) (old : World) where
   -- a walk that made no visit
-  pub walk-first : (here : World) (k number : ℕ) (a : Aid) → k ≡ 0 → number ≡ 0 → ComesUnmarked mark address old here from → WalksOn limit mark address from old here from from k number a a
+  pub walk-first : (here : World) (k number : ℕ) (a : Aid) → k ≡ 0 → number ≡ 0 → ComesUnmarked limit mark address old here from → WalksOn limit mark address from old here from from k number a a
   walk-first here k number a none_skipped none_asked way = (
     [],
     Helped-none a,
@@ -44,12 +39,12 @@ module _ (limit : ℕ) (mark : Course → ℕ → Bool) (address : Option ℕ) (
   )
 
   module _ (s t : State) (calls calls' : CallState) (left : Option (List ℕ)) (out err : Given) (steps : ℕ) (faults : Faults) (c c' k k' number number' : ℕ) (first now new : Aid)
-      (least : from ≤ c) (same_calls : calls' ≡ calls) (same_count : c' ≡ c) (same_skipped : k' ≡ k) where
+      (least : from ≤ c) (below : c < limit) (same_calls : calls' ≡ calls) (same_count : c' ≡ c) (same_skipped : k' ≡ k) where
     -- a landing that jumps
-    pub walk-jump : (m : ℕ) → c < limit → IsJump (Some m) (limit - c) s t → (is_at address s ≡ false → Some m ≡ None) → WalksOn limit mark address from old (world s calls left out err steps faults) c c k number first now
+    pub walk-jump : (m : ℕ) → IsJump (Some m) (limit - c) s t → (is_at address s ≡ false → Some m ≡ None) → WalksOn limit mark address from old (world s calls left out err steps faults) c c k number first now
         → number' ≡ number + length (with_landing (is_at address s) c (Some m) []) → Helped (with_landing (is_at address s) c (Some m) []) now new → Lands (is_at address s) number s (limit - c) (Some m) now new
         → WalksOn limit mark address from old (world t calls' left out err steps faults) (c' + m) (c' + m) (k' + m) number' first new
-    walk-jump m below jump passed w more helped lands =
+    walk-jump m jump passed w more helped lands =
         let r = w.2.1 in
         rw (same_calls, same_count, same_skipped) (
           with_landing (is_at address s) c (Some m) w.0,
@@ -57,7 +52,7 @@ module _ (limit : ℕ) (mark : Course → ℕ → Bool) (address : Option ℕ) (
           (
             number-more (is_at address s) c (Some m) w.0 number' number w.2.0 more,
             Reaches-jump _ _ old.calls.low old.calls.high old.state old s t calls left out err steps faults c m k r jump.goes
-                (SoFar-jump limit mark address from old.state s c number w.0 first now new least r.shape w.2.0 w.1.plans.refused helped.plans.refused t m below jump passed lands),
+                (SoFar-jump limit mark address from old.state s c number w.0 first now new least below r.shape w.2.0 w.1.plans.refused helped.plans.refused t m jump passed lands),
           ),
         )
 
@@ -73,18 +68,18 @@ module _ (limit : ℕ) (mark : Course → ℕ → Bool) (address : Option ℕ) (
           (
             number-more (is_at address s) c None w.0 number' number w.2.0 more,
             Reaches-says _ _ old.calls.low old.calls.high old.state old (world s calls left out err steps faults) c k r
-                (SoFar-step limit mark address from old.state s c number w.0 first now new least r.shape w.2.0 w.1.plans.refused helped.plans.refused lands),
+                (SoFar-step limit mark address from old.state s c number w.0 first now new least below r.shape w.2.0 w.1.plans.refused helped.plans.refused lands),
           ),
         )
 
   -- plain steps from a landing to the next
   pub walk-plain : (s t : State) (calls calls' : CallState) (left : Option (List ℕ)) (out err : Given) (steps steps' : ℕ) (faults : Faults) (c c' k k' number number' : ℕ) (first last : Aid)
-      → from ≤ c → calls' ≡ calls → k' ≡ k → number' ≡ number → steps' ≡ steps + (c' - c) → c < c' → plain (c' - c) s ≡ At t → Passes address s (c' - c)
+      → from ≤ c → c' ≤ limit → calls' ≡ calls → k' ≡ k → number' ≡ number → steps' ≡ steps + (c' - c) → c < c' → plain (c' - c) s ≡ At t → Passes address s (c' - c)
       → WalksOn limit mark address from old (world s calls left out err steps faults) c (c + 1) k number first last → WalksOn limit mark address from old (world t calls' left out err steps' faults) c' c' k' number' first last
-  walk-plain s t calls calls' left out err steps steps' faults c c' k k' number number' first last least same_calls same_skipped same_number counted some goes passes w =
+  walk-plain s t calls calls' left out err steps steps' faults c c' k k' number number' first last least within same_calls same_skipped same_number counted some goes passes w =
       let sum : c + (c' - c) ≡ c' = omega arith in
       let r = Reaches-along _ _ old.calls.low old.calls.high old.state old (world s calls left out err steps faults) c k w.2.1
-      (SoFar-passed limit mark address from old.state s t c (c' - c) w.0 first last least (omega arith) goes passes) in
+      (SoFar-passed limit mark address from old.state s t c (c' - c) w.0 first last least (omega arith) (omega arith) goes passes) in
       rw (same_calls, same_skipped, same_number, counted) (
         w.0,
         w.1,

@@ -13,6 +13,7 @@ use Rattle.asc_guess.specs.declared.kind.Kind.TheVariants.{Stride}
 use Rattle.asc_guess.specs.Guess.{guess_of, targets_of}
 use Rattle.asc_traj.specs.declared.guessing.Guessing.{Guessing}
 use Rattle.asc_traj.specs.Serial.{Serial, serial_reply}
+use Rattle.asc_run.specs.declared.recognised.Recognised.TheVariants as recognised
 use Rattle.asc_run.specs.Execution.{progress, first_position}
 use Rattle.asc_run.specs.Visits.{Course, Visit, is_mark, AreVisits, replies_of, tally_of}
 use Rattle.asc_run.specs.Walk.{tally}
@@ -101,7 +102,7 @@ abbrev pub limited_visits : List Visit
 limited_visits = visit 8 None ∷ visit 6 (Some 2) ∷ visit 4 None ∷ visit 2 None ∷ []
 
 pub record Visits : Type 0 where
-  pub four : AreVisits 20 loop_run (is_mark (Some 0x10008) loop_run) four_visits 20
-  pub limited : AreVisits 11 loop_run (is_mark (Some 0x10008) loop_run) limited_visits 11
+  pub four : AreVisits 20 loop_run (is_mark (recognised.At 0x10008) loop_run) four_visits 20
+  pub limited : AreVisits 11 loop_run (is_mark (recognised.At 0x10008) loop_run) limited_visits 11
   pub replies : replies_of four_visits ≡ None ∷ None ∷ Some 2 ∷ Some 4 ∷ []
   pub counts : tally_of four_visits (tally 0 0 0) ≡ tally 4 6 2

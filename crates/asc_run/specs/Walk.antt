@@ -1,5 +1,5 @@
 -- What a walk does to the world.
-use Rattle.std.specs.Prelude.{◌≡◌, ℕ, ◌+◌, ◌<◌, Bool, List, ◌++◌, Option, Some, None, IsNone, false}
+use Rattle.std.specs.Prelude.{◌≡◌, ℕ, ◌+◌, ◌<◌, Bool, List, ◌++◌, Option, Some, None, false}
 use Rattle.asc_model.specs.State.{State}
 use Rattle.asc_elf.specs.Image.{Image, high_of}
 use Rattle.asc_calls.specs.GuestCall.{Io, then_io, IsBeginning, Device}
@@ -7,6 +7,8 @@ use Rattle.asc_calls.specs.World.{CallState, Outside, World, DoesIo, MayCome, Kn
 use Rattle.asc_traj.specs.Finder.{Tally}
 use Rattle.asc_run.specs.declared.walk.Ended.{Ended}
 use Rattle.asc_run.specs.declared.walk.Settings.{Settings}
+use Rattle.asc_run.specs.declared.recognised.Recognised.{Recognised}
+use Rattle.asc_run.specs.declared.recognised.Recognised.TheVariants.{Nowhere}
 use Rattle.asc_run.specs.declared.walk.Ended.TheVariants.{Limit}
 use Rattle.asc_run.specs.Execution.{Run, exec, Progress, progress, first_position, device_of, StandsAtFailure}
 use Rattle.asc_run.specs.Visits.{Course, Visit, is_mark}
@@ -117,7 +119,7 @@ IsRaisedBy walk old new =
 pub record GoesFirst (was now : Walk) (old new : Outside) (first last : Aid) (ended : Ended) : Type 0 where
   -- it goes as plain execution does, or stops where a device failed; the visits are those that the helper's replies
   -- leave on that run
-  pub goes : GoesHelped was.settings.limit (is_mark was.settings.pc) (world_of was old) (world_of now new) first last
+  pub goes : GoesHelped was.settings.limit (is_mark was.settings.recognised) (world_of was old) (world_of now new) first last
       now.count now.tally.given ended
   -- the settings stay
   pub settings : now.settings ≡ was.settings
@@ -125,12 +127,12 @@ pub record GoesFirst (was now : Walk) (old new : Outside) (first last : Aid) (en
   pub kept : now.ended ≡ Some ended
 
 -- what the first call does with a helper whose tally was before and is after
-pub record HelpsFirst {H : Type 0} (address : Option ℕ) (walk : Tally) (old new : H) (before after : Tally) : Type 0
-    where
-  -- its counts rise by the walk's
-  pub raised : IsRaisedBy walk before after
-  -- where no address is set, it stays as it was
-  pub unset : IsNone address → new ≡ old
+pub record HelpsFirst {H : Type 0} (address : Recognised) (walk : Tally) (old new : H) (before after : Tally) : Type 0
+  where
+    -- its counts rise by the walk's
+    pub raised : IsRaisedBy walk before after
+    -- where no address is to be recognised, it stays as it was
+    pub unset : address ≡ Nowhere → new ≡ old
 
 -- the device that failed in a call, where one did: none does once a walk has ended
 abbrev pub device_in : (before : Option Ended) → Ended → Option Device

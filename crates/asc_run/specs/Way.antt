@@ -21,9 +21,9 @@ pub record Reaches (Q : Course → Type 0) (low high : ℕ) (start : State) (old
   pub steps : now.steps + skipped ≡ old.steps + n
 
 -- From start to here a program went on for so many steps, none of them skipped. Its run has no mark up to here, and from
--- here on one wherever it goes on at this address.
-abbrev pub ComesUnmarked : (mark : Course → ℕ → Bool) → (address : Option ℕ) → (start here : World) → (count : ℕ)
-    → Type 0
-ComesUnmarked mark address start here count =
-    Reaches (λ run. IsMarkedFrom count address (mark run) run) start.calls.low start.calls.high start.state start here
+-- here on, below a limit, it has one wherever it goes on at this address.
+abbrev pub ComesUnmarked : (limit : ℕ) → (mark : Course → ℕ → Bool) → (address : Option ℕ) → (start here : World)
+    → (count : ℕ) → Type 0
+ComesUnmarked limit mark address start here count =
+    Reaches (λ run. IsMarkedFrom limit count address (mark run) run) start.calls.low start.calls.high start.state start here
     count 0

@@ -53,7 +53,7 @@ impl Process {
         requires none_told { tally self.old.asked self.old.skipped self.old.hits ≡ tally 0 0 0 }
         requires room { HasRoom (2 ^ 61)
             (aid (H.tally helper.old) (H.replies helper.old) (H.plan helper.old) (H.machine helper.old)) }
-        ensures run { (mark : Course → ℕ → Bool) (start : World) → ComesUnmarked mark pc start
+        ensures run { (mark : Course → ℕ → Bool) (start : World) → ComesUnmarked limit mark pc start
             (world self.old.state self.old.calls (I.left input.old) (O.given out.old) (E.given err.old) steps.old
             (faults (I.faults input.old) (O.faults out.old) (E.faults err.old))) self.old.count
             → GoesHelped limit mark start
@@ -122,7 +122,12 @@ impl Process {
 
     /// Takes plain steps until so many are done, one leads to `pc`, or the next does not go on, in a loop of their own. It
     /// answers what the last attempt answered.
-    fn go_on<L: Ledger>(&mut self, pc: Option<u32>, most: u64, steps: &mut Steps<L>) -> Stepped
+    pub(crate) fn go_on<L: Ledger>(
+        &mut self,
+        pc: Option<u32>,
+        most: u64,
+        steps: &mut Steps<L>,
+    ) -> Stepped
         requires { self.old.count + most < 2 ^ 64 }
         ensures goes { plain (self.new.count - self.old.count) self.old.state ≡ At self.new.state }
         ensures passes { Passes pc self.old.state (self.new.count - self.old.count) }
@@ -143,7 +148,7 @@ impl Process {
 
     /// What an attempt at a step that did not go on comes to: the guest call at which the program stands is served, and a
     /// fault ends the run. It answers how the run ended, if it did.
-    fn stop<I: Source, O: Sink, E: Sink, L: Ledger>(
+    pub(crate) fn stop<I: Source, O: Sink, E: Sink, L: Ledger>(
         &mut self,
         stopped: Stepped,
         input: &mut I,

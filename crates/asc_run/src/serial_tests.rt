@@ -2,7 +2,7 @@ ghost use Rattle.std.specs.Prelude.{◌≤◌};
 
 use crate::serial::MOST_AHEAD;
 use crate::tests::{COUNTING, run};
-use crate::{Counts, Ended, Helper, MOST_STEPS, Made, Serial, Settings};
+use crate::{Counts, Ended, Helper, MOST_STEPS, Made, Recognised, Serial, Settings};
 use asc_guess::Kind;
 use asc_shape::{Shape, State};
 use asc_traj::{Finder, Guessing};
@@ -109,7 +109,7 @@ fn runs_alone(rt: HostRuntime) {
         let mut serial = Serial::new(alloc, shape, two_ahead(last, stride)).expect(&rt, "memory");
         let settings = Settings {
             limit,
-            pc: Some(0x10008),
+            recognised: Recognised::At(0x10008),
         };
         let got = run::<_, Brand, _>(&rt, alloc, Blank::new(1), &COUNTING, settings, &mut serial);
         assert_eq!(rt;

@@ -50,7 +50,7 @@ loop-self-preserved-in-Some g c =
     let hits = hits-more b c.loop-self.self.count (Some c.in-Some.n) _ _ e.passed e.helped in
     let least = e.jump.least in let most = e.jump.most in
     record {
-      walk = λ mark start way. walk-jump c.args.limit mark c.args.pc c.args.self.now.count start _ _ _ _ _ _ _ _ _ _ _ _ _ _ _ _ _ _ v.grows (ap (λ p. p.calls) e.kept) count skipped c.in-Some.n (omega (arith, within, not_limit)) e.jump e.passed
+      walk = λ mark start way. walk-jump c.args.limit mark c.args.pc c.args.self.now.count start _ _ _ _ _ _ _ _ _ _ _ _ _ _ _ _ _ _ v.grows (omega (arith, within, not_limit)) (ap (λ p. p.calls) e.kept) count skipped c.in-Some.n e.jump e.passed
           (v.walk mark start way) e.number e.helped e.machine;
       grows = omega (arith, grows, count);
       within = omega (arith, count, most, within);
@@ -69,7 +69,7 @@ pub returns-in-Some-stop-clause-run : goal.returns-in-Some-stop-clause-run
 returns-in-Some-stop-clause-run g c = λ mark start way.
     let v = c.loop-self.invariant in let e = c.in_default.ensures in let s = c.go_on-stopped.ensures in let t = c.in-Some-stop.ensures in
     let grows = v.grows in let within = v.within in let not_limit = c.if-self-limit.false in let count = ap (λ p. p.count) e.kept in let landed = c.if-self-landed.true in
-    let mid = walk-still c.args.limit mark c.args.pc c.args.self.now.count start _ _ _ _ _ _ _ _ _ _ _ _ _ _ _ _ _ _ (ap (λ p. p.calls) s.kept) (ap (λ p. p.skipped) s.kept) (ap (λ p. p.asked) s.kept) s.counter c.if-self-landed.true s.goes (walk-step c.args.limit mark c.args.pc c.args.self.now.count start _ _ _ _ _ _ _ _ _ _ _ _ _ _ _ _ _ _ v.grows (ap (λ p. p.calls) e.kept) (ap (λ p. p.count) e.kept) (ap (λ p. p.skipped) e.kept) e.jump (v.walk mark start way) e.number e.helped e.machine) in
+    let mid = walk-still c.args.limit mark c.args.pc c.args.self.now.count start _ _ _ _ _ _ _ _ _ _ _ _ _ _ _ _ _ _ (ap (λ p. p.calls) s.kept) (ap (λ p. p.skipped) s.kept) (ap (λ p. p.asked) s.kept) s.counter c.if-self-landed.true s.goes (walk-step c.args.limit mark c.args.pc c.args.self.now.count start _ _ _ _ _ _ _ _ _ _ _ _ _ _ _ _ _ _ v.grows (omega (arith, within, not_limit)) (ap (λ p. p.calls) e.kept) (ap (λ p. p.count) e.kept) (ap (λ p. p.skipped) e.kept) e.jump (v.walk mark start way) e.number e.helped e.machine) in
     rw (ap (λ x. x.given) t.tally) (walk-end c.args.limit mark c.args.pc c.args.self.now.count start _ _ _ _ _ _ _ _ c.in-Some-stop.ended (omega (arith, grows, count, landed)) mid (omega (arith, within, not_limit, count, landed)) t.turn t.fails t.count)
 
 pub loop-self-preserved-in_default-stop : goal.loop-self-preserved-in_default-stop
@@ -88,7 +88,7 @@ loop-self-preserved-in_default-stop g c =
     let hits = hits-more b c.loop-self.self.count None _ _ (λ _. refl) e.helped in
     record {
       walk = λ mark start way.
-          let mid = walk-still c.args.limit mark c.args.pc c.args.self.now.count start _ _ _ _ _ _ _ _ _ _ _ _ _ _ _ _ _ _ (ap (λ p. p.calls) s.kept) (ap (λ p. p.skipped) s.kept) (ap (λ p. p.asked) s.kept) s.counter c.if-self-landed.true s.goes (walk-step c.args.limit mark c.args.pc c.args.self.now.count start _ _ _ _ _ _ _ _ _ _ _ _ _ _ _ _ _ _ v.grows (ap (λ p. p.calls) e.kept) (ap (λ p. p.count) e.kept) (ap (λ p. p.skipped) e.kept) e.jump (v.walk mark start way) e.number e.helped e.machine) in
+          let mid = walk-still c.args.limit mark c.args.pc c.args.self.now.count start _ _ _ _ _ _ _ _ _ _ _ _ _ _ _ _ _ _ (ap (λ p. p.calls) s.kept) (ap (λ p. p.skipped) s.kept) (ap (λ p. p.asked) s.kept) s.counter c.if-self-landed.true s.goes (walk-step c.args.limit mark c.args.pc c.args.self.now.count start _ _ _ _ _ _ _ _ _ _ _ _ _ _ _ _ _ _ v.grows (omega (arith, within, not_limit)) (ap (λ p. p.calls) e.kept) (ap (λ p. p.count) e.kept) (ap (λ p. p.skipped) e.kept) e.jump (v.walk mark start way) e.number e.helped e.machine) in
           rw (ap (λ x. x.given) t.tally, ap (λ x. x.asked) t.tally) (walk-turn c.args.limit mark c.args.pc c.args.self.now.count start _ _ _ _ _ _ _ _ _ mid turn (omega (arith, one)));
       grows = omega (arith, grows, one, count, landed);
       within = omega (arith, within, not_limit, one, count, landed);
@@ -106,7 +106,7 @@ loop-self-preserved-in_default-stop g c =
 pub loop-self-preserved : goal.loop-self-preserved
 loop-self-preserved g c =
     let v = c.loop-self.invariant in let e = c.in_default.ensures in let s = c.go_on-stopped.ensures in
-    let grows = v.grows in let within = v.within in let more = s.grows in let most = s.most in let moved = c.if-self-landed.false in
+    let grows = v.grows in let within = v.within in let more = s.grows in let most = s.most in let not_limit = c.if-self-limit.false in let moved = c.if-self-landed.false in
     let count = ap (λ p. p.count) e.kept in
     let same_asked = ap (λ p. p.asked) s.kept in
     let same_given = ap (λ p. p.skipped) s.kept ∙ ap (λ p. p.skipped) e.kept in
@@ -117,8 +117,8 @@ loop-self-preserved g c =
     let given = given-more b c.loop-self.self.count None _ _ (λ _. refl) e.helped in
     let hits = hits-more b c.loop-self.self.count None _ _ (λ _. refl) e.helped in
     record {
-      walk = λ mark start way. walk-plain c.args.limit mark c.args.pc c.args.self.now.count start _ _ _ _ _ _ _ _ _ _ _ _ _ _ _ _ _ _ (omega (arith, grows, count)) (ap (λ p. p.calls) s.kept) (ap (λ p. p.skipped) s.kept) same_asked s.counter (omega (arith, more, moved)) s.goes s.passes
-          (walk-step c.args.limit mark c.args.pc c.args.self.now.count start _ _ _ _ _ _ _ _ _ _ _ _ _ _ _ _ _ _ v.grows (ap (λ p. p.calls) e.kept) (ap (λ p. p.count) e.kept) (ap (λ p. p.skipped) e.kept) e.jump (v.walk mark start way) e.number e.helped e.machine);
+      walk = λ mark start way. walk-plain c.args.limit mark c.args.pc c.args.self.now.count start _ _ _ _ _ _ _ _ _ _ _ _ _ _ _ _ _ _ (omega (arith, grows, count)) (omega (arith, within, count, most)) (ap (λ p. p.calls) s.kept) (ap (λ p. p.skipped) s.kept) same_asked s.counter (omega (arith, more, moved)) s.goes s.passes
+          (walk-step c.args.limit mark c.args.pc c.args.self.now.count start _ _ _ _ _ _ _ _ _ _ _ _ _ _ _ _ _ _ v.grows (omega (arith, within, not_limit)) (ap (λ p. p.calls) e.kept) (ap (λ p. p.count) e.kept) (ap (λ p. p.skipped) e.kept) e.jump (v.walk mark start way) e.number e.helped e.machine);
       grows = omega (arith, grows, count, more);
       within = omega (arith, within, count, most);
       given = (let x = v.given in omega (arith, x, given, same_given));

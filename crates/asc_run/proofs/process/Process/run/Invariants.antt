@@ -10,7 +10,7 @@ use Rattle.asc_run.proofs.process.Process.run.Given as goal
 abbrev pub invariant-loop-self : goal.invariant-loop-self
 invariant-loop-self g l = record {
   walk : (mark : Course → ℕ → Bool) (start : World)
-      → ComesUnmarked mark l.pc start (world l.fn.self.state l.fn.self.calls (g.I.Source.left l.fn.input) (g.O.Sink.given l.fn.out) (g.E.Sink.given l.fn.err) l.fn.steps
+      → ComesUnmarked l.limit mark l.pc start (world l.fn.self.state l.fn.self.calls (g.I.Source.left l.fn.input) (g.O.Sink.given l.fn.out) (g.E.Sink.given l.fn.err) l.fn.steps
       (faults (g.I.Source.faults l.fn.input) (g.O.Sink.faults l.fn.out) (g.E.Sink.faults l.fn.err))) l.fn.self.count
       → WalksOn l.limit mark l.pc l.fn.self.count start
       (world l.self.state l.self.calls (g.I.Source.left l.input) (g.O.Sink.given l.out) (g.E.Sink.given l.err) l.steps
