@@ -5,6 +5,8 @@ use Rattle.asc_model.specs.Shape.{IsShape}
 use Rattle.asc_elf.specs.Image as loader
 use Rattle.asc_calls.specs.World.{Outside}
 use Rattle.asc_traj.specs.Finder.{Tally}
+use Rattle.asc_run.specs.declared.recognised.Recognised.{Recognised}
+use Rattle.asc_run.specs.declared.recognised.Recognised.TheVariants.{Nowhere}
 use Rattle.asc_run.specs.Execution.{exec}
 use Rattle.asc_run.specs.Helped.{Aid, HasVisits, IsSerial}
 use Rattle.asc_run.specs.Visits.{AreVisits, Visit, is_mark, tally_of}
@@ -14,7 +16,7 @@ use Rattle.asc_run.specs.Walk.{Walk, new_walk, tally}
 use Rattle.asc_words.specs.declared.line.RunLine.{RunLine}
 use Rattle.asc_words.specs.declared.answer.Outcome.{Outcome}
 use Rattle.asc_top.specs.Program.{file_limit, load_of}
-use Rattle.asc_top.specs.Numbers.{counts_of, course_of_image, guessing_of, makes_guesses, settings_of}
+use Rattle.asc_top.specs.Numbers.{counts_of, course_of_image, guessing_of, makes_guesses, recognised_by, settings_of}
 use Rattle.asc_top.specs.Ran.{Walked}
 use Rattle.asc_top.proofs.Unguessed.{idles, none_given}
 use Rattle.asc_top.proofs.Walks.{AreSerial, IsPlain, goes}
@@ -55,11 +57,11 @@ module _ (line : RunLine) (content : List ℕ) (image : loader.Image) (within : 
       ap (λ (t : Tally). tally_of visits t) (sym fresh.tally) ∙ sym g.helped.tally ∙ w.raised ∙ (λ i. tally (asked i) (given i) (hits i))
 
   marked_by_line : line.report ≡ true → (left : List ℕ)
-      → AreVisits line.limit (course_of_image image left) (is_mark (settings_of line).pc (course_of_image image left)) visits line.limit
-      → AreVisits line.limit (course_of_image image left) (is_mark line.pc (course_of_image image left)) visits line.limit
+      → AreVisits line.limit (course_of_image image left) (is_mark (settings_of line).recognised (course_of_image image left)) visits line.limit
+      → AreVisits line.limit (course_of_image image left) (is_mark (recognised_by line) (course_of_image image left)) visits line.limit
   marked_by_line asked left are =
-      let pc : (settings_of line).pc ≡ line.pc = ap (λ (b : Bool). if b then line.pc else None) asked in
-      subst (λ (a : Option ℕ). AreVisits line.limit (course_of_image image left) (is_mark a (course_of_image image left)) visits line.limit) pc are
+      let same : (settings_of line).recognised ≡ recognised_by line = ap (λ (b : Bool). if b then recognised_by line else Nowhere) asked in
+      subst (λ (r : Recognised). AreVisits line.limit (course_of_image image left) (is_mark r (course_of_image image left)) visits line.limit) same are
 
   -- with the machine of a serial run
   pub serial_of_machine : first.machine ≡ Some (serial_of image.start.shape (guessing_of line) []) → Serial
@@ -82,7 +84,7 @@ module _ (line : RunLine) (content : List ℕ) (image : loader.Image) (within : 
   serial_of_none none no_hit no_guess = λ asked left count has refused.
       let g = goes line content image within loads good was now is old new first last outcome w in
       let unhit : (tally_of visits first.tally).hits ≡ 0 = ap (λ (t : Tally). t.hits) (sym g.helped.tally) ∙ no_hit in
-      let idle = idles line.limit (course_of_image image left) (settings_of line).pc (serial_of image.start.shape (guessing_of line) []) (record { kinds = no_kinds line none asked; content = refl })
+      let idle = idles line.limit (course_of_image image left) (settings_of line).recognised (serial_of image.start.shape (guessing_of line) []) (record { kinds = no_kinds line none asked; content = refl })
       visits line.limit has.are (none_given visits first.tally unhit) in
       record {
         visits = visits;

@@ -16,7 +16,7 @@ use Rattle.asc_words.specs.declared.line.RunLine.{RunLine}
 use Rattle.asc_words.specs.declared.answer.Counts.{Counts}
 use Rattle.asc_words.specs.declared.answer.Outcome.{Outcome}
 use Rattle.asc_top.specs.Program.{file_limit, load_of, answer_at, ProgramResult, result_of_run, result_of_load, run_of_image, meaning, Gives, IsStopped}
-use Rattle.asc_top.specs.Numbers.{AreTold, Means, counts_of, course_of_image, guessing_of, numbers_of, reported_counts, settings_of}
+use Rattle.asc_top.specs.Numbers.{AreTold, Means, counts_of, course_of_image, guessing_of, numbers_of, recognised_by, reported_counts, settings_of}
 use Rattle.asc_top.specs.Ran.{Ran, Walked}
 use Rattle.asc_top.proofs.Causes.{meaning-within}
 use Rattle.asc_top.proofs.Ends.{device_of_answer-answer_at, run-not_refused, counts-told, told_have, all_told}
@@ -56,8 +56,8 @@ rest_of w known = rest_from w w.calls.ended w.left refl refl known
 module _ (line : RunLine) (content : List ℕ) (image : loader.Image) (within : length content ≤ file_limit) (loads : load_of line content ≡ Ok image) (good : IsShape image.start.shape)
     (was now : Walk) (is : was ≡ new_walk image (settings_of line)) (old new : Outside) (first last : Aid) (outcome : Outcome)
     (w : Walked line.report was now old new first last outcome) where
-  pub goes : GoesHelped line.limit (is_mark (settings_of line).pc) (world_of (new_walk image (settings_of line)) old) (world_of now new) first last now.count now.tally.given w.ended
-  goes = subst (λ (v : Walk). GoesHelped v.settings.limit (is_mark v.settings.pc) (world_of v old) (world_of now new) first last now.count now.tally.given w.ended) is w.goes
+  pub goes : GoesHelped line.limit (is_mark (settings_of line).recognised) (world_of (new_walk image (settings_of line)) old) (world_of now new) first last now.count now.tally.given w.ended
+  goes = subst (λ (v : Walk). GoesHelped v.settings.limit (is_mark v.settings.recognised) (world_of v old) (world_of now new) first last now.count now.tally.given w.ended) is w.goes
 
   abbrev told : Counts
   told = counts_of w.counts last.plan
@@ -68,8 +68,8 @@ module _ (line : RunLine) (content : List ℕ) (image : loader.Image) (within : 
   -- where the numbers are asked for, they are a serial run's
   abbrev pub AreSerial : Type 0
   AreSerial = line.report ≡ true → (left : List ℕ) → (run_of_image line image left).count ≡ now.count
-      → HasVisits line.limit (is_mark (settings_of line).pc) image.start goes.visits first last line.limit (course_of_image image left) → last.plan.refused ≡ 0
-      → IsSerialRun line.limit (is_mark line.pc (course_of_image image left)) (course_of_image image left) image.start.shape (guessing_of line) (numbers_of told)
+      → HasVisits line.limit (is_mark (settings_of line).recognised) image.start goes.visits first last line.limit (course_of_image image left) → last.plan.refused ≡ 0
+      → IsSerialRun line.limit (is_mark (recognised_by line) (course_of_image image left)) (course_of_image image left) image.start.shape (guessing_of line) (numbers_of told)
 
   -- where they are not, it was run plainly
   abbrev pub IsPlain : Type 0

@@ -11,6 +11,8 @@ use Rattle.asc_run.specs.declared.walk.Counts.{Counts as WalkCounts}
 use Rattle.asc_run.specs.declared.walk.Ended.{Ended}
 use Rattle.asc_run.specs.declared.walk.Ended.TheVariants as ends
 use Rattle.asc_run.specs.declared.walk.Settings.{Settings}
+use Rattle.asc_run.specs.declared.recognised.Recognised.{Recognised}
+use Rattle.asc_run.specs.declared.recognised.Recognised.TheVariants.{At, Chosen, Nowhere}
 use Rattle.asc_run.specs.Execution.{progress, first_position}
 use Rattle.asc_run.specs.Visits.{Course, is_mark}
 use Rattle.asc_run.specs.SerialRun.{Numbers, IsSerialRun}
@@ -39,9 +41,17 @@ guessing_of line = record {
 abbrev pub makes_guesses : RunLine → Bool
 makes_guesses line = line.report && (line.last || line.stride)
 
+-- the recognised address: the line's own, or, where a kind of guess is on, one that is chosen of the first steps
+abbrev pub recognised_by : RunLine → Recognised
+recognised_by line =
+    elim line.pc [
+    | Some address ↦ At address
+    | None ↦ if line.last || line.stride then Chosen line.profile line.least else Nowhere
+    ]
+
 -- nor is the address of a run visited whose numbers are not reported
 abbrev pub settings_of : RunLine → Settings
-settings_of line = record { limit = line.limit; pc = if line.report then line.pc else None }
+settings_of line = record { limit = line.limit; recognised = if line.report then recognised_by line else Nowhere }
 
 -- the numbers of a walk, and of what its helper planned
 abbrev pub counts_of : WalkCounts → Plan → Counts
@@ -85,7 +95,7 @@ pub record AreNumbersOf (line : RunLine) (image : loader.Image) (left : List ℕ
   pub total : counts.executed + counts.skipped ≡ (run_of_image line image left).count
   -- where there are no workers and memory was never wanting, they are those of a serial run, by its definition
   pub serial : line.workers ≡ 0 → counts.refused ≡ 0
-      → IsSerialRun line.limit (is_mark line.pc (course_of_image image left)) (course_of_image image left)
+      → IsSerialRun line.limit (is_mark (recognised_by line) (course_of_image image left)) (course_of_image image left)
       image.start.shape (guessing_of line) (numbers_of counts)
 
 -- these are the numbers of a loaded file, where it is an image

@@ -34,7 +34,7 @@ pub record Ran (old new : Outside) (line : RunLine) (content : List ℕ) (outcom
 pub record Walked (is_asked : Bool) (was now : Walk) (old new : Outside) (first last : Aid) (outcome : Outcome)
     : Type 0 where
   pub ended : Ended
-  pub goes : GoesHelped was.settings.limit (is_mark was.settings.pc) (world_of was old) (world_of now new) first last
+  pub goes : GoesHelped was.settings.limit (is_mark was.settings.recognised) (world_of was old) (world_of now new) first last
       now.count now.tally.given ended
   pub raised : IsRaisedBy now.tally first.tally last.tally
   pub limit : now.count ≤ was.settings.limit

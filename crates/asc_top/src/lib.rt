@@ -5,6 +5,7 @@ mod make;
 mod numbers;
 mod program;
 mod run;
+mod settings;
 mod trial;
 
 pub use asc_words::{Answer, Bad, Outcome};

@@ -4,15 +4,15 @@ ghost use Rattle.asc_calls.specs.World.{faults, outside};
 ghost use Rattle.asc_run.specs.Helped.{aid, HasRoom};
 ghost use Rattle.asc_words.specs.Line.{IsRunWithin};
 ghost use Rattle.asc_top.specs.Program.{file_limit};
-ghost use Rattle.asc_top.specs.Numbers.{guessing_of, makes_guesses, settings_of};
 ghost use Rattle.asc_top.specs.Ran.{Ran, Walked};
 ghost use Rattle.asc_top.specs.Answered.{IsAnswerFor, devices};
 
 use crate::numbers::{answer_at, counts_of, reported_counts};
+use crate::settings::{guessing_of, makes_guesses, settings_of};
 use asc_elf::read;
-use asc_run::{Bare, Helper, Serial, Settings, Walk};
+use asc_run::{Bare, Helper, Serial, Walk};
 use asc_shape::{Loaded, Memory, Sink, Source, Steps, Store, StoreFault};
-use asc_traj::{Guessing, Nothing};
+use asc_traj::Nothing;
 use asc_words::{Answer, Line, Outcome, RunLine};
 use std::alloc::Global;
 use std::sync::ledger::Ledger;
@@ -113,35 +113,5 @@ fn run_with<H: Helper, I: Source, O: Sink, E: Sink, L: Ledger>(
         answer: answer_at(ended, counts.count),
         counts: reported_counts(is_asked, ended, counts_of(counts, helper)),
         workers: None,
-    }
-}
-
-/// Whether a line has guesses made.
-fn makes_guesses(line: &RunLine) -> bool
-    ensures { result ≡ makes_guesses line.now }
-{
-    line.report && (line.last || line.stride)
-}
-
-/// What a line asks to be guessed.
-fn guessing_of(line: &RunLine) -> Guessing
-    ensures { result ≡ guessing_of line.now }
-{
-    Guessing {
-        last: line.last,
-        stride: line.stride,
-        laps: line.laps,
-        span: line.span,
-        ahead: line.ahead,
-    }
-}
-
-/// How a line asks for a walk.
-fn settings_of(line: &RunLine) -> Settings
-    ensures { result ≡ settings_of line.now }
-{
-    Settings {
-        limit: line.limit,
-        pc: if line.report { line.pc } else { None },
     }
 }

@@ -25,7 +25,7 @@ pub returns-then-not-makes_guesses : goal.returns-then-not-makes_guesses
 returns-then-not-makes_guesses g c =
     let line = c.args.line.now in
     let loads = sym c.read.ensures ∙ c.in-Ok.is in
-    let is = c.in-Ok-new.ensures ∙ ap (λ (s : Settings). new_walk c.in-Ok.image s) c.settings_of.ensures in
+    let is = c.in-Ok-new.ensures ∙ ap (λ (s : Settings). new_walk c.in-Ok.image s) c.settings_of.ensures.settings in
     let good = c.shape-shape.ensures.good in
     let fresh : IsNew (aid (tally c.new-helper.result 0 0) None (record { made = 0; refused = 0; full = 0; seen = None }) None) =
     record { tally = ap (λ (asked : ℕ). tally asked 0 0) (c.new-helper.ensures ∙ c.new-then-not-makes_guesses.ensures); made = refl; refused = refl } in
@@ -37,7 +37,7 @@ pub returns-in-Ok-new-2 : goal.returns-in-Ok-new-2
 returns-in-Ok-new-2 g c =
     let line = c.args.line.now in
     let loads = sym c.read.ensures ∙ c.in-Ok.is in
-    let is = c.in-Ok-new.ensures ∙ ap (λ (s : Settings). new_walk c.in-Ok.image s) c.settings_of.ensures in
+    let is = c.in-Ok-new.ensures ∙ ap (λ (s : Settings). new_walk c.in-Ok.image s) c.settings_of.ensures.settings in
     let good = c.shape-shape.ensures.good in
     let helper_is : c.in-Ok-new-2.helper ≡ first_helper c.in-Ok.image.start.shape (guessing_of line) =
     c.in-Ok-new-2.ensures ∙ (λ i. first_helper (c.shape-shape.ensures.shape i) (c.guessing_of.ensures i)) in
