@@ -6,3 +6,4 @@ pub mod Unguessed
 pub mod Walks
 pub mod Serials
 pub mod Runs
+pub mod Trials

@@ -122,6 +122,14 @@ pub record Means (old new : Outside) (outcome : Outcome) (line : RunLine) (conte
 
 -- ---- trials
 
+-- the code with which the guest of a run ended, and the run's numbers, where it ended
+abbrev pub exit_at : Answer → Option Counts → Option (ℕ × Counts)
+exit_at (answers.Exit status) (Some counts) = Some (status, counts)
+exit_at answered counts = None
+
+abbrev pub exit_of : Outcome → Option (ℕ × Counts)
+exit_of outcome = exit_at outcome.answer outcome.counts
+
 -- the numbers that a trial tells: none where there were workers
 abbrev pub told_by_trial : (workers : ℕ) → Counts → Option Counts
 told_by_trial zero counts = Some counts

@@ -3,7 +3,7 @@ ghost use Rattle.std.specs.Prelude.{◌≡◌, ◌≤◌, List, Option, Ok, ℕ}
 ghost use Rattle.asc_outside.specs.Outside.{File, Given};
 ghost use Rattle.asc_calls.specs.World.{faults, outside};
 ghost use Rattle.asc_top.specs.Program.{trial_run};
-ghost use Rattle.asc_top.specs.Numbers.{told_by_trial};
+ghost use Rattle.asc_top.specs.Numbers.{exit_of, told_by_trial};
 ghost use Rattle.asc_top.specs.Answered.{IsAnswerFor, devices};
 ghost use Rattle.asc_top.specs.Reported.{IsPut};
 
@@ -40,18 +40,26 @@ pub(crate) fn trial<O: Sink, L: Ledger>(
     let mut output = CountSink::new();
     let mut errors = CountSink::new();
     let outcome = run_file(alloc, &line, &image, &mut input, &mut output, &mut errors, steps);
+    let Some((status, counts)) = exit_of(&outcome) else {
+        return Outcome::of(outcome.answer);
+    };
+    let trial = TrialOutcome {
+        n,
+        status,
+        steps: counts.executed + counts.skipped,
+        output: output.count(),
+        counts: told_by_trial(workers, counts),
+    };
+    Outcome::of(tell(&trial, counts.refused, out))
+}
+
+/// The code with which the guest ended, and the numbers of the run, where it ended.
+fn exit_of(outcome: &Outcome) -> Option<(u8, Counts)>
+    ensures { result ≡ exit_of outcome.now }
+{
     match (outcome.answer, outcome.counts) {
-        (Answer::Exit(status), Some(counts)) => {
-            let trial = TrialOutcome {
-                n,
-                status,
-                steps: counts.executed + counts.skipped,
-                output: output.count(),
-                counts: told_by_trial(workers, counts),
-            };
-            Outcome::of(tell(&trial, counts.refused, out))
-        }
-        (answer, _) => Outcome::of(answer),
+        (Answer::Exit(status), Some(counts)) => Some((status, counts)),
+        _ => None,
     }
 }
 
