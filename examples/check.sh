@@ -14,7 +14,7 @@ here=$(cd "$(dirname "$0")" && pwd) || exit 1
 root=$(dirname "$here")
 asc=${1:-$root/crates/asc_cli/out/asc_cli}
 emulator=qemu-riscv32
-documents=docs/GUIDE.md
+documents='README.md docs/GUIDE.md docs/TUTORIAL.md'
 room=$(mktemp -d) || exit 1
 trap 'rm -rf "$room"' EXIT
 failed=0 compared=0

@@ -64,6 +64,12 @@ def collatz(data):
         limit, max(1, steps.index(longest)), longest)
 
 
+def collatz_chunks(data):
+    """The same, up to the end of the last chunk of 448 numbers."""
+    chunks = -(-int(data) // 448)
+    return collatz(b"%d" % (448 * chunks))
+
+
 def ising(data):
     """A lattice's energy is twice the pairs of unlike neighbours, less all pairs."""
     count, side, seed = map(int, data.split())
@@ -136,8 +142,8 @@ def startup(_):
 
 
 PROGRAMS = {function.__name__: function
-            for function in (hello, echo, word_count, quicksort, sha256, matrix, collatz, ising, adder, life, copies,
-                             statistics, frequencies, startup)}
+            for function in (hello, echo, word_count, quicksort, sha256, matrix, collatz, collatz_chunks, ising,
+                             adder, life, copies, statistics, frequencies, startup)}
 
 
 def folder_of(name):

@@ -1,5 +1,5 @@
 #!/usr/bin/env python3
-"""Tries the tools of this folder and the man page on the built program.
+"""Tries the tools of this folder, the man page, the links of documents and the program to be copied.
 
     python3 tools/check.py [PROGRAM]
 
@@ -17,6 +17,7 @@ import struct
 import subprocess
 import sys
 import tempfile
+import xml.etree.ElementTree
 from pathlib import Path
 
 TOOLS = Path(__file__).resolve().parent
@@ -302,6 +303,123 @@ def check_steps(program, folder):
         same(f"asc-steps: {name} with a step less, and with as many", statuses, [75, 0])
 
 
+# In place of asc, for what it does not do yet: laps of 1000 steps, and jumps at all visits but the first ten.
+STAND_IN = """#!/usr/bin/env python3
+import sys
+options = dict(word[2:].partition("=")[::2] for word in sys.argv[1:] if word.startswith("--"))
+steps = min(int(options.get("steps", 100000)), 100000)
+asked = steps // 1000
+hits = 0 if options.get("guess") == "none" else max(0, asked - 10)
+numbers = f"executed {steps - 900 * hits} skipped {900 * hits} asked {asked} hits {hits}"
+sys.stderr.write(f"asc: {numbers} made 0 refused 0\\n")
+if int(options.get("workers", 0)):
+    sys.stderr.write("asc: ran 0 left 0 stored 0 known 0 empty 0 dropped 0 stopped 0 full 0\\n")
+"""
+
+
+def stand_in(folder):
+    path = folder / "guessing"
+    path.write_text(STAND_IN)
+    path.chmod(0o755)
+    return path
+
+
+def nested(folder):
+    """Five times 20 times around two instructions: 218 steps, with heads at 0x10058 and 0x1005c."""
+    path = folder / "nested"
+    path.write_bytes(elf([0x00500593, 0x01400513, 0xFFF50513, 0xFE051EE3, 0xFFF58593, 0xFE0598E3, 0x05D00893,
+                          0x00000073]))
+    return path
+
+
+HEADS = "    --pc     visits          lap"
+
+
+def check_pc(program, folder):
+    def told(*words):
+        return outcome([TOOLS / "asc-pc", "--asc", program, *words])
+
+    image = nested(folder)
+    same("asc-pc: two loops", told(image), (
+        f"218 steps\n{HEADS}  where\n   10058          5         43.6\n"
+        "   1005c        100          2.2\n".encode(), b"", 0))
+    same("asc-pc: a limit", told(image, "--steps", "20", "--pc=10058"), (
+        f"20 steps\n{HEADS}  where\n   1005c          9          2.2\n".encode(), b"", 0))
+    same("asc-pc: no head", told(HELLO), (f"9 steps\n{HEADS}  where\n".encode(), b"", 0))
+    same("asc-pc: no file", told(folder / "none"), (b"", b"asc: store failed\n", 66))
+    same("asc-pc: wrong words", told(image, "--pages=4"), (b"", b"asc: usage\n", 64))
+    tried = outcome([TOOLS / "asc-pc", "--asc", stand_in(folder), "--try", "--lap", "1000", image, "--guess", "last"])
+    row = "        100       1000.0         90    81.0%\n"
+    same("asc-pc: a trial", tried, (
+        f"100000 steps\n{HEADS}       hits  skipped  where\n   10058{row}   1005c{row}".encode(), b"", 0))
+    if has("riscv64-unknown-elf-gcc", "function and line of asc-pc"):
+        (folder / "sum.c").write_text("int main(void)\n{\n    volatile int sum = 0;\n    for (int k = 0; k < 10; k++)\n"
+                                      "        sum += k;\n    return 0;\n}\n")
+        subprocess.run(["riscv64-unknown-elf-gcc", "-march=rv32im", "-mabi=ilp32", "-g", "-Os", "-ffreestanding",
+                        "-nostdlib", "-static", "-T", ROOT / "examples/link.ld", "-o", "sum",
+                        ROOT / "examples/start.s", "sum.c"], cwd=folder, check=True)
+        rows = told(folder / "sum")[0].decode().splitlines()[2:]
+        same("asc-pc: function and line", [re.sub(r"  +", " ", row).split(" ")[-2:] for row in rows],
+             [["main", "sum.c:5"]])
+
+
+def check_plot(folder):
+    def picture(*words):
+        told = outcome([TOOLS / "asc-plot", *words])
+        same(f"asc-plot {words[0]}", told[1:], (b"", 0))
+        drawn = xml.etree.ElementTree.fromstring(told[0])
+        return {kind: drawn.findall(f"{{http://www.w3.org/2000/svg}}{kind}") for kind in ("rect", "polyline", "text")}
+
+    guessing, image = stand_in(folder), nested(folder)
+    for name, limit in (("all", 100000), ("part", 40000)):
+        (folder / name).write_bytes(outcome([guessing, f"--steps={limit}", "--workers=1"])[1])
+    drawn = picture("steps", folder / "all", folder / "part")
+    same("asc-plot steps: heights", [float(bar.get("height")) for bar in drawn["rect"][3:]], [57.0, 243.0, 39.0, 81.0])
+    same("asc-plot steps: texts", [text.text for text in drawn["text"][-4:]],
+         ["all", "81.0% skipped", "part", "67.5% skipped"])
+    drawn = picture("hits", "--asc", guessing, "--parts", "4", image, "--pc=10058")
+    same("asc-plot hits: its points", drawn["polyline"][0].get("points"),
+         "90.0,350.0 222.5,305.0 355.0,230.0 487.5,155.0 620.0,80.0")
+    same("asc-plot hits: its title", drawn["text"][0].text, "nested: 90 jumps at 100 visits, 81.0% of steps skipped")
+    drawn = picture("workers", "--asc", guessing, "--most", "3", "--times", "1", image)
+    same("asc-plot workers: its points", len(drawn["polyline"][0].get("points").split()), 4)
+    (folder / "empty").write_bytes(b"")
+    same("asc-plot: no numbers", outcome([TOOLS / "asc-plot", "steps", folder / "empty"])[2], 1)
+    same("asc-plot: no words", outcome([TOOLS / "asc-plot"])[2], 64)
+
+
+# ---- documents
+
+def headings(text):
+    """The names by which links lead to a document's headings."""
+    plain = re.sub(r"^```.*?^```", "", text, flags=re.M | re.S)
+    return [re.sub(r"[^\w\- ]", "", line.lower()).replace(" ", "-") for line in re.findall(r"^#+ (.*)$", plain, re.M)]
+
+
+def check_links():
+    """Each link of a document leads to a file, and to a heading of it where it names one."""
+    for document in [ROOT / "README.md", ROOT / "CHANGELOG.md", *sorted((ROOT / "docs").glob("*.md"))]:
+        for link in re.findall(r"\]\(([^)]*)\)", document.read_text()):
+            name, _, heading = link.partition("#")
+            target = document.parent / name if name else document
+            found = target.exists() and (not heading or heading in headings(target.read_text()))
+            same(f"the link {link} of {document.name}", found, True)
+
+
+def check_copy(folder):
+    """The copy of the program over the crates has each crate that a line of it names, and none else."""
+    script, copied = ROOT / "examples/embed/copy.sh", folder / "simulator"
+    same("copy.sh", outcome([script, copied]), (b"", b"", 0))
+    same("copy.sh into a folder that is there", outcome([script, copied])[2], 73)
+    lines = [line.partition(":") for line in (copied / "crates.txt").read_text().splitlines()]
+    ours = {re.match(r"\w+", line)[0] for line in (ROOT / "crates.txt").read_text().splitlines() if line[:1] != "#"}
+    wanted = {"embed"} | {name for line in lines for name in line[2].split() if name in ours}
+    same("the crates that copy.sh lists", sorted(line[0].split()[0] for line in lines), sorted(wanted))
+    same("the crates that it copies", sorted(path.name for path in (copied / "crates").iterdir()), sorted(wanted))
+    texts = [path.read_text() for path in copied.glob("crates/embed/*/**/*") if path.suffix in (".rt", ".antt")]
+    same("the name that it has before", [len(texts), any("asc_embed" in text for text in texts)], [2, False])
+
+
 def check_completion(known):
     if not has("bash", "the completion"):
         return
@@ -330,12 +448,16 @@ def main():
     why = module(TOOLS / "asc-why")
     known = check_options(why)
     check_words(why)
-    for tool in ("asc-why", "asc-steps"):
+    for tool, lines in (("asc-why", 1), ("asc-steps", 1), ("asc-pc", 1), ("asc-plot", 3)):
         told = outcome([TOOLS / tool, "--help"])
-        same(f"{tool} --help", (told[0].decode().count(f"    {tool} "), told[1:]), (1, (b"", 0)))
+        same(f"{tool} --help", (told[0].decode().count(f"    {tool} "), told[1:]), (lines, (b"", 0)))
+    check_links()
     with tempfile.TemporaryDirectory() as folder:
         check_why(program, Path(folder))
         check_steps(program, Path(folder))
+        check_pc(program, Path(folder))
+        check_plot(Path(folder))
+        check_copy(Path(folder))
     check_completion(known)
     print(f"tools/check.py: {tried} trials, {failed} failed")
     return 1 if failed else 0
