@@ -7,10 +7,10 @@ the gate.
 A program over `asc_cache` is added to a copy of the crates under it in a temporary folder, proved and built there with
 `rt run`, and run. It fills 3 shards with 1,024 entries each, of a loop over 272 bytes of memory. Then its first thread
 looks up, or inserts, and a second thread may do the other. What is printed are nanoseconds of the first thread on a
-processor, for each look-up or insertion, the least of three runs:
+processor, for each look-up or insertion, the least of five runs, and how many entries the writer stored beside:
 
     alone   no other thread
-    beside  with a writer that inserts into one shard after another, or with a reader that looks up
+    beside  with a writer that inserts into the first two shards in turn, or with a reader that looks up
     one     all entries read the same places, and differ in a register
     own     each reads memory from another word on, and they differ in the register that points there
     hit     an entry of the last shard matches the state, which then jumps and is set back
@@ -185,43 +185,62 @@ fn spent<C: CpuClock>(clock: &C) -> u128 {
     }
 }
 
-/// What is measured: whether by insertions, how often, and whether beside another thread.
+/// How often, and whether beside another thread.
 #[derive(Drop)]
 struct Plan {
-    inserts: bool,
     count: u64,
     beside: bool,
 }
 
-/// Runs what is measured here, and the other in a thread beside it. It answers what was found or stored, and how many
-/// nanoseconds it took.
-fn run<T: Threads + Wait + Sync + CpuClock, R: Wait + Drop + Send>(
+/// By what the other thread ends.
+#[derive(Drop)]
+struct Ends {
+    halter: Halter,
+    first: Flag,
+    second: Flag,
+}
+
+/// What is measured runs here, and the other in a thread beside it. It answers what was found or stored, how many
+/// nanoseconds it took, and what the other thread stored or found.
+fn time_looks<T: Threads + Wait + Sync + CpuClock, R: Wait + Drop + Send, Q: Wait + Drop + Send>(
     rt: &T,
-    plan: &Plan,
     writers: &mut Vec<ShardWriter<R>>,
-    readers: &mut ShardReaders<R>,
+    readers: &mut ShardReaders<Q>,
     entries: &Vec<Arc<Entry>>,
     wanted: &mut Wanted,
-    halter: &mut Halter,
-    flags: &mut [Flag; 2],
-) -> (u64, u128) {
+    ends: &mut Ends,
+    plan: &Plan,
+) -> (u64, u128, u64) {
+    let Ends { halter, first, second } = ends;
     let other = if plan.beside { u64::MAX } else { 0 };
-    let [first, second] = flags;
     let count = plan.count;
-    if plan.inserts {
-        let (_, measured) = join_mut(
-            rt,
-            &mut || look(readers, wanted, other, first),
-            &mut || insert_timed(rt, writers, entries, count, second, halter),
-        );
-        return measured;
-    }
-    let (_, measured) = join_mut(
+    let (other, (found, time)) = join_mut(
         rt,
         &mut || insert(writers, entries, other, first),
         &mut || look_timed(rt, readers, wanted, count, second, halter),
     );
-    measured
+    (found, time, other)
+}
+
+/// The same, where insertions are measured.
+fn time_inserts<T: Threads + Wait + Sync + CpuClock, R: Wait + Drop + Send, Q: Wait + Drop + Send>(
+    rt: &T,
+    writers: &mut Vec<ShardWriter<R>>,
+    readers: &mut ShardReaders<Q>,
+    entries: &Vec<Arc<Entry>>,
+    wanted: &mut Wanted,
+    ends: &mut Ends,
+    plan: &Plan,
+) -> (u64, u128, u64) {
+    let Ends { halter, first, second } = ends;
+    let other = if plan.beside { u64::MAX } else { 0 };
+    let count = plan.count;
+    let (other, (found, time)) = join_mut(
+        rt,
+        &mut || look(readers, wanted, other, first),
+        &mut || insert_timed(rt, writers, entries, count, second, halter),
+    );
+    (found, time, other)
 }
 
 fn insert_timed<C: CpuClock, R: Wait + Drop>(
@@ -270,7 +289,7 @@ fn measured<T: Threads + Wait + Sync + Send + CpuClock>(
     rt: &T,
     alloc: Global,
     given: [u64; 5],
-) -> Result<(u64, u128), Memory> {
+) -> Result<(u64, u128, u64), Memory> {
     let own = given[1] == 1;
     let (mut writers, mut readers) = Cache::open(alloc, rt, 3, 1024)?.split();
     fill(alloc, own, &mut writers)?;
@@ -282,17 +301,20 @@ fn measured<T: Threads + Wait + Sync + Send + CpuClock>(
         own,
         k: if given[2] == 1 { 2500 } else { 6000 },
     };
-    let (mut halter, mut made) = Halter::open(alloc, 2)?;
+    let (halter, mut made) = Halter::open(alloc, 2)?;
     let (Some(first), Some(second)) = (made.pop(), made.pop()) else {
         return Err(Memory);
     };
+    let mut ends = Ends { halter, first, second };
     let plan = Plan {
-        inserts: given[0] == 1,
         count: given[3],
         beside: given[4] == 1,
     };
-    let mut flags = [first, second];
-    let got = run(rt, &plan, &mut writers, &mut readers, &entries, &mut wanted, &mut halter, &mut flags);
+    let got = if given[0] == 1 {
+        time_inserts(rt, &mut writers, &mut readers, &entries, &mut wanted, &mut ends, &plan)
+    } else {
+        time_looks(rt, &mut writers, &mut readers, &entries, &mut wanted, &mut ends, &plan)
+    };
     drop(last);
     Ok(got)
 }
@@ -314,7 +336,7 @@ fn main(rt: HostRuntime) -> ExitCode {
     let Ok(got) = measured(&rt, rt.alloc(), given) else {
         return ExitCode::FAILURE;
     };
-    match println!(rt; "{} {}", got.0, got.1) {
+    match println!(rt; "{} {} {}", got.0, got.1, got.2) {
         Ok(()) => ExitCode::SUCCESS,
         Err(_) => ExitCode::FAILURE,
     }
@@ -344,26 +366,27 @@ def build(folder):
 LOOK, INSERT = range(2)
 
 def nanoseconds(path, what, kind, hits, count, beside):
-    """What one look-up or insertion takes, the least of three runs."""
+    """What one look-up or insertion takes, the least of five runs, and how many entries the other thread stored then."""
     words = [str(path), *map(str, (what, kind, hits, count, beside))]
     wanted = count if what == INSERT or hits else 0
-    least = None
-    for _ in range(3):
-        answer, taken = map(int, subprocess.run(words, capture_output=True, check=True, text=True).stdout.split())
-        if answer != wanted:
-            sys.exit(f"{' '.join(words[1:])}: {answer}, and not {wanted}")
-        least = taken if least is None else min(least, taken)
-    return least / count
+    runs = []
+    for _ in range(5):
+        found, taken, other = map(int, subprocess.run(words, capture_output=True, check=True, text=True).stdout.split())
+        if found != wanted or (what == LOOK and beside and other == 0):
+            sys.exit(f"{' '.join(words[1:])}: {found} {other}, and not {wanted}")
+        runs.append((taken / count, other))
+    return min(runs)
 
 def main():
     with tempfile.TemporaryDirectory() as folder:
         path = build(folder)
-        print("                alone  beside  ratio")
+        print("                alone  beside  ratio  stored beside")
         for kind, name in enumerate(("one", "own")):
-            rows = [("hit", LOOK, 1, 200_000), ("miss", LOOK, 0, 200_000), ("insert", INSERT, 0, 20_000)]
+            rows = [("hit", LOOK, 1, 1_000_000), ("miss", LOOK, 0, 2_000_000), ("insert", INSERT, 0, 50_000)]
             for row, what, hits, count in rows:
-                alone, beside = (nanoseconds(path, what, kind, hits, count, other) for other in range(2))
-                print(f"{name:4}  {row:6}{alone:8.0f}{beside:8.0f}{beside / alone:7.1f}", flush=True)
+                (alone, _), (beside, other) = (nanoseconds(path, what, kind, hits, count, flag) for flag in range(2))
+                stored = f"{other:15}" if what == LOOK else ""
+                print(f"{name:4}  {row:6}{alone:8.0f}{beside:8.0f}{beside / alone:7.1f}{stored}", flush=True)
 
 if __name__ == "__main__":
     main()
