@@ -4,6 +4,8 @@
 mod hold;
 mod post;
 mod scope;
+#[cfg(test)]
+mod tests;
 mod work;
 mod worker;
 

@@ -1,0 +1,195 @@
+ghost use Rattle.std.specs.Prelude.{◌≡◌};
+
+use crate::{Hold, HoldGate, Ran, Worker, beside, man, take_in};
+use asc_cache::{Cache, ListWriter, ShardWriter};
+use asc_jobs::{Giver, Job, Jobs, Kind, Tally};
+use asc_outside::{Gate, Open, Point};
+use asc_shape::{Shape, Snapshot, State};
+use asc_shard::Shard;
+use asc_traj::{Flag, Halter};
+use crossbeam_utils::sync::Unparker;
+use std::alloc::Global;
+use std::process::Abort;
+use std::sync::{Arc, Wait};
+use std::test::Fail;
+use std::thread::Threads;
+
+/// A loop from 0x10008 on that counts x5 up to 4, two steps a lap; behind it an exit, whose guest call is at 0x10018.
+const COUNTING: [u32; 7] = [
+    0x0000_0293,
+    0x0040_0313,
+    0x0012_8293,
+    0xFE62_9EE3,
+    0x05D0_0893,
+    0x0000_0513,
+    0x0000_0073,
+];
+
+/// A snapshot of that program at a pc, with these x5 and 4 in x6.
+fn counting<R: Abort>(rt: &R, alloc: Global, pc: u32, x5: u32) -> Arc<Snapshot> {
+    let shape = Shape::new(0x10000, 65_536).expect(rt, "a good shape");
+    let mut state = State::new(alloc, shape).expect(rt, "memory");
+    for (word, at) in COUNTING.iter().zip(0u32..7) {
+        let at = 0x10000 + 4 * at;
+        assert!(rt; state.holds(at, 4));
+        state.write(at, &word.to_le_bytes());
+    }
+    state.set_pc(pc);
+    state.set_reg(5, x5);
+    state.set_reg(6, 4);
+    Snapshot::of(alloc, &state).expect(rt, "memory")
+}
+
+/// A job that guesses the last state as it is.
+fn last_job<R: Abort>(rt: &R, last: Arc<Snapshot>) -> Job {
+    Job {
+        ticket: 0,
+        prev: Arc::try_clone(&last).expect(rt, "memory"),
+        last,
+        ahead: 1,
+        kind: Kind::Last,
+    }
+}
+
+/// A flag whose halter has asked to stop, or not.
+fn flag<R: Abort>(rt: &R, alloc: Global, halted: bool) -> Flag {
+    let (mut halter, mut flags) = Halter::open(alloc, 1).expect(rt, "memory");
+    if halted {
+        halter.halt();
+    }
+    flags.pop().expect(rt, "a flag")
+}
+
+/// What a new worker answers to the same job twice, and its tally.
+fn answers<R: Abort>(rt: &R, alloc: Global, pc: u32, halted: bool) -> (Ran, Ran, Tally) {
+    let job = last_job(rt, counting(rt, alloc, pc, 0));
+    let mut shard = Shard::new(alloc, 4).expect(rt, "memory");
+    let writer = ListWriter::new(&mut shard);
+    match Worker::new(
+        alloc,
+        job.last.shape(),
+        1,
+        100,
+        writer,
+        flag(rt, alloc, halted),
+    ) {
+        Ok(mut worker) => {
+            let first = worker.run_job(&job, &Open);
+            let second = worker.run_job(&job, &Open);
+            (first, second, worker.take_tally())
+        }
+        Err(_) => panic!(rt; "no memory"),
+    }
+}
+
+#[test]
+fn one_job(rt: HostRuntime) {
+    for (pc, halted, first, second) in [
+        (0x10008, false, Ran::Stored, Ran::Known),
+        (0x10008, true, Ran::Stopped, Ran::Stopped),
+        (0x10018, false, Ran::Empty, Ran::Empty),
+        (0x10018, true, Ran::Empty, Ran::Empty),
+    ] {
+        let (one, two, tally) = answers(&rt, rt.alloc(), pc, halted);
+        assert_eq!(rt; (one, two), (first, second));
+        assert_eq!(rt; tally.ran, 2);
+        assert_eq!(rt;
+            (tally.stored, tally.known),
+            if halted || pc == 0x10018 {
+                (0, 0)
+            } else {
+                (1, 1)
+            }
+        );
+    }
+}
+
+/// Pushes two jobs, waits until both are done, and stops the workers.
+fn walk<R: Abort + Wait, G: Gate>(
+    rt: &R,
+    giver: &mut Giver,
+    halter: &mut Halter,
+    wakers: &[Unparker],
+    gate: &G,
+    last: &Arc<Snapshot>,
+)
+    ensures queue { giver.new.queue ≡ giver.old.queue }
+    ensures opened { giver.new.opened ≡ giver.old.opened }
+{
+    for _ in 0..2 {
+        assert!(rt; giver.pushed() < 1 << 60);
+        let Job {
+            prev,
+            last,
+            ahead,
+            kind,
+            ..
+        } = last_job(rt, Arc::try_clone(last).expect(rt, "memory"));
+        assert!(rt; giver.push(rt, prev, last, ahead, kind).is_ok());
+    }
+    wake(wakers);
+    gate.pass(Point::Ended, giver.pushed());
+    halter.halt();
+    wake(wakers);
+}
+
+/// Wakes all workers.
+fn wake(wakers: &[Unparker]) {
+    for waker in wakers {
+        waker.unpark();
+    }
+}
+
+/// Holds the first job until the second is done, and the walk until both are.
+fn holds() -> [Hold; 3] {
+    let hold = |at, ticket, until, other| Hold {
+        at,
+        ticket,
+        until,
+        other,
+    };
+    [
+        hold(Point::Taken, 0, Point::Done, 1),
+        hold(Point::Ended, 0, Point::Done, 0),
+        hold(Point::Ended, 0, Point::Done, 1),
+    ]
+}
+
+/// Two workers beside a walk that pushes two jobs of one state: each runs one of them.
+fn run_two<R: Abort + Threads + Wait + Sync + Copy + Drop + Send>(rt: &R, alloc: Global) {
+    let last = counting(rt, alloc, 0x10008, 0);
+    let (mut halter, mut flags) = Halter::open(alloc, 2).expect(rt, "memory");
+    let (mut giver, takers) = Jobs::open(alloc, 4, 2).expect(rt, "memory");
+    let cache = Cache::open(alloc, *rt, 2, 16).expect(rt, "memory");
+    let (mut writers, _readers) = cache.split();
+    let mut workers: Vec<Worker<ShardWriter<R>, Flag>> = Vec::new(alloc);
+    for _ in 0..2 {
+        let writer = writers.pop().expect(rt, "two writers");
+        let flag = flags.pop().expect(rt, "two flags");
+        match Worker::new(alloc, last.shape(), 1, 100, writer, flag) {
+            Ok(worker) => workers.push(worker).expect(rt, "memory"),
+            Err(_) => panic!(rt; "no memory"),
+        }
+    }
+    let (mut posts, wakers) = man(alloc, workers, takers).expect(rt, "memory");
+    let gate = HoldGate::new(alloc, &holds(), 1_000_000).expect(rt, "memory");
+    beside(
+        rt,
+        posts.as_mut_slice(),
+        &gate,
+        &mut || {
+            walk(rt, &mut giver, &mut halter, &wakers, &gate, &last);
+        },
+    );
+    let taken = take_in(rt, giver, posts);
+    assert!(rt; !gate.ran_out());
+    assert_eq!(rt;
+        (taken.tally.ran, taken.tally.stored, taken.left),
+        (2, 2, 0)
+    );
+}
+
+#[test]
+fn two_workers(rt: HostRuntime) {
+    run_two(&rt, rt.alloc());
+}
