@@ -35,7 +35,11 @@ const TRIAL: &str = "trial 0: status 0, steps 3310, output 64\n\
 // are worked out from the program: each word that it fills is a lap of 206 steps.
 static TRIALS: [(&str, [u64; 5], Want); 16] = [
     ("asc trial 0", [0; 5], Want { out: TRIAL, ..DONE }),
-    ("asc trial +00", [1, 1, 0, 1, 1], Want { out: TRIAL, ..DONE }),
+    (
+        "asc trial +00",
+        [1, 1, 0, 1, 1],
+        Want { out: TRIAL, ..DONE },
+    ),
     (
         "asc trial 300",
         [0; 5],
