@@ -1,11 +1,15 @@
+ghost use Rattle.std.specs.Prelude.{◌≤◌};
+
 use crate::Live;
 use asc_guess::Kind;
-use asc_jobs::Jobs;
+use asc_jobs::{Jobs, Taker};
 use asc_outside::{Gate, Point};
 use asc_run::Helper;
 use asc_shape::{Shape, State};
 use asc_traj::{Finder, Guessing, Nothing};
 use crossbeam_utils::sync::Parker;
+use std::process::Abort;
+use std::sync::Wait;
 use std::sync::atomic::{AtomicU64, Ordering};
 use std::test::Fail;
 
@@ -26,6 +30,9 @@ impl Gate for Noting {
 /// It does nothing. Its call shows that a value may be handed to a thread.
 fn is_sent<T: Send>(_value: &T) {}
 
+/// A job: the pcs of the visit before and of the visit, how many visits ahead, and the kind.
+type Row = (u32, u32, u32, Kind);
+
 /// A visit, the jobs taken before it, and what is counted after it: jobs pushed, and jobs that found no room.
 ///
 /// The queue holds 3 jobs. Both kinds are on, and 2 visits ahead are guessed. So at visit 2 jobs are due for visits 3 and
@@ -38,9 +45,8 @@ static VISITS: [(u64, u64, u64, u64); 5] = [
     (5, 2, 6, 4),
 ];
 
-/// The jobs in the order in which they are taken: the pcs of the visit before and of the visit, how many visits ahead,
-/// and the kind. A visit's pc is 4 times its number.
-static JOBS: [(u32, u32, u32, Kind); 6] = [
+/// The jobs in the order in which they are taken. A visit's pc is 4 times its number.
+static JOBS: [Row; 6] = [
     (4, 8, 1, Kind::Last),
     (4, 8, 1, Kind::Stride),
     (4, 8, 2, Kind::Last),
@@ -48,6 +54,18 @@ static JOBS: [(u32, u32, u32, Kind); 6] = [
     (16, 20, 2, Kind::Last),
     (16, 20, 2, Kind::Stride),
 ];
+
+/// Pops a job, and answers how many there were. It is this row's, if all jobs were pushed that are due.
+fn pop<R: Abort + Wait>(rt: &R, taker: &mut Taker, row: Option<&Row>, all: bool) -> u64
+    ensures { result ≤ 1 }
+{
+    let found = match taker.pop(rt) {
+        Some(job) => Some((job.prev.pc(), job.last.pc(), job.ahead, job.kind)),
+        None => None,
+    };
+    assert!(rt; !all || found == row.copied());
+    u64::from(found.is_some())
+}
 
 #[test]
 fn visits(rt: HostRuntime) -> Result<(), Fail> {
@@ -73,13 +91,12 @@ fn visits(rt: HostRuntime) -> Result<(), Fail> {
     };
     let mut live = Live::new(alloc, &rt, &gate, Nothing::new(), giver, workers, guessing);
     is_sent(&live);
-    let mut jobs = JOBS.iter();
+    let mut rows = JOBS.iter();
+    let mut popped = 0;
     for &(number, taken, made, full) in &VISITS {
         for _ in 0..taken {
-            let job = taker.pop(&rt).expect(&rt, "a job");
-            let found = (job.prev.pc(), job.last.pc(), job.ahead, job.kind);
-            let wanted = *jobs.next().expect(&rt, "a row");
-            assert!(rt; live.refused() > 0 || found == wanted);
+            assert!(rt; popped < 9);
+            popped += pop(&rt, &mut taker, rows.next(), live.refused() == 0);
         }
         assert!(rt; number < 9 && live.made() < 9 && live.full() < 9);
         state.set_pc(4 * number as u32);
@@ -88,16 +105,19 @@ fn visits(rt: HostRuntime) -> Result<(), Fail> {
         let counts = (live.made(), live.full());
         assert!(rt; live.refused() > 0 || counts == (made, full));
     }
+    // Where memory was wanting for a state, jobs were left out.
+    let (made, full) = (live.made(), live.full());
+    assert!(rt; live.refused() == 0 || made < 9 && full < 9 && made + full < 10);
     // The worker was woken.
     if live.made() > 0 {
         parker.park(&rt);
     }
+    for _ in 0..4 {
+        assert!(rt; popped < 9);
+        popped += pop(&rt, &mut taker, rows.next(), live.refused() == 0);
+    }
+    assert_eq!(rt; popped, live.made());
     assert_eq!(rt; live.finder().asked(), 0);
     let (_finder, _giver) = live.into_parts();
-    for &wanted in jobs {
-        let job = taker.pop(&rt).expect(&rt, "a job");
-        let found = (job.prev.pc(), job.last.pc(), job.ahead, job.kind);
-        assert_eq!(rt; found, wanted);
-    }
     Ok(())
 }
