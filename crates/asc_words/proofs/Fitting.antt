@@ -1,7 +1,7 @@
 -- What clap finds where it refuses nothing: each value passed the parser of its argument.
 use Rattle.std.proofs.Common.{◌≡◌, ◌∙◌, ◌<◌, ◌==◌, ◌&&◌, ◌||◌, ◌⊎◌, ℕ, Bool, cond, true, false, not, zero, suc, refl, sym, ap, subst, arith, List, [], ◌∷◌, ◌++◌, length, drop, Option, Some, None, is_some, inl, inr, append-nil, lt-ltb, ne_eqb, nat_lt}
 use Rattle.std.specs.Prelude.{encode_utf8, slice_get}
-use Rattle.std.specs.List.{find, fold, list_any}
+use Rattle.std.specs.List.{find, fold, list_all, list_any}
 use Rattle.std.specs.Option.{option_map_or}
 use Rattle.std.specs.Str.{bytes_eq, chars}
 use Rattle.std.proofs.lemmas.Slice.Eq.{bytes_eq-Decides}
@@ -15,7 +15,7 @@ use Rattle.clap.specs.Takes.{is_given}
 use Rattle.clap.specs.Kinds.{Kinds, or_else, range_kinds, request_kinds, value_kinds}
 use Rattle.clap.specs.Faults.{action_fault, bundle_fault, bundle_step_fault, default_fault, defaults_fault, given_default_fault, stray_fault, flag_word_fault, flags_fault, long_fault, option_fault, other_fault, positional_fault, react_fault, repeat_fault, settle_fault, short_fault, step_fault, turn_fault, use_fault, values_fault, walk_fault, word_fault}
 use Rattle.clap.specs.declared.builder.action.ArgAction.{ArgAction}
-use Rattle.clap.specs.declared.builder.action.ArgAction.TheVariants.{Set, SetTrue}
+use Rattle.clap.specs.declared.builder.action.ArgAction.TheVariants.{Set, SetTrue, SetFalse, Append, Count, Help, HelpShort, HelpLong, Version}
 use Rattle.clap.specs.declared.error.kind.ErrorKind.{ErrorKind}
 use Rattle.clap.specs.declared.error.kind.ErrorKind.TheVariants as kind
 use Rattle.clap.specs.declared.parser.matches.ValueSource.{ValueSource}
@@ -71,6 +71,42 @@ AllFit rules (row ∷ rows) = FitsOne rules row × AllFit rules rows
 abbrev pub AreOptions : List Rule → Type 0
 AreOptions [] = Unit {0}
 AreOptions (a ∷ rules) = IsOption a × AreOptions rules
+
+-- the same as a test
+abbrev sets_values : ArgAction → Bool
+sets_values Set = true
+sets_values SetTrue = true
+sets_values action = false
+
+abbrev pub is_option : Rule → Bool
+is_option a = sets_values (action_of a) && (nat_lt 0 (unwrap_or_range a.range).start_inclusive || not (is_empty a.missing))
+
+both_hold : (a b : Bool) → (a && b) ≡ true → (a ≡ true) × (b ≡ true)
+both_hold true b is = (refl, is)
+both_hold false b is = cc
+
+sets_as : (action : ArgAction) → sets_values action ≡ true → (action ≡ Set) ⊎ (action ≡ SetTrue)
+sets_as Set is = inl refl
+sets_as SetTrue is = inr refl
+sets_as SetFalse is = cc
+sets_as Append is = cc
+sets_as Count is = cc
+sets_as Help is = cc
+sets_as HelpShort is = cc
+sets_as HelpLong is = cc
+sets_as Version is = cc
+
+has_some : (least : ℕ) (missing : List Text) → (nat_lt 0 least || not (is_empty missing)) ≡ true → (0 < least) ⊎ IsGiven missing
+has_some least (first ∷ rest) is = inr tt
+has_some zero [] is = cc
+has_some (suc least) [] is = inl (omega arith)
+
+pub options_of : (rules : List Rule) → list_all is_option rules ≡ true → AreOptions rules
+options_of [] is = tt
+options_of (a ∷ rules) is =
+    let parts = both_hold (is_option a) (list_all is_option rules) is in
+    let own = both_hold (sets_values (action_of a)) (nat_lt 0 (unwrap_or_range a.range).start_inclusive || not (is_empty a.missing)) parts.0 in
+    (record { sets = sets_as (action_of a) own.0; some = has_some _ a.missing own.1 }, options_of rules parts.1)
 
 -- an option of the command
 record IsOf (rules : List Rule) (a : Rule) : Type 0 where
@@ -440,6 +476,21 @@ pub record IsNew (a : Rule) (rules : List Rule) : Type 0 where
 abbrev pub AreDistinct : List Rule → Type 0
 AreDistinct [] = Unit {0}
 AreDistinct (a ∷ rules) = IsNew a rules × AreDistinct rules
+
+-- the same as a test
+abbrev pub are_distinct : List Rule → Bool
+are_distinct [] = true
+are_distinct (a ∷ rules) = not (list_any (λ b. bytes_eq b.id a.id) rules) && are_distinct rules
+
+not_true : (b : Bool) → not b ≡ true → b ≡ false
+not_true true is = cc
+not_true false is = refl
+
+pub distinct_of : (rules : List Rule) → are_distinct rules ≡ true → AreDistinct rules
+distinct_of [] is = tt
+distinct_of (a ∷ rules) is =
+    let parts = both_hold (not (list_any (λ b. bytes_eq b.id a.id) rules)) (are_distinct rules) is in
+    (record { is_new = not_true _ parts.0 }, distinct_of rules parts.1)
 
 found_any : (id : Text) (rules : List Rule) (b : Rule) → find (λ a. bytes_eq a.id id) rules ≡ Some b → list_any (λ a. bytes_eq a.id id) rules ≡ true
 found_any id [] b found = cc

@@ -1,4 +1,5 @@
 pub mod Fitting
+pub mod Commands
 pub mod Numbers
 pub mod Addresses
 pub mod Taken

@@ -1,5 +1,5 @@
 -- The line of words that clap takes, and of words that it refuses.
-use Rattle.std.proofs.Common.{◌≡◌, ◌∙◌, ◌^◌, ℕ, codes, inl, inr, true, refl, sym, ap, subst, List, [], ◌∷◌, Option, Some, None, Result, Ok, Err, IsErrAnd, IsSome, Bor, rules}
+use Rattle.std.proofs.Common.{◌≡◌, ◌∙◌, ◌^◌, ◌-◌, ◌<◌, ◌≤◌, ◌⊎◌, ℕ, arith, codes, inl, inr, true, refl, sym, ap, subst, List, [], ◌∷◌, Option, Some, None, Result, Ok, Err, IsErrAnd, IsSome, Bor, rules}
 use Rattle.std.specs.Prelude.{option_map, if◌then◌else◌, Box}
 use Rattle.std.specs.Box.{box_value}
 use Rattle.clap.specs.Matches.{found_of, subcommand_name_of}
@@ -15,17 +15,18 @@ use Rattle.clap.specs.declared.parser.matches.ArgMatches.{ArgMatches}
 use Rattle.clap.specs.declared.parser.matches.ArgMatches.TheViews.{out-ArgMatches, out-SubCommand}
 use Rattle.clap.specs.declared.parser.matches.SubCommand.{SubCommand}
 use Rattle.asc_words.specs.Command.{asc_command}
-use Rattle.asc_words.specs.Laws.{HaveLine, LinesAreWithin}
+use Rattle.asc_words.specs.Laws.{HaveLine, HaveLineOf, LinesAreWithin}
 use Rattle.asc_words.specs.declared.answer.Bad.{Bad}
 use Rattle.asc_words.specs.declared.answer.Bad.TheVariants.{Words}
 use Rattle.asc_words.specs.declared.line.Line.{Line}
-use Rattle.asc_words.specs.declared.line.Line.TheVariants.{Run}
-use Rattle.asc_words.specs.Line.{IsWithin, address_of, line_of, line_found, run_at, run_of, run_with}
-use Rattle.asc_words.specs.Rows.{IsRun, line_fault}
+use Rattle.asc_words.specs.declared.line.Line.TheVariants.{Run, Make, Trial}
+use Rattle.asc_words.specs.Line.{IsWithin, address_of, guesses_of, line_of, line_found, make_of, number_in, run_at, run_of, run_with, text_in, trial_of}
+use Rattle.asc_words.specs.Rows.{IsMake, IsRun, IsTrial, line_fault}
+use Rattle.asc_words.specs.declared.line.Guesses.{Guesses}
 use Rattle.asc_words.specs.declared.line.LineFault.TheVariants as faults
 use Rattle.asc_words.proofs.Fitting.{not_empty}
 use Rattle.asc_words.proofs.Numbers.{number_within}
-use Rattle.asc_words.proofs.Taken.{taken}
+use Rattle.asc_words.proofs.Taken.{IsTaken, IsTakenAs, taken}
 
 -- clap's model of the parse is exact for asc's command
 pub asc_is_simple : is_simple_and_free asc_command ≡ true
@@ -71,88 +72,170 @@ refused_by app words e bad is kinds fault = go (subst (λ (a : App). HasKind (fa
     go (inr among) = refused_line words (kind_of e) among ∙ ap (λ (b : Bad). Err b) (sym (wrong_words (kind_of e) bad fault))
 
 -- words that clap takes
-line_of_rows : (words : List Text) (rows : List Row) → fault_of asc_command words ≡ [] → subcommand_of asc_command words ≡ Some (codes "run", rows)
-    → line_of words ≡ run_of rows
+line_of_taken : (words : List Text) (name : Text) (rows : List Row) → fault_of asc_command words ≡ [] → subcommand_of asc_command words ≡ Some (name, rows)
+    → line_of words ≡ line_found (Some (name, rows))
 unfolding line_of
-line_of_rows words rows none names = rw (none, names) refl
+line_of_taken words name rows none names = rw (none, names) refl
+
+have_line_of : (words : List Text) (name : Text) (AreValues : List Row → Type 0) (made : List Row → Result Line Bad)
+    → ((rows : List Row) → line_found (Some (name, rows)) ≡ made rows) → fault_of asc_command words ≡ []
+    → IsTakenAs (subcommand_of asc_command words) name AreValues → HaveLineOf words name AreValues made
+have_line_of words name AreValues made is none of = record {
+  rows = of.rows;
+  names = of.names;
+  values = of.values;
+  line = line_of_taken words name of.rows none of.names ∙ is of.rows;
+}
 
 pub have_line : (words : List Text) → fault_of asc_command words ≡ [] → HaveLine words
-have_line words none =
-    let of = taken words none in
-    record { rows = of.rows; names = of.names; is_run = of.is_run; line = line_of_rows words of.rows none of.names }
+have_line words none = go (taken words none)
+  where
+    go : IsTaken (subcommand_of asc_command words) → HaveLine words
+    go (inl run) = inl (have_line_of words (codes "run") IsRun run_of (λ rows. refl) none run)
+    go (inr (inl make)) = inr (inl (have_line_of words (codes "make") IsMake make_of (λ rows. refl) none make))
+    go (inr (inr trial)) = inr (inr (have_line_of words (codes "trial") IsTrial trial_of (λ rows. refl) none trial))
 
--- the line of `run` is within its ranges
-run_at_within : (rows : List Row) → IsRun rows → (pc : Result (Option ℕ) Bad) (line : Line) → run_at rows pc ≡ Ok line → IsWithin line
-run_at_within rows is (Err bad) line e = absurd (cc)
-run_at_within rows is (Ok pc) line e =
-    let memory = number_within (codes "memory") 64 65536 rows is.memory in
-    let same : Run (run_with rows pc) ≡ line = cc in
-    subst (λ (l : Line). IsWithin l) same (memory.0, memory.1, (number_within (codes "steps") 0 (2 ^ 40) rows is.limit).1)
+-- the lines are within their ranges
+run_at_within : (rows : List Row) → IsRun rows → (guesses : Result Guesses Bad) (pc : Result (Option ℕ) Bad) (line : Line) → run_at rows guesses pc ≡ Ok line → IsWithin line
+run_at_within rows is (Err bad) pc line e = absurd (cc)
+run_at_within rows is (Ok guesses) (Err bad) line e = absurd (cc)
+run_at_within rows is (Ok guesses) (Ok pc) line e =
+    let same : Run (run_with rows guesses pc) ≡ line = cc in
+    subst (λ (l : Line). IsWithin l) same (record {
+      memory = number_within (codes "memory") 64 65536 rows is.memory;
+      limit = (number_within (codes "steps") 0 (2 ^ 40) rows is.limit).1;
+      profile = number_within (codes "profile") 2 65536 rows is.profile;
+      least = number_within (codes "min") 2 65536 rows is.least;
+      laps = number_within (codes "laps") 1 1000000 rows is.laps;
+      span = number_within (codes "span") 1 1000000000 rows is.span;
+      ahead = number_within (codes "ahead") 1 64 rows is.ahead;
+      workers = (number_within (codes "workers") 0 64 rows is.workers).1;
+      queue = number_within (codes "queue") 1 1024 rows is.queue;
+    })
 
 pub run_within : (rows : List Row) → IsRun rows → (line : Line) → run_of rows ≡ Ok line → IsWithin line
-run_within rows is = run_at_within rows is (address_of (first_of (codes "pc") rows))
+run_within rows is = run_at_within rows is (guesses_of (text_in (codes "guess") rows)) (address_of (first_of (codes "pc") rows))
+
+below_all : (n : ℕ) → n ≤ 2 ^ 64 - 1 → n < 2 ^ 64
+below_all n is = omega arith
+
+pub make_within : (rows : List Row) → IsMake rows → IsWithin (Make (number_in (codes "number") rows))
+make_within rows is = below_all _ (number_within (codes "number") 0 (2 ^ 64 - 1) rows is.number).1
+
+pub trial_within : (rows : List Row) → IsTrial rows → IsWithin (Trial (number_in (codes "number") rows) (number_in (codes "workers") rows))
+trial_within rows is = (
+  below_all _ (number_within (codes "number") 0 (2 ^ 64 - 1) rows is.number).1,
+  (number_within (codes "workers") 0 64 rows is.workers).1,
+)
+
+ok_is : (r : Result Line Bad) (a b : Line) → r ≡ Ok a → r ≡ Ok b → a ≡ b
+ok_is r a b is same = cc
 
 pub lines_within : LinesAreWithin
 lines_within words line is = go (fault_of asc_command words) refl
   where
+    within : HaveLine words → IsWithin line
+    within (inl run) = run_within run.rows run.values line (sym run.line ∙ is)
+    within (inr (inl make)) =
+        let same : Make (number_in (codes "number") make.rows) ≡ line = ok_is _ _ line make.line is in
+        subst (λ (l : Line). IsWithin l) same (make_within make.rows make.values)
+    within (inr (inr trial)) =
+        let same : Trial (number_in (codes "number") trial.rows) (number_in (codes "workers") trial.rows) ≡ line = ok_is _ _ line trial.line is in
+        subst (λ (l : Line). IsWithin l) same (trial_within trial.rows trial.values)
+
     go : (kinds : Kinds) → fault_of asc_command words ≡ kinds → IsWithin line
-    go [] none =
-        let of = have_line words none in
-        run_within of.rows of.is_run line (sym of.line ∙ is)
+    go [] none = within (have_line words none)
     go (k ∷ kinds) some =
         let refused : line_of words ≡ Err Words = refused_line words k (subst (λ (all : Kinds). IsAmong k all) (sym some) (inl refl)) in
         cc
 
 -- ---- what the code has in its hands
 
--- what a parse found for the words: the subcommand `run`, and what the line is made of
-pub record IsFound (words : List Text) (m : ArgMatches) : Type 0 where
+-- a parse found this subcommand, and what the line is made of
+pub record IsFoundAs (words : List Text) (m : ArgMatches) (name : Text) (AreValues : List Row → Type 0) (made : List Row → Result Line Bad) : Type 0 where
   pub rows : List Row
-  pub line : line_of words ≡ run_of rows
-  pub is_run : IsRun rows
-  pub name : subcommand_name_of m ≡ Some (codes "run")
+  pub line : line_of words ≡ made rows
+  pub values : AreValues rows
+  pub names : subcommand_name_of m ≡ Some name
   pub found : option_map (λ p. p.1) (subcommand_rows_of m) ≡ Some rows
+
+-- it is one of the three
+abbrev pub IsFound : List Text → ArgMatches → Type 0
+IsFound words m =
+    IsFoundAs words m (codes "run") IsRun run_of
+    ⊎ IsFoundAs words m (codes "make") IsMake make_of
+    ⊎ IsFoundAs words m (codes "trial") IsTrial trial_of
 
 name_of_rows : {Z : Type 0} (met : Option (Box SubCommand Z)) (name : Text) (rows : List Row) → subcommand_rows met ≡ Some (name, rows)
     → option_map (λ b. (out-SubCommand (box_value b)).name.now) met ≡ Some name
 name_of_rows None name rows is = cc
 name_of_rows (Some b) name rows is = ap (option_map (λ (p : Text × List Row). p.0)) is
 
+module _ (words : List Text) (m : ArgMatches) (same : subcommand_rows_of m ≡ subcommand_of asc_command words) where
+  found_as : (name : Text) (AreValues : List Row → Type 0) (made : List Row → Result Line Bad) → HaveLineOf words name AreValues made
+      → IsFoundAs words m name AreValues made
+  found_as name AreValues made of = record {
+    rows = of.rows;
+    line = of.line;
+    values = of.values;
+    names = name_of_rows (out-ArgMatches m).subcommand name of.rows (same ∙ of.names);
+    found = ap (option_map (λ (p : Text × List Row). p.1)) (same ∙ of.names);
+  }
+
+  found_of_lines : HaveLine words → IsFound words m
+  found_of_lines (inl run) = inl (found_as (codes "run") IsRun run_of run)
+  found_of_lines (inr (inl make)) = inr (inl (found_as (codes "make") IsMake make_of make))
+  found_of_lines (inr (inr trial)) = inr (inr (found_as (codes "trial") IsTrial trial_of trial))
+
 pub found : (app : App) (words : List Text) (m : ArgMatches) → app ≡ asc_command → (is_simple_and_free app ≡ true → fault_of app words ≡ [])
     → HasMatchesOf app words m → IsFound words m
 found app words m is kinds matches =
     let none : fault_of asc_command words ≡ [] = ap (λ (a : App). fault_of a words) (sym is) ∙ kinds (ap is_simple_and_free is ∙ asc_is_simple) in
-    let of = have_line words none in
-    let rows_are = (matches (ap is_simple is)).1 ∙ ap (λ (a : App). subcommand_of a words) is ∙ of.names in
-    record {
-      rows = of.rows;
-      line = of.line;
-      is_run = of.is_run;
-      name = name_of_rows (out-ArgMatches m).subcommand (codes "run") of.rows rows_are;
-      found = ap (option_map (λ (p : Text × List Row). p.1)) rows_are;
-    }
+    found_of_lines words m ((matches (ap is_simple is)).1 ∙ ap (λ (a : App). subcommand_of a words) is) (have_line words none)
 
 -- an error that `?` passed up
 pub passed_up : {T E : Type 0} (r : Result T E) (x y : E) → IsErrAnd r (λ e. e ≡ x) → r ≡ Err y → x ≡ y
 passed_up (Ok t) x y is same = absurd is
 passed_up (Err e) x y is same = cc
 
--- the subcommand that the code holds is what was found
-module _ (words : List Text) (m : ArgMatches) (of : IsFound words m) (met : Option (Bor Text × Bor ArgMatches)) where
-  pub is_met : option_map (λ p. p.0.now) met ≡ subcommand_name_of m → IsSome met
-  is_met names = go met (names ∙ of.name)
-    where
-      go : (o : Option (Bor Text × Bor ArgMatches)) → option_map (λ p. p.0.now) o ≡ Some (codes "run") → IsSome o
-      go None e = cc
-      go (Some p) e = search rules
+-- the subcommand that the code holds, and what the line is made of
+pub record IsMetAs (words : List Text) (p : Bor Text × Bor ArgMatches) (name : Text) (AreValues : List Row → Type 0) (made : List Row → Result Line Bad) : Type 0 where
+  pub is : p.0.now ≡ name
+  pub line : line_of words ≡ made (rows_of (found_of p.1.now))
+  pub values : AreValues (rows_of (found_of p.1.now))
 
-  pub same_name : (p : Bor Text × Bor ArgMatches) → met ≡ Some p → option_map (λ q. q.0.now) met ≡ subcommand_name_of m → p.0.now ≡ codes "run"
-  same_name p is names =
-      let same = sym (ap (option_map (λ (q : Bor Text × Bor ArgMatches). q.0.now)) is) ∙ names ∙ of.name in
-      cc
+module _ (words : List Text) (m : ArgMatches) (met : Option (Bor Text × Bor ArgMatches)) where
+  module _ (p : Bor Text × Bor ArgMatches) (is : met ≡ Some p) (names : option_map (λ q. q.0.now) met ≡ subcommand_name_of m)
+      (rows : option_map (λ q. rows_of (found_of q.1.now)) met ≡ option_map (λ q. q.1) (subcommand_rows_of m)) where
+    met_as : (name : Text) (AreValues : List Row → Type 0) (made : List Row → Result Line Bad) → IsFoundAs words m name AreValues made
+        → IsMetAs words p name AreValues made
+    met_as name AreValues made of =
+        let same_name = sym (ap (option_map (λ (q : Bor Text × Bor ArgMatches). q.0.now)) is) ∙ names ∙ of.names in
+        let same = sym (ap (option_map (λ (q : Bor Text × Bor ArgMatches). rows_of (found_of q.1.now))) is) ∙ rows ∙ of.found in
+        let same_rows : rows_of (found_of p.1.now) ≡ of.rows = cc (same) in
+        record {
+          is = cc (same_name);
+          line = of.line ∙ ap made (sym same_rows);
+          values = subst AreValues (sym same_rows) of.values;
+        }
 
-  pub same_rows : (p : Bor Text × Bor ArgMatches) → met ≡ Some p → option_map (λ q. rows_of (found_of q.1.now)) met ≡ option_map (λ q. q.1) (subcommand_rows_of m)
-      → rows_of (found_of p.1.now) ≡ of.rows
-  same_rows p is rows =
-      let same = sym (ap (option_map (λ (q : Bor Text × Bor ArgMatches). rows_of (found_of q.1.now))) is) ∙ rows ∙ of.found in
-      cc
+    -- which of the three it is
+    pub met_run : IsFound words m → p.0.now ≡ codes "run" → IsMetAs words p (codes "run") IsRun run_of
+    met_run (inl run) name = met_as (codes "run") IsRun run_of run
+    met_run (inr (inl make)) name = let other = (met_as (codes "make") IsMake make_of make).is in absurd (cc)
+    met_run (inr (inr trial)) name = let other = (met_as (codes "trial") IsTrial trial_of trial).is in absurd (cc)
+
+    pub met_make : IsFound words m → p.0.now ≡ codes "make" → IsMetAs words p (codes "make") IsMake make_of
+    met_make (inl run) name = let other = (met_as (codes "run") IsRun run_of run).is in absurd (cc)
+    met_make (inr (inl make)) name = met_as (codes "make") IsMake make_of make
+    met_make (inr (inr trial)) name = let other = (met_as (codes "trial") IsTrial trial_of trial).is in absurd (cc)
+
+    pub met_trial : IsFound words m → p.0.now ≡ codes "trial" → IsMetAs words p (codes "trial") IsTrial trial_of
+    met_trial (inl run) name = let other = (met_as (codes "run") IsRun run_of run).is in absurd (cc)
+    met_trial (inr (inl make)) name = let other = (met_as (codes "make") IsMake make_of make).is in absurd (cc)
+    met_trial (inr (inr trial)) name = met_as (codes "trial") IsTrial trial_of trial
+
+    pub met_one : IsFound words m → (p.0.now ≡ codes "run") ⊎ (p.0.now ≡ codes "make") ⊎ (p.0.now ≡ codes "trial")
+    met_one (inl run) = inl (met_as (codes "run") IsRun run_of run).is
+    met_one (inr (inl make)) = inr (inl (met_as (codes "make") IsMake make_of make).is)
+    met_one (inr (inr trial)) = inr (inr (met_as (codes "trial") IsTrial trial_of trial).is)

@@ -1,26 +1,25 @@
 -- What is known of words that clap takes for asc's command.
-use Rattle.std.proofs.Common.{◌≡◌, ◌∙◌, ◌<◌, ◌||◌, ◌^◌, ℕ, inl, inr, Bool, codes, cond, true, false, not, refl, ap, subst, lit<, List, [], ◌∷◌, Option, Some, None, is_some}
+use Rattle.std.proofs.Common.{◌≡◌, ◌∙◌, ◌||◌, ◌^◌, ◌-◌, ◌⊎◌, ℕ, zero, suc, inl, inr, Bool, codes, cond, true, false, not, refl, ap, subst, List, [], ◌∷◌, Option, Some, None, is_some}
 use Rattle.std.specs.Prelude.{option_and_then, option_map, slice_get}
 use Rattle.std.specs.List.{find, list_any}
 use Rattle.std.specs.Str.{bytes_eq}
 use Rattle.std.specs.Option.{option_map_or}
-use Rattle.clap.specs.declared.builder.action.ArgAction.TheVariants.{Set}
 use Rattle.clap.specs.ValueTests.{accepts}
 use Rattle.clap.proofs.ValueTestLemmas.{accepts-Accepts}
 use Rattle.clap.specs.Values.{read_as, reading_of}
-use Rattle.clap.specs.Facts.{parser_of_value, unwrap_or_range}
+use Rattle.clap.specs.Facts.{parser_of_value}
 use Rattle.clap.specs.declared.builder.value_parser.Reading.TheVariants.{AsWritten}
 use Rattle.clap.specs.declared.builder.value_parser.ValueParser.{ValueParser}
 use Rattle.clap.specs.declared.builder.value_parser.ValueParser.TheVariants as parsers
-use Rattle.clap.specs.Walk.{Held, Names, Row, Rule, Text, answers_to, finished, first_of, nothing_held, row_text, rows_after, settled, stop_after, walk, walk_from, action_of, is_empty}
+use Rattle.clap.specs.Walk.{Held, Names, Row, Rule, Text, answers_to, finished, first_of, nothing_held, row_text, rows_after, settled, stop_after, walk, walk_from, is_empty}
 use Rattle.clap.specs.Simple.{Shape, argument_words, built, entered, filled, label_of, with_index, names_of, rows_at, subcommand_of}
 use Rattle.clap.specs.Takes.{is_given}
 use Rattle.clap.specs.Kinds.{Kinds, or_else}
 use Rattle.clap.specs.Faults.{check_fault, defaults_fault, entered_fault, fault_of, level_fault, settle_fault, walk_fault}
 use Rattle.clap.specs.declared.error.kind.ErrorKind.TheVariants as kind
-use Rattle.asc_words.specs.Command.{asc_command, flag, number_option, required, run_command, text_option}
-use Rattle.asc_words.specs.Rows.{HasFlag, HasNumber, IsRun}
-use Rattle.asc_words.proofs.Fitting.{AllFit, AreDistinct, AreOptions, IsNew, IsOption, Found, defaults_fit, found_for, given_row, made_by_defaults, neither, not_chosen, settle_fits, walk_fits}
+use Rattle.asc_words.specs.Command.{asc_command, flag, number_argument, number_option, required, run_command, text_with_default}
+use Rattle.asc_words.specs.Rows.{HasFlag, HasNumber, HasText, IsMake, IsRun, IsTrial}
+use Rattle.asc_words.proofs.Fitting.{AllFit, AreDistinct, AreOptions, Found, distinct_of, options_of, defaults_fit, found_for, given_row, made_by_defaults, neither, not_chosen, settle_fits, walk_fits}
 
 -- ---- a level of a command
 
@@ -44,58 +43,6 @@ passes s names words has_subcommand below none =
     let three = neither settles (or_else defaults last) two.1 in
     let four = neither defaults last three.1 in
     record { of_walk = one.0; of_below = two.0; of_pending = three.0; of_defaults = four.0; of_check = four.1 }
-
--- ---- `asc run`
-
--- the subcommand as clap builds it
-abbrev first_sub : List Shape → Shape
-first_sub [] = run_command
-first_sub (s ∷ subs) = s
-
-abbrev built_run : Shape
-built_run = first_sub (built asc_command).subs
-
-abbrev image : Rule
-image = with_index 1 (filled (required (codes "image")))
-
-abbrev memory : Rule
-memory = filled (number_option (codes "memory") 64 65536 (codes "1024"))
-
-abbrev steps : Rule
-steps = filled (number_option (codes "steps") 0 (2 ^ 40) (codes "1099511627776"))
-
-abbrev machine : Rule
-machine = filled (number_option (codes "machine") 1 2 (codes "2"))
-
-abbrev pc : Rule
-pc = filled (text_option (codes "pc"))
-
-abbrev report : Rule
-report = filled (flag (codes "report"))
-
-is_option : (a : Rule) → action_of a ≡ Set → 0 < (unwrap_or_range a.range).start_inclusive → IsOption a
-is_option a sets some = record { sets = inl sets; some = inl some }
-
-options : AreOptions built_run.rules
-options = (
-  is_option image refl (lit< tt),
-  (
-    is_option memory refl (lit< tt),
-    (
-      is_option steps refl (lit< tt),
-      (
-        is_option machine refl (lit< tt),
-        (is_option pc refl (lit< tt), (record { sets = inr refl; some = inr tt }, tt)),
-      ),
-    ),
-  ),
-)
-
-new : (a : Rule) (rules : List Rule) → list_any (λ b. bytes_eq b.id a.id) rules ≡ false → IsNew a rules
-new a rules is = record { is_new = is }
-
-distinct : AreDistinct built_run.rules
-distinct = (new image _ refl, (new memory _ refl, (new steps _ refl, (new machine _ refl, (new pc _ refl, (new report _ refl, tt))))))
 
 -- a number in its range was found for an option
 has_number : (a : Rule) (least most : ℕ) (rows : List Row) → a.parser ≡ Some (parsers.Unsigned least most) → Found a rows → HasNumber a.id least most rows
@@ -122,77 +69,191 @@ has_flag a rows is of = record {
     reads : of.row.reading ≡ AsWritten
     reads = of.fits.read ∙ ap (λ (p : Option ValueParser). reading_of (parser_of_value p)) is
 
-has_text : (a : Rule) (rows : List Row) → Found a rows → is_some (first_of a.id rows) ≡ true
+has_text : (a : Rule) (rows : List Row) → Found a rows → HasText a.id rows
 has_text a rows of =
     ap (λ (o : Option Row). is_some (option_and_then (λ r. slice_get r.values 0) o)) of.found
     ∙ ap (λ (values : List Text). is_some (slice_get values 0)) of.fits.values
 
-module _ (words : List Text) (level : Passes built_run [] words false []) where
-  end : Held
-  end = (walk built_run.rules [] nothing_held words).held
+-- ---- a subcommand, whose arguments are options of different names
 
-  found_rows : List Row
-  found_rows = finished built_run.rules end
+end_of : Shape → List Text → Held
+end_of s words = (walk s.rules [] nothing_held words).held
 
-  all : AllFit built_run.rules found_rows
-  unfolding end found_rows
-  all = defaults_fit built_run.rules built_run.rules (settled built_run.rules end).rows (λ row one. one) options level.of_defaults
-      (settle_fits built_run.rules false refl options end level.of_pending
-      (walk_fits built_run [] refl options (walk_from nothing_held) words level.of_walk tt))
+rows_found : Shape → List Text → List Row
+rows_found s words = finished s.rules (end_of s words)
 
-  image_given : is_given (codes "image") found_rows ≡ true
-  unfolding end found_rows
-  image_given = go (is_given (codes "image") found_rows) (not_chosen _ kind.MissingRequiredArgument level.of_check)
-    where
-      go : (b : Bool) → (not b || false) ≡ false → b ≡ true
-      go true e = refl
-      go false e = cc
+module _ (s : Shape) (once : s.args_override_self ≡ false) (options : AreOptions s.rules) (distinct : AreDistinct s.rules)
+    (words : List Text) (level : Passes s [] words false []) where
+  all_fit : AllFit s.rules (rows_found s words)
+  unfolding end_of rows_found
+  all_fit = defaults_fit s.rules s.rules (settled s.rules (end_of s words)).rows (λ row one. one) options level.of_defaults
+      (settle_fits s.rules s.args_override_self once options (end_of s words) level.of_pending
+      (walk_fits s [] once options (walk_from nothing_held) words level.of_walk tt))
 
   -- what was found for an argument that has a default
-  of_default : (a : Rule) → find (λ b. bytes_eq b.id a.id) built_run.rules ≡ Some a → is_empty a.defaults ≡ false → Found a found_rows
-  unfolding end found_rows
+  of_default : (a : Rule) → find (λ b. bytes_eq b.id a.id) s.rules ≡ Some a → is_empty a.defaults ≡ false → Found a (rows_found s words)
+  unfolding end_of rows_found
   of_default a is some =
-      found_for built_run.rules a found_rows distinct is all (made_by_defaults built_run.rules a (settled built_run.rules end).rows is some)
+      found_for s.rules a (rows_found s words) distinct is all_fit (made_by_defaults s.rules a (settled s.rules (end_of s words)).rows is some)
 
-  run_rows : IsRun (rows_after built_run.rules [] words)
-  unfolding end found_rows
-  run_rows =
-      let of_image = found_for built_run.rules image found_rows distinct refl all (given_row (codes "image") found_rows image_given) in
-      record {
-        image = has_text image found_rows of_image;
-        memory = has_number memory 64 65536 found_rows refl (of_default memory refl refl);
-        limit = has_number steps 0 (2 ^ 40) found_rows refl (of_default steps refl refl);
-        machine = has_number machine 1 2 found_rows refl (of_default machine refl refl);
-        report = has_flag report found_rows refl (of_default report refl refl);
-      }
+  -- what was found for an argument that was given
+  of_given : (a : Rule) → find (λ b. bytes_eq b.id a.id) s.rules ≡ Some a → is_given a.id (rows_found s words) ≡ true → Found a (rows_found s words)
+  of_given a is given = found_for s.rules a (rows_found s words) distinct is all_fit (given_row a.id (rows_found s words) given)
+
+  -- the number of an option
+  number_of : (name : Text) (least most : ℕ) (default : Text) → find (λ b. bytes_eq b.id name) s.rules ≡ Some (filled (number_option name least most default))
+      → HasNumber name least most (rows_found s words)
+  number_of name least most default is =
+      has_number (filled (number_option name least most default)) least most (rows_found s words) refl
+      (of_default (filled (number_option name least most default)) is refl)
+
+-- of the arguments only this one must be there, and it is
+is_there : (given : Bool) → (not given || false) ≡ false → given ≡ true
+is_there true is = refl
+is_there false is = cc
+
+-- ---- the subcommands as clap builds them
+
+-- the one at a place
+abbrev shape_at : ℕ → List Shape → Shape
+shape_at n [] = run_command
+shape_at zero (s ∷ subs) = s
+shape_at (suc n) (s ∷ subs) = shape_at n subs
+
+abbrev built_run : Shape
+built_run = shape_at 0 (built asc_command).subs
+
+abbrev built_make : Shape
+built_make = shape_at 1 (built asc_command).subs
+
+abbrev built_trial : Shape
+built_trial = shape_at 2 (built asc_command).subs
+
+abbrev image : Rule
+image = with_index 1 (filled (required (codes "image")))
+
+abbrev guess : Rule
+guess = filled (text_with_default (codes "guess") (codes "stride"))
+
+abbrev report : Rule
+report = filled (flag (codes "report"))
+
+abbrev number : Rule
+number = with_index 1 (filled number_argument)
+
+run_options : AreOptions built_run.rules
+run_options = options_of built_run.rules refl
+
+run_distinct : AreDistinct built_run.rules
+run_distinct = distinct_of built_run.rules refl
+
+module _ (words : List Text) (level : Passes built_run [] words false []) where
+  image_given : is_given (codes "image") (rows_found built_run words) ≡ true
+  unfolding end_of rows_found
+  image_given = is_there (is_given (codes "image") (rows_found built_run words)) (not_chosen _ kind.MissingRequiredArgument level.of_check)
+
+  run_number : (name : Text) (least most : ℕ) (default : Text) → find (λ b. bytes_eq b.id name) built_run.rules ≡ Some (filled (number_option name least most default))
+      → HasNumber name least most (rows_found built_run words)
+  run_number = number_of built_run refl run_options run_distinct words level
+
+  run_default : (a : Rule) → find (λ b. bytes_eq b.id a.id) built_run.rules ≡ Some a → is_empty a.defaults ≡ false → Found a (rows_found built_run words)
+  run_default = of_default built_run refl run_options run_distinct words level
+
+  run_values : IsRun (rows_found built_run words)
+  run_values = record {
+    image = has_text image (rows_found built_run words) (of_given built_run refl run_options run_distinct words level image refl image_given);
+    memory = run_number (codes "memory") 64 65536 (codes "1024") refl;
+    limit = run_number (codes "steps") 0 (2 ^ 40) (codes "1099511627776") refl;
+    machine = run_number (codes "machine") 1 2 (codes "2") refl;
+    guess = has_text guess (rows_found built_run words) (run_default guess refl refl);
+    profile = run_number (codes "profile") 2 65536 (codes "4096") refl;
+    least = run_number (codes "min") 2 65536 (codes "4") refl;
+    laps = run_number (codes "laps") 1 1000000 (codes "1") refl;
+    span = run_number (codes "span") 1 1000000000 (codes "1000000") refl;
+    ahead = run_number (codes "ahead") 1 64 (codes "4") refl;
+    workers = run_number (codes "workers") 0 64 (codes "0") refl;
+    queue = run_number (codes "queue") 1 1024 (codes "256") refl;
+    report = has_flag report (rows_found built_run words) refl (run_default report refl refl);
+  }
+
+make_options : AreOptions built_make.rules
+make_options = options_of built_make.rules refl
+
+make_distinct : AreDistinct built_make.rules
+make_distinct = distinct_of built_make.rules refl
+
+module _ (words : List Text) (level : Passes built_make [] words false []) where
+  make_given : is_given (codes "number") (rows_found built_make words) ≡ true
+  unfolding end_of rows_found
+  make_given = is_there (is_given (codes "number") (rows_found built_make words)) (not_chosen _ kind.MissingRequiredArgument level.of_check)
+
+  make_values : IsMake (rows_found built_make words)
+  make_values = record {
+    number = has_number number 0 (2 ^ 64 - 1) (rows_found built_make words) refl
+        (of_given built_make refl make_options make_distinct words level number refl make_given);
+  }
+
+trial_options : AreOptions built_trial.rules
+trial_options = options_of built_trial.rules refl
+
+trial_distinct : AreDistinct built_trial.rules
+trial_distinct = distinct_of built_trial.rules refl
+
+module _ (words : List Text) (level : Passes built_trial [] words false []) where
+  trial_given : is_given (codes "number") (rows_found built_trial words) ≡ true
+  unfolding end_of rows_found
+  trial_given = is_there (is_given (codes "number") (rows_found built_trial words)) (not_chosen _ kind.MissingRequiredArgument level.of_check)
+
+  trial_values : IsTrial (rows_found built_trial words)
+  trial_values = record {
+    number = has_number number 0 (2 ^ 64 - 1) (rows_found built_trial words) refl
+        (of_given built_trial refl trial_options trial_distinct words level number refl trial_given);
+    workers = number_of built_trial refl trial_options trial_distinct words level (codes "workers") 0 64 (codes "0") refl;
+  }
 
 -- ---- asc
 
--- the subcommand that the words name, and what was found for its arguments
-pub record IsTaken (words : List Text) : Type 0 where
+-- the subcommand that was met has this name, and its arguments have their values
+pub record IsTakenAs (met : Option (Text × List Row)) (name : Text) (AreValues : List Row → Type 0) : Type 0 where
   pub rows : List Row
-  pub names : subcommand_of asc_command words ≡ Some (codes "run", rows)
-  pub is_run : IsRun rows
+  pub names : met ≡ Some (name, rows)
+  pub values : AreValues rows
+
+-- it is one of the three
+abbrev pub IsTaken : Option (Text × List Row) → Type 0
+IsTaken met = IsTakenAs met (codes "run") IsRun ⊎ IsTakenAs met (codes "make") IsMake ⊎ IsTakenAs met (codes "trial") IsTrial
+
+abbrev met_by : (is_run is_make is_trial : Bool) → Option Shape
+met_by is_run is_make is_trial = cond is_run (Some built_run) (cond is_make (Some built_make) (cond is_trial (Some built_trial) None))
+
+module _ (words below : List Text) where
+  -- what the words may be refused for, where this subcommand is met at the words below
+  abbrev Faults : Option Shape → Kinds
+  Faults met = level_fault (built asc_command).top (names_of (built asc_command)) nothing_held words
+      (is_some (option_map (λ s. rows_at s below) met)) (option_map_or (λ s. level_fault s [] nothing_held below false []) met [])
+
+  taken_by : (is_run is_make is_trial : Bool) → Faults (met_by is_run is_make is_trial) ≡ []
+      → IsTaken (option_map (λ s. rows_at s below) (met_by is_run is_make is_trial))
+  unfolding end_of rows_found
+  taken_by true is_make is_trial none =
+      let level = passes _ _ words true (level_fault built_run [] nothing_held below false []) none in
+      inl (record { rows = rows_found built_run below; names = refl; values = run_values below (passes built_run [] below false [] level.of_below) })
+  taken_by false true is_trial none =
+      let level = passes _ _ words true (level_fault built_make [] nothing_held below false []) none in
+      inr (inl (record { rows = rows_found built_make below; names = refl; values = make_values below (passes built_make [] below false [] level.of_below) }))
+  taken_by false false true none =
+      let level = passes _ _ words true (level_fault built_trial [] nothing_held below false []) none in
+      inr (inr (record { rows = rows_found built_trial below; names = refl; values = trial_values below (passes built_trial [] below false [] level.of_below) }))
+  taken_by false false false none = let level = passes _ _ words false [] none in let missing = level.of_check in cc
 
 taken_at : (words : List Text) (stop : Option (Text × List Text))
     → level_fault (built asc_command).top (names_of (built asc_command)) nothing_held words (is_some (entered (built asc_command) stop)) (entered_fault (built asc_command) stop) ≡ []
-    → (rows : List Row) × (entered (built asc_command) stop ≡ Some (codes "run", rows)) × IsRun rows
+    → IsTaken (entered (built asc_command) stop)
 taken_at words None none = let level = passes _ _ words false [] none in let missing = level.of_check in cc
-taken_at words (Some p) none = go (answers_to p.0 (label_of built_run)) none
-  where
-    go : (b : Bool) → level_fault (built asc_command).top (names_of (built asc_command)) nothing_held words
-        (is_some (option_map (λ s. rows_at s p.1) (cond b (Some built_run) None)))
-        (option_map_or (λ s. level_fault s [] nothing_held p.1 false []) (cond b (Some built_run) None) []) ≡ []
-        → (rows : List Row) × (option_map (λ s. rows_at s p.1) (cond b (Some built_run) None) ≡ Some (codes "run", rows)) × IsRun rows
-    go false n = let level = passes _ _ words false [] n in let missing = level.of_check in cc
-    go true n =
-        let level = passes (built asc_command).top (names_of (built asc_command)) words true (level_fault built_run [] nothing_held p.1 false []) n in
-        let run_level = passes built_run [] p.1 false [] level.of_below in
-        (rows_after built_run.rules [] p.1, refl, run_rows p.1 run_level)
+taken_at words (Some p) none =
+    taken_by words p.1 (answers_to p.0 (label_of built_run)) (answers_to p.0 (label_of built_make)) (answers_to p.0 (label_of built_trial)) none
 
--- where clap refuses nothing, the words name `run`, and what it takes has its values
-pub taken : (words : List Text) → fault_of asc_command words ≡ [] → IsTaken words
-taken words none =
-    let got = taken_at (argument_words asc_command words)
-    (stop_after (built asc_command).top.rules (names_of (built asc_command)) (argument_words asc_command words)) none in
-    record { rows = got.0; names = got.1; is_run = got.2 }
+-- where clap refuses nothing, the words name a subcommand, and what it takes has its values
+pub taken : (words : List Text) → fault_of asc_command words ≡ [] → IsTaken (subcommand_of asc_command words)
+taken words none = taken_at (argument_words asc_command words)
+    (stop_after (built asc_command).top.rules (names_of (built asc_command)) (argument_words asc_command words)) none

@@ -2,12 +2,13 @@
 use Rattle.std.specs.Prelude.{ℕ, None}
 use Rattle.asc_words.specs.declared.answer.Outcome.{Outcome}
 use Rattle.asc_words.specs.declared.answer.Answer.{Answer}
-use Rattle.asc_words.specs.declared.answer.Answer.TheVariants.{Exit, Usage, Image, TooLong, StoreFault, Memory, ReadFault, WriteFault, ErrFault, ReportFault, Limit, Fault}
+use Rattle.asc_words.specs.declared.answer.Answer.TheVariants.{Exit, Done, Usage, Image, TooLong, StoreFault, Memory, ReadFault, WriteFault, ErrFault, ReportFault, Limit, Fault}
 
 -- The guest's own code, and else as in BSD's sysexits where it has one: EX_USAGE, EX_DATAERR, EX_NOINPUT, EX_OSERR,
 -- EX_IOERR, EX_TEMPFAIL, EX_PROTOCOL.
 abbrev pub code_of : Answer → ℕ
 code_of (Exit code) = code
+code_of (Done refused) = 0
 code_of (Usage bad) = 64
 code_of (Image fault) = 65
 code_of TooLong = 65
@@ -22,4 +23,4 @@ code_of (Fault fault count) = 76
 
 -- an answer of which no numbers are reported
 abbrev pub outcome_of : Answer → Outcome
-outcome_of answer = record { answer = answer; counts = None }
+outcome_of answer = record { answer = answer; counts = None; workers = None }

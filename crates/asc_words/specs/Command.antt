@@ -1,5 +1,5 @@
 -- The command line of asc as `clap`, the kit's parser of command lines, sees it.
-use Rattle.std.specs.Prelude.{ℕ, ◌^◌, codes, true, false, List, [], ◌∷◌, Some}
+use Rattle.std.specs.Prelude.{ℕ, ◌^◌, ◌-◌, codes, true, false, List, [], ◌∷◌, Some}
 use Rattle.clap.specs.Walk.{Rule, Text}
 use Rattle.clap.specs.Simple.{App, Shape, new_rule, new_shape}
 use Rattle.clap.specs.declared.builder.action.ArgAction.TheVariants.{SetTrue}
@@ -8,6 +8,10 @@ use Rattle.clap.specs.declared.builder.value_parser.ValueParser.TheVariants as p
 -- an argument without a name, which must be there
 abbrev pub required : Text → Rule
 required id = record (new_rule id) { required = true }
+
+-- an argument without a name, which must be there: a number from least to most
+abbrev pub required_number : Text → ℕ → ℕ → Rule
+required_number id least most = record (required id) { parser = Some (parsers.Unsigned least most) }
 
 -- `--NAME N`, a number from least to most, and what it is where it is absent
 abbrev pub number_option : Text → ℕ → ℕ → Text → Rule
@@ -21,9 +25,17 @@ number_option name least most default = record (new_rule name) {
 abbrev pub text_option : Text → Rule
 text_option name = record (new_rule name) { long = Some name }
 
+-- `--NAME TEXT`, and what it is where it is absent
+abbrev pub text_with_default : Text → Text → Rule
+text_with_default name default = record (text_option name) { defaults = default ∷ [] }
+
 -- `--NAME`, which takes no value
 abbrev pub flag : Text → Rule
 flag name = record (new_rule name) { long = Some name; action = Some SetTrue }
+
+-- how many workers a run has
+abbrev pub workers_option : Rule
+workers_option = number_option (codes "workers") 0 64 (codes "0")
 
 -- what `asc run` takes: a row for each argument
 abbrev pub run_arguments : List Rule
@@ -32,12 +44,42 @@ run_arguments =
     ∷ number_option (codes "memory") 64 65536 (codes "1024")
     ∷ number_option (codes "steps") 0 (2 ^ 40) (codes "1099511627776")
     ∷ number_option (codes "machine") 1 2 (codes "2")
+    ∷ text_with_default (codes "guess") (codes "stride")
     ∷ text_option (codes "pc")
+    ∷ number_option (codes "profile") 2 65536 (codes "4096")
+    ∷ number_option (codes "min") 2 65536 (codes "4")
+    ∷ number_option (codes "laps") 1 1000000 (codes "1")
+    ∷ number_option (codes "span") 1 1000000000 (codes "1000000")
+    ∷ number_option (codes "ahead") 1 64 (codes "4")
+    ∷ workers_option
+    ∷ number_option (codes "queue") 1 1024 (codes "256")
     ∷ flag (codes "report")
     ∷ []
 
+-- the number of a generated image
+abbrev pub number_argument : Rule
+number_argument = required_number (codes "number") 0 (2 ^ 64 - 1)
+
+-- what `asc make` takes
+abbrev pub make_arguments : List Rule
+make_arguments = number_argument ∷ []
+
+-- what `asc trial` takes
+abbrev pub trial_arguments : List Rule
+trial_arguments = number_argument ∷ workers_option ∷ []
+
+-- a subcommand of this name, which takes these arguments
+abbrev pub subcommand_with : Text → List Rule → Shape
+subcommand_with name arguments = record (new_shape name) { rules = arguments }
+
 abbrev pub run_command : Shape
-run_command = record (new_shape (codes "run")) { rules = run_arguments }
+run_command = subcommand_with (codes "run") run_arguments
+
+abbrev pub make_command : Shape
+make_command = subcommand_with (codes "make") make_arguments
+
+abbrev pub trial_command : Shape
+trial_command = subcommand_with (codes "trial") trial_arguments
 
 -- asc with its subcommands, of which one must be there; it has no version, and no flag or subcommand for help
 abbrev pub asc_command : App
@@ -48,5 +90,5 @@ asc_command = record {
     disable_help_flag = true;
     disable_help_subcommand = true;
   };
-  subs = run_command ∷ [];
+  subs = run_command ∷ make_command ∷ trial_command ∷ [];
 }

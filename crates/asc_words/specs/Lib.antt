@@ -1,4 +1,5 @@
 pub mod Command
+pub mod Subcommands
 pub mod Rows
 pub mod Line
 pub mod Laws

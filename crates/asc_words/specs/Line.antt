@@ -1,5 +1,5 @@
 -- What the words of a command line mean.
-use Rattle.std.specs.Prelude.{ℕ, ◌^◌, ◌≤◌, ◌==◌, ◌&&◌, Bool, codes, nat_le, List, [], length, Option, Some, None, Result, Ok, Err, unwrap_or, if◌then◌else◌}
+use Rattle.std.specs.Prelude.{ℕ, ◌^◌, ◌<◌, ◌≤◌, ◌==◌, ◌&&◌, Bool, true, false, codes, nat_le, List, [], length, Option, Some, None, Result, Ok, Err, unwrap_or, if◌then◌else◌}
 use Rattle.std.specs.Char.{is_ascii_hexdigit}
 use Rattle.std.specs.List.{list_all}
 use Rattle.std.specs.Str.{bytes_eq}
@@ -12,7 +12,8 @@ use Rattle.asc_model.specs.declared.version.Version.TheVariants.{One, Two}
 use Rattle.asc_words.specs.declared.answer.Bad.{Bad}
 use Rattle.asc_words.specs.declared.answer.Bad.TheVariants.{Words, Pc}
 use Rattle.asc_words.specs.declared.line.Line.{Line}
-use Rattle.asc_words.specs.declared.line.Line.TheVariants.{Run}
+use Rattle.asc_words.specs.declared.line.Line.TheVariants.{Run, Make, Trial}
+use Rattle.asc_words.specs.declared.line.Guesses.{Guesses}
 use Rattle.asc_words.specs.declared.line.RunLine.{RunLine}
 use Rattle.asc_words.specs.Command.{asc_command}
 
@@ -37,32 +38,65 @@ abbrev pub address_of : Option Text → Result (Option ℕ) Bad
 address_of None = Ok None
 address_of (Some text) = if is_address text then Ok (Some (digits_value 16 text)) else Err Pc
 
+-- The guesses that a word asks for: whether the state at the last visit is guessed again, and whether those that the
+-- last two visits lead to.
+abbrev pub guesses_of : Text → Result Guesses Bad
+guesses_of text =
+    if bytes_eq text (codes "none") then Ok (record { last = false; stride = false })
+    else if bytes_eq text (codes "last") then Ok (record { last = true; stride = false })
+    else if bytes_eq text (codes "stride") then Ok (record { last = false; stride = true })
+    else if bytes_eq text (codes "both") then Ok (record { last = true; stride = true })
+    else Err Words
+
 -- ---- lines
 
 abbrev pub version_numbered : ℕ → Version
 version_numbered number = if number == 1 then One else Two
 
-abbrev pub run_with : List Row → (pc : Option ℕ) → RunLine
-run_with rows pc = record {
+abbrev pub run_with : List Row → Guesses → (pc : Option ℕ) → RunLine
+run_with rows guesses pc = record {
   image = text_in (codes "image") rows;
   memory = number_in (codes "memory") rows;
   limit = number_in (codes "steps") rows;
   version = version_numbered (number_in (codes "machine") rows);
+  last = guesses.last;
+  stride = guesses.stride;
   pc = pc;
+  profile = number_in (codes "profile") rows;
+  least = number_in (codes "min") rows;
+  laps = number_in (codes "laps") rows;
+  span = number_in (codes "span") rows;
+  ahead = number_in (codes "ahead") rows;
+  workers = number_in (codes "workers") rows;
+  queue = number_in (codes "queue") rows;
   report = flag_in (codes "report") rows;
 }
 
-abbrev pub run_at : List Row → Result (Option ℕ) Bad → Result Line Bad
-run_at rows (Ok pc) = Ok (Run (run_with rows pc))
-run_at rows (Err bad) = Err bad
+-- wrong words come before a wrong address
+abbrev pub run_at : List Row → Result Guesses Bad → Result (Option ℕ) Bad → Result Line Bad
+run_at rows (Err bad) pc = Err bad
+run_at rows (Ok guesses) (Ok pc) = Ok (Run (run_with rows guesses pc))
+run_at rows (Ok guesses) (Err bad) = Err bad
 
 -- the line of `asc run`, of what clap found for its arguments, or what is wrong with them
 abbrev pub run_of : List Row → Result Line Bad
-run_of rows = run_at rows (address_of (first_of (codes "pc") rows))
+run_of rows = run_at rows (guesses_of (text_in (codes "guess") rows)) (address_of (first_of (codes "pc") rows))
+
+-- the line of `asc make`
+abbrev pub make_of : List Row → Result Line Bad
+make_of rows = Ok (Make (number_in (codes "number") rows))
+
+-- the line of `asc trial`
+abbrev pub trial_of : List Row → Result Line Bad
+trial_of rows = Ok (Trial (number_in (codes "number") rows) (number_in (codes "workers") rows))
 
 -- the line of a subcommand and of what clap found for its arguments
 abbrev pub line_found : Option (Text × List Row) → Result Line Bad
-line_found (Some (name, rows)) = if bytes_eq name (codes "run") then run_of rows else Err Words
+line_found (Some (name, rows)) =
+    if bytes_eq name (codes "run") then run_of rows
+    else if bytes_eq name (codes "make") then make_of rows
+    else if bytes_eq name (codes "trial") then trial_of rows
+    else Err Words
 line_found None = Err Words
 
 -- The line that clap's simple command gives for these words, or what is wrong with them. The first word is the program's
@@ -72,6 +106,24 @@ line_of words =
     if is_empty (fault_of asc_command words) then line_found (subcommand_of asc_command words)
     else Err Words
 
+-- a number is from least to most
+abbrev pub IsBetween : ℕ → ℕ → ℕ → Type 0
+IsBetween least most number = (least ≤ number) × (number ≤ most)
+
+-- the numbers of `asc run` are within their ranges
+pub record IsRunWithin (line : RunLine) : Type 0 where
+  pub memory : IsBetween 64 65536 line.memory
+  pub limit : line.limit ≤ 2 ^ 40
+  pub profile : IsBetween 2 65536 line.profile
+  pub least : IsBetween 2 65536 line.least
+  pub laps : IsBetween 1 1000000 line.laps
+  pub span : IsBetween 1 1000000000 line.span
+  pub ahead : IsBetween 1 64 line.ahead
+  pub workers : line.workers ≤ 64
+  pub queue : IsBetween 1 1024 line.queue
+
 -- its numbers are within their ranges
 abbrev pub IsWithin : Line → Type 0
-IsWithin (Run line) = (64 ≤ line.memory) × (line.memory ≤ 65536) × (line.limit ≤ 2 ^ 40)
+IsWithin (Run line) = IsRunWithin line
+IsWithin (Make n) = n < 2 ^ 64
+IsWithin (Trial n workers) = (n < 2 ^ 64) × (workers ≤ 64)

@@ -1,4 +1,4 @@
--- The text of an answer on the report.
+-- The texts of an answer on the report, and of a trial.
 use Rattle.std.specs.Prelude.{ℕ, codes, decimal, List, [], ◌++◌, Option, Some, None}
 use Rattle.std.specs.Int.{to_be_bytes, w32}
 use Rattle.hex.specs.Hex.{encode_lower}
@@ -9,7 +9,9 @@ use Rattle.asc_elf.specs.declared.fault.ElfFault.TheVariants as elf
 use Rattle.asc_words.specs.declared.answer.Answer.{Answer}
 use Rattle.asc_words.specs.declared.answer.Counts.{Counts}
 use Rattle.asc_words.specs.declared.answer.Outcome.{Outcome}
-use Rattle.asc_words.specs.declared.answer.Answer.TheVariants.{Exit, Usage, Image, TooLong, StoreFault, Memory, ReadFault, WriteFault, ErrFault, ReportFault, Limit, Fault as Failed}
+use Rattle.asc_words.specs.declared.answer.TrialOutcome.{TrialOutcome}
+use Rattle.asc_words.specs.declared.answer.WorkerCounts.{WorkerCounts}
+use Rattle.asc_words.specs.declared.answer.Answer.TheVariants.{Exit, Done, Usage, Image, TooLong, StoreFault, Memory, ReadFault, WriteFault, ErrFault, ReportFault, Limit, Fault as Failed}
 
 -- the number of a machine fault's kind
 abbrev pub kind_number : FaultKind → ℕ
@@ -48,10 +50,11 @@ header_text fault = []
 abbrev pub word_text : ℕ → List ℕ
 word_text word = encode_lower (to_be_bytes w32 word)
 
--- The line of an answer. A guest that ends by itself has none. Where the report itself fails, it has a prefix of the
+-- The line of an answer. A guest that ends by itself has none, and no more has a text that was written. Where the report itself fails, it has a prefix of the
 -- text of the outcome that this answer replaces, and gets no more.
 unfoldable pub answer_text : Answer → List ℕ
 answer_text (Exit code) = []
+answer_text (Done refused) = []
 answer_text (Usage bad) = codes "asc: usage\n"
 answer_text (Image fault) =
     codes "asc: image fault " ++ decimal (image_number fault) ++ header_text fault ++ codes "\n"
@@ -84,6 +87,52 @@ abbrev pub reported_counts_text : Option Counts → List ℕ
 reported_counts_text (Some counts) = counts_text counts
 reported_counts_text None = []
 
--- The text of an outcome: the line of its answer, and behind it that of its numbers.
+-- the line of the numbers of its workers
+unfoldable pub workers_text : WorkerCounts → List ℕ
+workers_text workers =
+    codes "asc: ran " ++ decimal workers.ran
+    ++ codes " left " ++ decimal workers.left
+    ++ codes " stored " ++ decimal workers.stored
+    ++ codes " known " ++ decimal workers.known
+    ++ codes " empty " ++ decimal workers.empty
+    ++ codes " dropped " ++ decimal workers.dropped
+    ++ codes " stopped " ++ decimal workers.stopped
+    ++ codes " full " ++ decimal workers.full ++ codes "\n"
+
+-- the line of these numbers, where they are reported
+abbrev pub reported_workers_text : Option WorkerCounts → List ℕ
+reported_workers_text (Some workers) = workers_text workers
+reported_workers_text None = []
+
+-- The text of an outcome: the line of its answer, and behind it those of its numbers.
 unfoldable pub report_text : Outcome → List ℕ
-report_text outcome = answer_text outcome.answer ++ reported_counts_text outcome.counts
+report_text outcome =
+    answer_text outcome.answer ++ reported_counts_text outcome.counts ++ reported_workers_text outcome.workers
+
+-- ---- trials
+
+-- the line of a trial that ended
+abbrev pub trial_line : TrialOutcome → List ℕ
+trial_line trial =
+    codes "trial " ++ decimal trial.n
+    ++ codes ": status " ++ decimal trial.status
+    ++ codes ", steps " ++ decimal trial.steps
+    ++ codes ", output " ++ decimal trial.output ++ codes "\n"
+
+-- the line of its numbers
+abbrev pub trial_counts_text : Counts → List ℕ
+trial_counts_text counts =
+    codes "executed " ++ decimal counts.executed
+    ++ codes ", skipped " ++ decimal counts.skipped
+    ++ codes ", asked " ++ decimal counts.asked
+    ++ codes ", hits " ++ decimal counts.hits
+    ++ codes ", made " ++ decimal counts.made ++ codes "\n"
+
+-- the line of these numbers, where they are reported
+abbrev pub reported_trial_counts_text : Option Counts → List ℕ
+reported_trial_counts_text (Some counts) = trial_counts_text counts
+reported_trial_counts_text None = []
+
+-- The text of a trial: its line, and behind it that of its numbers.
+unfoldable pub trial_text : TrialOutcome → List ℕ
+trial_text trial = trial_line trial ++ reported_trial_counts_text trial.counts

@@ -1,5 +1,5 @@
 -- What clap's answers are to the code: an error as a fault, and the matches of words that it takes.
-use Rattle.std.specs.Prelude.{◌≡◌, ℕ, ◌^◌, ◌||◌, codes, true, List, is_some, Some}
+use Rattle.std.specs.Prelude.{◌≡◌, ℕ, ◌^◌, ◌-◌, ◌||◌, codes, true, List, is_some, Some}
 use Rattle.std.specs.Str.{bytes_eq}
 use Rattle.clap.specs.Values.{IsUnsignedIn}
 use Rattle.clap.specs.Walk.{Row, Text, first_of, one_of}
@@ -26,10 +26,31 @@ pub record HasFlag (id : Text) (rows : List Row) : Type 0 where
   pub found : one_of id rows ≡ Some text
   pub accepted : (bytes_eq text (codes "true") || bytes_eq text (codes "false")) ≡ true
 
+-- a text was found for an argument
+abbrev pub HasText : Text → List Row → Type 0
+HasText id rows = is_some (first_of id rows) ≡ true
+
 -- what `asc run` takes has its values
 pub record IsRun (rows : List Row) : Type 0 where
-  pub image : is_some (first_of (codes "image") rows) ≡ true
+  pub image : HasText (codes "image") rows
   pub memory : HasNumber (codes "memory") 64 65536 rows
   pub limit : HasNumber (codes "steps") 0 (2 ^ 40) rows
   pub machine : HasNumber (codes "machine") 1 2 rows
+  pub guess : HasText (codes "guess") rows
+  pub profile : HasNumber (codes "profile") 2 65536 rows
+  pub least : HasNumber (codes "min") 2 65536 rows
+  pub laps : HasNumber (codes "laps") 1 1000000 rows
+  pub span : HasNumber (codes "span") 1 1000000000 rows
+  pub ahead : HasNumber (codes "ahead") 1 64 rows
+  pub workers : HasNumber (codes "workers") 0 64 rows
+  pub queue : HasNumber (codes "queue") 1 1024 rows
   pub report : HasFlag (codes "report") rows
+
+-- what `asc make` takes has its value
+pub record IsMake (rows : List Row) : Type 0 where
+  pub number : HasNumber (codes "number") 0 (2 ^ 64 - 1) rows
+
+-- what `asc trial` takes has its values
+pub record IsTrial (rows : List Row) : Type 0 where
+  pub number : HasNumber (codes "number") 0 (2 ^ 64 - 1) rows
+  pub workers : HasNumber (codes "workers") 0 64 rows

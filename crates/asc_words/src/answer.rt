@@ -17,6 +17,8 @@ pub enum Bad {
 pub enum Answer {
     /// The guest ended with this code.
     Exit(u8),
+    /// `asc make` or `asc trial` has written its text. A trial's helper was refused memory so often, and else it is 0.
+    Done(u64),
     /// The guest had done this many steps when its limit was reached.
     Limit(u64),
     /// An instruction of the guest met a fault after this many steps.
@@ -58,10 +60,49 @@ pub struct Counts {
     pub refused: u64,
 }
 
+/// The numbers of a run's workers: of the jobs that they took, and of those that they did not.
+#[derive(Clone, Copy, Debug, PartialEq, Eq)]
+pub struct WorkerCounts {
+    /// Jobs that workers took.
+    pub ran: u64,
+    /// Jobs that were left in the queue.
+    pub left: u64,
+    /// Entries that were stored.
+    pub stored: u64,
+    /// Entries that were known already.
+    pub known: u64,
+    /// Guesses from which no step was done.
+    pub empty: u64,
+    /// Jobs that were given up for want of memory.
+    pub dropped: u64,
+    /// Jobs that the end of the run stopped.
+    pub stopped: u64,
+    /// Guesses for which the queue had no room.
+    pub full: u64,
+}
+
 /// What the words of a command line come to: an answer, and the numbers of its run where they are reported.
 #[derive(Clone, Copy, Debug, PartialEq, Eq)]
 pub struct Outcome {
     pub answer: Answer,
+    /// The numbers of the run.
+    pub counts: Option<Counts>,
+    /// The numbers of its workers.
+    pub workers: Option<WorkerCounts>,
+}
+
+/// What a trial came to whose guest ended.
+#[derive(Clone, Copy, Debug, PartialEq, Eq)]
+pub struct TrialOutcome {
+    /// The number of its image.
+    pub n: u64,
+    /// The guest's code.
+    pub status: u8,
+    /// Steps done and steps jumped over.
+    pub steps: u64,
+    /// How many bytes the guest wrote.
+    pub output: u64,
+    /// The numbers of the run, where there were no workers.
     pub counts: Option<Counts>,
 }
 
@@ -75,6 +116,7 @@ impl Outcome {
         Outcome {
             answer,
             counts: None,
+            workers: None,
         }
     }
 }
@@ -82,12 +124,14 @@ impl Outcome {
 impl Answer {
     ghost use Rattle.asc_words.specs.Answer.{code_of};
 
-    /// The exit status that stands for an answer: the guest's own, or one of BSD's sysexits where it has one.
+    /// The exit status that stands for an answer: the guest's own, 0 for a text written, or one of BSD's sysexits where
+    /// it has one.
     pub fn code(&self) -> u8
         ensures { result ≡ code_of self.now }
     {
         match self {
             Answer::Exit(code) => *code,
+            Answer::Done(_) => 0,
             Answer::Usage(_) => 64,
             Answer::Image(_) | Answer::TooLong => 65,
             Answer::StoreFault => 66,

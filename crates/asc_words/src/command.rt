@@ -1,7 +1,8 @@
-//! The command that `clap` reads: a row for each argument.
+//! The command that `clap` reads.
 ghost use Rattle.std.specs.Prelude.{◌≡◌, IfOk, false};
 ghost use Rattle.clap.specs.Words.{app_of, rule_of};
-ghost use Rattle.asc_words.specs.Command.{asc_command, flag, number_option, required, text_option};
+ghost use Rattle.asc_words.specs.Command.{asc_command, flag, number_argument, make_command, number_option, required, run_command, text_option, text_with_default, trial_command, workers_option};
+ghost use Rattle.asc_words.specs.Subcommands.{IsSubcommand};
 
 use clap::builder::ValueParser;
 use clap::{Arg, ArgAction, Command};
@@ -11,18 +12,66 @@ use std::alloc::{AllocError, Global};
 pub(crate) fn asc_command<'a>(alloc: Global) -> Result<Command<'a>, AllocError>
     ensures { IfOk result (λ command. app_of command ≡ asc_command) }
 {
-    let run = Command::new(alloc, "run")
-        .arg(required(alloc, "image"))?
-        .arg(number(alloc, "memory", 64, 65_536, "1024"))?
-        .arg(number(alloc, "steps", 0, 1 << 40, "1099511627776"))?
-        .arg(number(alloc, "machine", 1, 2, "2"))?
-        .arg(text(alloc, "pc"))?
-        .arg(flag(alloc, "report"))?;
     Command::new(alloc, "asc")
         .subcommand_required(true)
         .disable_help_flag(true)
         .disable_help_subcommand(true)
-        .subcommand(run)
+        .subcommand(run_command(alloc)?)?
+        .subcommand(make_command(alloc)?)?
+        .subcommand(trial_command(alloc)?)
+}
+
+/// `asc run`: a row for each argument.
+fn run_command<'a>(alloc: Global) -> Result<Command<'a>, AllocError>
+    ensures { IfOk result (λ command. IsSubcommand command run_command) }
+{
+    Command::new(alloc, "run")
+        .arg(required(alloc, "image"))?
+        .arg(number(alloc, "memory", 64, 65_536, "1024"))?
+        .arg(number(alloc, "steps", 0, 1 << 40, "1099511627776"))?
+        .arg(number(alloc, "machine", 1, 2, "2"))?
+        .arg(text_with_default(alloc, "guess", "stride"))?
+        .arg(text(alloc, "pc"))?
+        .arg(number(alloc, "profile", 2, 65_536, "4096"))?
+        .arg(number(alloc, "min", 2, 65_536, "4"))?
+        .arg(number(alloc, "laps", 1, 1_000_000, "1"))?
+        .arg(number(alloc, "span", 1, 1_000_000_000, "1000000"))?
+        .arg(number(alloc, "ahead", 1, 64, "4"))?
+        .arg(workers(alloc))?
+        .arg(number(alloc, "queue", 1, 1024, "256"))?
+        .arg(flag(alloc, "report"))
+}
+
+/// `asc make`.
+fn make_command<'a>(alloc: Global) -> Result<Command<'a>, AllocError>
+    ensures { IfOk result (λ command. IsSubcommand command make_command) }
+{
+    Command::new(alloc, "make").arg(number_argument(alloc))
+}
+
+/// `asc trial`.
+fn trial_command<'a>(alloc: Global) -> Result<Command<'a>, AllocError>
+    ensures { IfOk result (λ command. IsSubcommand command trial_command) }
+{
+    Command::new(alloc, "trial")
+        .arg(number_argument(alloc))?
+        .arg(workers(alloc))
+}
+
+/// How many workers a run has.
+fn workers<'a>(alloc: Global) -> Arg<'a>
+    ensures rule { rule_of result ≡ workers_option }
+    ensures local { result.global ≡ false }
+{
+    number(alloc, "workers", 0, 64, "0")
+}
+
+/// The number of a generated image.
+fn number_argument<'a>(alloc: Global) -> Arg<'a>
+    ensures rule { rule_of result ≡ number_argument }
+    ensures local { result.global ≡ false }
+{
+    required(alloc, "number").value_parser(ValueParser::unsigned(0, u64::MAX))
 }
 
 /// An argument without a name, which must be there.
@@ -50,6 +99,14 @@ fn text<'a>(alloc: Global, name: &'a str) -> Arg<'a>
     ensures local { result.global ≡ false }
 {
     Arg::new(alloc, name).long(name)
+}
+
+/// `--NAME TEXT`, and what it is where it is absent.
+fn text_with_default<'a>(alloc: Global, name: &'a str, default: &'a str) -> Arg<'a>
+    ensures rule { rule_of result ≡ text_with_default name.entry.now default.entry.now }
+    ensures local { result.global ≡ false }
+{
+    text(alloc, name).default_value(default)
 }
 
 /// `--NAME`, which takes no value.

@@ -1,4 +1,4 @@
-//! The edge of the program: what the words of a command line mean, how a run is answered, and the answer's text.
+//! The edge of the program: what the words of a command line mean, how they are answered, and the answer's text.
 #![tactic(auto)]
 
 mod answer;
@@ -7,10 +7,10 @@ mod laws;
 mod line;
 mod report;
 
-pub use answer::{Answer, Bad, Counts, Outcome};
+pub use answer::{Answer, Bad, Counts, Outcome, TrialOutcome, WorkerCounts};
 pub use laws::{lines_are_within, taken_words_have_lines};
 pub use line::{FileName, Line, LineFault, RunLine, parse};
-pub use report::text;
+pub use report::{text, trial_text};
 
 #[cfg(test)]
 mod tests;

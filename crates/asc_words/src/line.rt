@@ -2,7 +2,7 @@ ghost use Rattle.std.specs.Prelude.{ℕ, ◌≡◌, IfOk, Ok, Err, map, option_m
 ghost use Rattle.std.specs.String.{string_bytes};
 ghost use Rattle.clap.specs.Words.{found_of, rows_of};
 ghost use Rattle.asc_words.specs.Rows.{HasFlag, HasNumber, IsRun};
-ghost use Rattle.asc_words.specs.Line.{IsWithin, address_of, flag_in, is_address, line_of, number_in, run_of, version_numbered};
+ghost use Rattle.asc_words.specs.Line.{IsWithin, address_of, flag_in, guesses_of, is_address, line_of, number_in, run_of, version_numbered};
 
 use crate::answer::Bad;
 use crate::command::asc_command;
@@ -43,7 +43,7 @@ impl FileName {
     }
 }
 
-/// What `asc run` is asked for: a field for each argument.
+/// What `asc run` is asked for: a field for each argument, and two for `--guess`.
 #[derive(Debug, Drop)]
 pub struct RunLine {
     /// The image's name in the store.
@@ -54,8 +54,26 @@ pub struct RunLine {
     pub limit: u64,
     /// The machine's version.
     pub version: Version,
+    /// Whether the state at the last visit is guessed again.
+    pub last: bool,
+    /// Whether the states are guessed that the last two visits lead to by steps of one size.
+    pub stride: bool,
     /// The recognised address.
     pub pc: Option<u32>,
+    /// How many steps are watched before an address is recognised, from 2 to 65,536.
+    pub profile: u32,
+    /// How often an address must be met to be recognised, from 2 to 65,536.
+    pub least: u32,
+    /// How many visits a guess is followed for, from 1 to 1,000,000.
+    pub laps: u64,
+    /// The most steps that a guess is followed for, from 1 to 1,000,000,000.
+    pub span: u64,
+    /// How many visits ahead states are guessed, from 1 to 64.
+    pub ahead: u32,
+    /// How many workers there are, at most 64.
+    pub workers: usize,
+    /// How many guesses wait for workers at most, from 1 to 1,024.
+    pub queue: usize,
     /// Whether the numbers of the run are reported.
     pub report: bool,
 }
@@ -65,6 +83,10 @@ pub struct RunLine {
 pub enum Line {
     /// `asc run`.
     Run(RunLine),
+    /// `asc make`: the generated image of this number.
+    Make { n: u64 },
+    /// `asc trial`: a run of the generated image of this number, with at most 64 workers.
+    Trial { n: u64, workers: usize },
 }
 
 /// Why there is no line.
@@ -123,8 +145,22 @@ pub fn parse(alloc: Global, words: &[String]) -> Result<Line, LineFault>
     let (name, found) = matches.subcommand().unwrap();
     match name {
         "run" => Ok(Line::Run(run_line(alloc, found)?)),
+        "make" => Ok(Line::Make {
+            n: number(found, "number"),
+        }),
+        "trial" => Ok(Line::Trial {
+            n: number(found, "number"),
+            workers: number(found, "workers") as usize,
+        }),
         _ => unreachable!(),
     }
+}
+
+/// Which guesses a run makes.
+#[derive(Clone, Copy, Debug, PartialEq, Eq)]
+pub(crate) struct Guesses {
+    last: bool,
+    stride: bool,
 }
 
 /// What `asc run` is asked for, of what was found for its arguments.
@@ -134,15 +170,39 @@ fn run_line(alloc: Global, found: &ArgMatches<'_>) -> Result<RunLine, LineFault>
     ensures usage { (bad : Bad) → result ≡ Err (LineFault.Usage bad)
         → run_of (rows_of (found_of found.now)) ≡ Err bad }
 {
+    let guesses = guesses_of(found.get_str("guess").unwrap())?;
     let pc = address(found.get_str("pc"))?;
     Ok(RunLine {
         image: FileName::new(String::from_str(alloc, found.get_str("image").unwrap())?),
         memory: number(found, "memory") as u32,
         limit: number(found, "steps"),
         version: version_numbered(number(found, "machine")),
+        last: guesses.last,
+        stride: guesses.stride,
         pc,
+        profile: number(found, "profile") as u32,
+        least: number(found, "min") as u32,
+        laps: number(found, "laps"),
+        span: number(found, "span"),
+        ahead: number(found, "ahead") as u32,
+        workers: number(found, "workers") as usize,
+        queue: number(found, "queue") as usize,
         report: flag(found, "report"),
     })
+}
+
+/// The guesses that a word asks for.
+fn guesses_of(word: &str) -> Result<Guesses, Bad>
+    ensures { result ≡ guesses_of word.now }
+{
+    let (last, stride) = match word {
+        "none" => (false, false),
+        "last" => (true, false),
+        "stride" => (false, true),
+        "both" => (true, true),
+        _ => return Err(Bad::Words),
+    };
+    Ok(Guesses { last, stride })
 }
 
 /// The number that was found for an option.

@@ -1,25 +1,43 @@
-//! The text of an answer, built in bytes on the stack.
+//! The texts of answers and trials, built in bytes on the stack.
 ghost use Rattle.std.specs.Prelude.{◌≡◌, ◌+◌, ◌≤◌, ◌++◌, codes, decimal, drop, length};
 ghost use Rattle.arrayvec.specs.ArrayVec.{array_vec_len};
-ghost use Rattle.asc_words.specs.Report.{answer_text, header_text, image_number, kind_number, report_text, word_text};
+ghost use Rattle.asc_words.specs.Report.{answer_text, header_text, image_number, kind_number, report_text, trial_counts_text, trial_line, trial_text, word_text};
 
-use crate::answer::{Answer, Counts, Outcome};
+use crate::answer::{Answer, Counts, Outcome, TrialOutcome, WorkerCounts};
 use arrayvec::ArrayVec;
 use asc_elf::ElfFault;
 use asc_step::{Fault, FaultKind};
 use itoa::Buffer;
 
-/// The text of an answer as far as it is built.
+/// A text as far as it is built.
 type Text = ArrayVec<u8, 512>;
 
-/// Puts the text of an outcome, which is at most two lines, at the front of `into`, and answers its length. It takes no
+/// Puts the text of an outcome, which is at most three lines, at the front of `into`, and answers its length. It takes no
 /// memory.
 pub fn text(outcome: &Outcome, into: &mut [u8]) -> usize
     requires { 512 ≤ length into.old }
     ensures text { into.new ≡ report_text outcome.now ++ drop (length (report_text outcome.now)) into.old }
     ensures length { result ≡ length (report_text outcome.now) }
 {
-    let text = text_of(outcome);
+    place(&text_of(outcome), into)
+}
+
+/// Puts the text of a trial, which is at most two lines, at the front of `into`, and answers its length. It takes no
+/// memory.
+pub fn trial_text(trial: &TrialOutcome, into: &mut [u8]) -> usize
+    requires { 512 ≤ length into.old }
+    ensures text { into.new ≡ trial_text trial.now ++ drop (length (trial_text trial.now)) into.old }
+    ensures length { result ≡ length (trial_text trial.now) }
+{
+    place(&trial_text_of(trial), into)
+}
+
+/// Puts a text at the front of `into`, and answers its length.
+fn place(text: &Text, into: &mut [u8]) -> usize
+    requires { 512 ≤ length into.old }
+    ensures text { into.new ≡ text.now.items ++ drop (length text.now.items) into.old }
+    ensures length { result ≡ length text.now.items }
+{
     let length = text.len();
     into[..length].copy_from_slice(text.as_slice());
     length
@@ -34,6 +52,22 @@ fn text_of(outcome: &Outcome) -> Text
     if let Some(counts) = &outcome.counts {
         put_counts(&mut text, counts);
     }
+    if let Some(workers) = &outcome.workers {
+        put_workers(&mut text, workers);
+    }
+    text
+}
+
+/// The text of a trial.
+#[tactic(auto, unfolding(crate::specs::Report::trial_text))]
+fn trial_text_of(trial: &TrialOutcome) -> Text
+    ensures { result.items ≡ trial_text trial.now }
+{
+    let mut text = Text::new();
+    put_trial(&mut text, trial);
+    if let Some(counts) = &trial.counts {
+        put_trial_counts(&mut text, counts);
+    }
     text
 }
 
@@ -41,11 +75,11 @@ fn text_of(outcome: &Outcome) -> Text
 #[tactic(auto, unfolding(crate::specs::Report::answer_text))]
 fn line(answer: &Answer) -> Text
     ensures line { result.items ≡ answer_text answer.now }
-    ensures room { array_vec_len result ≤ 128 }
+    ensures room { array_vec_len result ≤ 96 }
 {
     let mut line = Text::new();
     match answer {
-        Answer::Exit(_) | Answer::ReportFault => {}
+        Answer::Exit(_) | Answer::Done(_) | Answer::ReportFault => {}
         Answer::Usage(_) => put(&mut line, b"asc: usage\n"),
         Answer::Image(fault) => put_image_fault(&mut line, fault),
         Answer::TooLong => put(&mut line, b"asc: image too long\n"),
@@ -65,7 +99,7 @@ fn put_image_fault(line: &mut Text, fault: &ElfFault)
     requires { array_vec_len line.old ≡ 0 }
     ensures line { line.new.items ≡ line.old.items ++ codes "asc: image fault " ++ decimal (image_number fault.now)
         ++ header_text fault.now ++ codes "\n" }
-    ensures room { array_vec_len line.new ≤ 128 }
+    ensures room { array_vec_len line.new ≤ 96 }
 {
     put(line, b"asc: image fault ");
     put_number(line, image_number(fault));
@@ -80,7 +114,7 @@ fn put_image_fault(line: &mut Text, fault: &ElfFault)
 fn put_limit(line: &mut Text, count: u64)
     requires { array_vec_len line.old ≡ 0 }
     ensures line { line.new.items ≡ line.old.items ++ codes "asc: limit after " ++ decimal count ++ codes "\n" }
-    ensures room { array_vec_len line.new ≤ 128 }
+    ensures room { array_vec_len line.new ≤ 96 }
 {
     put(line, b"asc: limit after ");
     put_number(line, count);
@@ -93,7 +127,7 @@ fn put_fault(line: &mut Text, fault: &Fault, count: u64)
     ensures line { line.new.items ≡ line.old.items ++ codes "asc: fault " ++ decimal (kind_number fault.now.kind)
         ++ codes " at " ++ word_text fault.now.pc ++ codes " value " ++ word_text fault.now.value
         ++ codes " after " ++ decimal count ++ codes "\n" }
-    ensures room { array_vec_len line.new ≤ 128 }
+    ensures room { array_vec_len line.new ≤ 96 }
 {
     put(line, b"asc: fault ");
     put_number(line, kind_number(fault.kind));
@@ -108,25 +142,76 @@ fn put_fault(line: &mut Text, fault: &Fault, count: u64)
 
 /// Appends the line of the numbers of a run.
 fn put_counts(line: &mut Text, counts: &Counts)
-    requires { array_vec_len line.old ≤ 128 }
-    ensures { line.new.items ≡ line.old.items ++ codes "asc: executed " ++ decimal counts.now.executed
+    requires { array_vec_len line.old ≤ 96 }
+    ensures line { line.new.items ≡ line.old.items ++ codes "asc: executed " ++ decimal counts.now.executed
         ++ codes " skipped " ++ decimal counts.now.skipped ++ codes " asked " ++ decimal counts.now.asked
         ++ codes " hits " ++ decimal counts.now.hits ++ codes " made " ++ decimal counts.now.made
         ++ codes " refused " ++ decimal counts.now.refused ++ codes "\n" }
+    ensures room { array_vec_len line.new ≤ 268 }
 {
-    put(line, b"asc: executed ");
-    put_number(line, counts.executed);
-    put(line, b" skipped ");
-    put_number(line, counts.skipped);
-    put(line, b" asked ");
-    put_number(line, counts.asked);
-    put(line, b" hits ");
-    put_number(line, counts.hits);
-    put(line, b" made ");
-    put_number(line, counts.made);
-    put(line, b" refused ");
-    put_number(line, counts.refused);
+    put_labelled(line, b"asc: executed ", counts.executed);
+    put_labelled(line, b" skipped ", counts.skipped);
+    put_labelled(line, b" asked ", counts.asked);
+    put_labelled(line, b" hits ", counts.hits);
+    put_labelled(line, b" made ", counts.made);
+    put_labelled(line, b" refused ", counts.refused);
     put(line, b"\n");
+}
+
+/// Appends the line of the numbers of its workers.
+fn put_workers(line: &mut Text, workers: &WorkerCounts)
+    requires { array_vec_len line.old ≤ 268 }
+    ensures { line.new.items ≡ line.old.items ++ codes "asc: ran " ++ decimal workers.now.ran
+        ++ codes " left " ++ decimal workers.now.left ++ codes " stored " ++ decimal workers.now.stored
+        ++ codes " known " ++ decimal workers.now.known ++ codes " empty " ++ decimal workers.now.empty
+        ++ codes " dropped " ++ decimal workers.now.dropped ++ codes " stopped " ++ decimal workers.now.stopped
+        ++ codes " full " ++ decimal workers.now.full ++ codes "\n" }
+{
+    put_labelled(line, b"asc: ran ", workers.ran);
+    put_labelled(line, b" left ", workers.left);
+    put_labelled(line, b" stored ", workers.stored);
+    put_labelled(line, b" known ", workers.known);
+    put_labelled(line, b" empty ", workers.empty);
+    put_labelled(line, b" dropped ", workers.dropped);
+    put_labelled(line, b" stopped ", workers.stopped);
+    put_labelled(line, b" full ", workers.full);
+    put(line, b"\n");
+}
+
+/// Appends the line of a trial.
+fn put_trial(line: &mut Text, trial: &TrialOutcome)
+    requires { array_vec_len line.old ≡ 0 }
+    ensures line { line.new.items ≡ line.old.items ++ trial_line trial.now }
+    ensures room { array_vec_len line.new ≤ 128 }
+{
+    put_labelled(line, b"trial ", trial.n);
+    put_labelled(line, b": status ", u64::from(trial.status));
+    put_labelled(line, b", steps ", trial.steps);
+    put_labelled(line, b", output ", trial.output);
+    put(line, b"\n");
+}
+
+/// Appends the line of a trial's numbers.
+fn put_trial_counts(line: &mut Text, counts: &Counts)
+    requires { array_vec_len line.old ≤ 128 }
+    ensures { line.new.items ≡ line.old.items ++ trial_counts_text counts.now }
+{
+    put_labelled(line, b"executed ", counts.executed);
+    put_labelled(line, b", skipped ", counts.skipped);
+    put_labelled(line, b", asked ", counts.asked);
+    put_labelled(line, b", hits ", counts.hits);
+    put_labelled(line, b", made ", counts.made);
+    put(line, b"\n");
+}
+
+/// Appends a label and a number behind it.
+fn put_labelled(line: &mut Text, label: &[u8], number: u64)
+    requires { array_vec_len line.old + length label.now + 20 ≤ 512 }
+    ensures text { line.new.items ≡ line.old.items ++ label.now ++ decimal number }
+    ensures room { array_vec_len line.new ≤ array_vec_len line.old + length label.now + 20 }
+{
+    put(line, label);
+    put_number(line, number);
 }
 
 /// Appends bytes.

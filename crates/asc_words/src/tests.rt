@@ -1,4 +1,7 @@
-use crate::{Answer, Bad, Counts, Line, LineFault, Outcome, parse, text};
+use crate::{
+    Answer, Bad, Counts, Line, LineFault, Outcome, RunLine, TrialOutcome, WorkerCounts, parse,
+    text, trial_text,
+};
 use asc_elf::ElfFault;
 use asc_shape::Version;
 use asc_step::{Fault, FaultKind};
@@ -6,8 +9,8 @@ use std::alloc::{AllocError, Global};
 use std::test::Fail;
 
 // Command lines, with one space between two words, and what they mean by clap's rules: the image, the memory in KiB, the
-// limit and the version, and then the address and whether the numbers are reported, where that is asked for.
-static LINES: [(&str, &str); 96] = [
+// limit and the version, and then what differs from its default.
+static LINES: [(&str, &str); 161] = [
     // the image alone
     ("asc run a", "a 1024 1099511627776 2"),
     ("asc run ", " 1024 1099511627776 2"),
@@ -23,7 +26,7 @@ static LINES: [(&str, &str); 96] = [
     ("asc fly a", "refused"),
     ("asc run a b", "refused"),
     ("asc run -x", "refused"),
-    ("asc run a --workers 1", "refused"),
+    ("asc run a --threads 1", "refused"),
     ("asc --memory 64 run a", "refused"),
     // abbreviated, and in another case
     ("asc ru a", "refused"),
@@ -118,6 +121,95 @@ static LINES: [(&str, &str); 96] = [
     ("asc run -- --memory", "--memory 1024 1099511627776 2"),
     ("asc run a -- --memory 64", "refused"),
     ("asc -- run a", "refused"),
+    // which guesses are made
+    ("asc run a --guess none", "a 1024 1099511627776 2 none"),
+    ("asc run a --guess last", "a 1024 1099511627776 2 last"),
+    ("asc run a --guess=stride", "a 1024 1099511627776 2"),
+    ("asc run a --guess both", "a 1024 1099511627776 2 both"),
+    ("asc run a --guess x", "refused"),
+    ("asc run a --guess Stride", "refused"),
+    ("asc run a --guess=", "refused"),
+    ("asc run a --guess", "refused"),
+    ("asc run a --guess last --guess last", "refused"),
+    ("asc run a --guess x --pc 1000g", "refused"),
+    ("asc run a --guess last --pc 1000g", "no address"),
+    // how guesses are made and followed: each option at its ends, and just past them
+    ("asc run a --profile 2", "a 1024 1099511627776 2 profile 2"),
+    (
+        "asc run a --profile 65536",
+        "a 1024 1099511627776 2 profile 65536",
+    ),
+    ("asc run a --profile 1", "refused"),
+    ("asc run a --profile 65537", "refused"),
+    ("asc run a --min 2", "a 1024 1099511627776 2 min 2"),
+    ("asc run a --min 65536", "a 1024 1099511627776 2 min 65536"),
+    ("asc run a --min 1", "refused"),
+    ("asc run a --min 65537", "refused"),
+    ("asc run a --laps 1", "a 1024 1099511627776 2"),
+    (
+        "asc run a --laps 1000000",
+        "a 1024 1099511627776 2 laps 1000000",
+    ),
+    ("asc run a --laps 0", "refused"),
+    ("asc run a --laps 1000001", "refused"),
+    ("asc run a --span 1", "a 1024 1099511627776 2 span 1"),
+    (
+        "asc run a --span 1000000000",
+        "a 1024 1099511627776 2 span 1000000000",
+    ),
+    ("asc run a --span 0", "refused"),
+    ("asc run a --span 1000000001", "refused"),
+    ("asc run a --ahead 1", "a 1024 1099511627776 2 ahead 1"),
+    ("asc run a --ahead 64", "a 1024 1099511627776 2 ahead 64"),
+    ("asc run a --ahead 0", "refused"),
+    ("asc run a --ahead 65", "refused"),
+    ("asc run a --workers 0", "a 1024 1099511627776 2"),
+    (
+        "asc run a --workers 64",
+        "a 1024 1099511627776 2 workers 64",
+    ),
+    ("asc run a --workers=-1", "refused"),
+    ("asc run a --workers 65", "refused"),
+    ("asc run a --queue 1", "a 1024 1099511627776 2 queue 1"),
+    (
+        "asc run a --queue 1024",
+        "a 1024 1099511627776 2 queue 1024",
+    ),
+    ("asc run a --queue 0", "refused"),
+    ("asc run a --queue 1025", "refused"),
+    (
+        "asc run a --profile 6 --min 3 --laps 5 --span 7 --ahead 2 --workers 8 --queue 9",
+        "a 1024 1099511627776 2 profile 6 min 3 laps 5 span 7 ahead 2 workers 8 queue 9",
+    ),
+    ("asc run a --ahead 2 --ahead 2", "refused"),
+    ("asc run a --queue", "refused"),
+    // generated images
+    ("asc make 0", "make 0"),
+    ("asc make 300", "make 300"),
+    ("asc make +7", "make 7"),
+    ("asc make 18446744073709551615", "make 18446744073709551615"),
+    ("asc trial 0", "trial 0 workers 0"),
+    (
+        "asc trial 18446744073709551615",
+        "trial 18446744073709551615 workers 0",
+    ),
+    ("asc trial 0 --workers 2", "trial 0 workers 2"),
+    ("asc trial --workers=64 300", "trial 300 workers 64"),
+    ("asc make", "refused"),
+    ("asc make 18446744073709551616", "refused"),
+    ("asc make 1 2", "refused"),
+    ("asc make -1", "refused"),
+    ("asc make x", "refused"),
+    ("asc make 0x10", "refused"),
+    ("asc make 0 --workers 1", "refused"),
+    ("asc Make 0", "refused"),
+    ("asc trial", "refused"),
+    ("asc trial 18446744073709551616", "refused"),
+    ("asc trial 1 2", "refused"),
+    ("asc trial 0 --workers 65", "refused"),
+    ("asc trial 0 --workers 2 --workers 2", "refused"),
+    ("asc trial 0 --ahead 2", "refused"),
+    ("asc trial run 0", "refused"),
     // help and versions
     ("asc -h", "refused"),
     ("asc --help", "refused"),
@@ -139,22 +231,47 @@ fn words_of(alloc: Global, text: &str) -> Result<Vec<String>, AllocError> {
     Ok(words)
 }
 
+// What a run is asked for, as a text.
+fn run_text(alloc: Global, line: &RunLine) -> Result<String, AllocError> {
+    let image = line.image.as_str();
+    let version = if line.version == Version::One { 1 } else { 2 };
+    let (memory, limit) = (line.memory, line.limit);
+    let mut meaning = format!(in alloc; "{image} {memory} {limit} {version}")?;
+    meaning.push_str(match (line.last, line.stride) {
+        (false, false) => " none",
+        (true, false) => " last",
+        (false, true) => "",
+        (true, true) => " both",
+    })?;
+    if let Some(pc) = line.pc {
+        meaning.push_str(format!(in alloc; " pc {pc}")?.as_str())?;
+    }
+    let numbers = [
+        ("profile", u64::from(line.profile), 4096),
+        ("min", u64::from(line.least), 4),
+        ("laps", line.laps, 1),
+        ("span", line.span, 1_000_000),
+        ("ahead", u64::from(line.ahead), 4),
+        ("workers", line.workers as u64, 0),
+        ("queue", line.queue as u64, 256),
+    ];
+    for (name, number, default) in &numbers {
+        if number != default {
+            meaning.push_str(format!(in alloc; " {name} {number}")?.as_str())?;
+        }
+    }
+    if line.report {
+        meaning.push_str(" report")?;
+    }
+    Ok(meaning)
+}
+
 // What the words mean, as a text.
 fn meaning_of(alloc: Global, words: &[String]) -> Result<String, AllocError> {
     match parse(alloc, words) {
-        Ok(Line::Run(line)) => {
-            let image = line.image.as_str();
-            let version = if line.version == Version::One { 1 } else { 2 };
-            let (memory, limit) = (line.memory, line.limit);
-            let mut meaning = format!(in alloc; "{image} {memory} {limit} {version}")?;
-            if let Some(pc) = line.pc {
-                meaning.push_str(format!(in alloc; " pc {pc}")?.as_str())?;
-            }
-            if line.report {
-                meaning.push_str(" report")?;
-            }
-            Ok(meaning)
-        }
+        Ok(Line::Run(line)) => run_text(alloc, &line),
+        Ok(Line::Make { n }) => format!(in alloc; "make {n}"),
+        Ok(Line::Trial { n, workers }) => format!(in alloc; "trial {n} workers {workers}"),
         Err(LineFault::Usage(Bad::Pc)) => String::from_str(alloc, "no address"),
         Err(LineFault::Usage(Bad::Words)) => String::from_str(alloc, "refused"),
         Err(LineFault::Memory) => String::from_str(alloc, "out of memory"),
@@ -185,9 +302,11 @@ const LAST: Fault = Fault {
 };
 
 // The answers' table: the exit status of each answer, and its line.
-static ANSWERS: [(Answer, u8, &str); 39] = [
+static ANSWERS: [(Answer, u8, &str); 41] = [
     (Answer::Exit(0), 0, ""),
     (Answer::Exit(255), 255, ""),
+    (Answer::Done(0), 0, ""),
+    (Answer::Done(u64::MAX), 0, ""),
     (Answer::Usage(Bad::Words), 64, "asc: usage\n"),
     (Answer::Usage(Bad::Pc), 64, "asc: usage\n"),
     (Answer::Image(ElfFault::Short), 65, "asc: image fault 1\n"),
@@ -359,13 +478,60 @@ static NUMBERS: [(Counts, &str); 3] = [
     ),
 ];
 
-// Whether the text of an outcome is these two lines, and all bytes behind it stay.
-fn is_text(outcome: Outcome, line: &str, numbers: &str) -> bool {
+// The numbers of workers, and their line.
+static WORKERS: [(WorkerCounts, &str); 3] = [
+    (
+        WorkerCounts {
+            ran: 4,
+            left: 0,
+            stored: 4,
+            known: 0,
+            empty: 0,
+            dropped: 0,
+            stopped: 0,
+            full: 0,
+        },
+        "asc: ran 4 left 0 stored 4 known 0 empty 0 dropped 0 stopped 0 full 0\n",
+    ),
+    (
+        WorkerCounts {
+            ran: 1,
+            left: 20,
+            stored: 300,
+            known: 4000,
+            empty: 50_000,
+            dropped: 600_000,
+            stopped: 7_000_000,
+            full: 80_000_000,
+        },
+        "asc: ran 1 left 20 stored 300 known 4000 empty 50000 dropped 600000 stopped 7000000 full 80000000\n",
+    ),
+    (
+        WorkerCounts {
+            ran: u64::MAX,
+            left: u64::MAX,
+            stored: u64::MAX,
+            known: u64::MAX,
+            empty: u64::MAX,
+            dropped: u64::MAX,
+            stopped: u64::MAX,
+            full: u64::MAX,
+        },
+        "asc: ran 18446744073709551615 left 18446744073709551615 stored 18446744073709551615 \
+         known 18446744073709551615 empty 18446744073709551615 dropped 18446744073709551615 \
+         stopped 18446744073709551615 full 18446744073709551615\n",
+    ),
+];
+
+// Whether the text of an outcome is these three lines, and all bytes behind it stay.
+fn is_text(outcome: Outcome, line: &str, numbers: &str, workers: &str) -> bool {
     let mut into = [0xEE; 512];
     let length = text(&outcome, &mut into);
-    into[..length].starts_with(line.as_bytes())
-        && into[..length].ends_with(numbers.as_bytes())
-        && length == line.len() + numbers.len()
+    let behind = line.len() + numbers.len();
+    length == behind + workers.len()
+        && &into[..line.len()] == line.as_bytes()
+        && &into[line.len()..behind] == numbers.as_bytes()
+        && &into[behind..length] == workers.as_bytes()
         && into[length..].iter().all(|byte| *byte == 0xEE)
 }
 
@@ -373,18 +539,110 @@ fn is_text(outcome: Outcome, line: &str, numbers: &str) -> bool {
 fn answers(rt: HostRuntime) {
     for (answer, code, line) in &ANSWERS {
         assert_eq!(rt; answer.code(), *code, "code of {line}");
-        let counts = None;
-        let answer = *answer;
-        assert!(rt;
-            is_text(Outcome { answer, counts }, line, ""),
-            "text of {line}"
-        );
+        let mut outcome = Outcome::of(*answer);
+        assert!(rt; is_text(outcome, line, "", ""), "text of {line}");
         for (counts, numbers) in &NUMBERS {
-            let counts = Some(*counts);
-            assert!(rt;
-                is_text(Outcome { answer, counts }, line, numbers),
-                "{line}{numbers}"
-            );
+            outcome.counts = Some(*counts);
+            outcome.workers = None;
+            assert!(rt; is_text(outcome, line, numbers, ""), "{line}{numbers}");
+            for (workers, more) in &WORKERS {
+                outcome.workers = Some(*workers);
+                assert!(rt;
+                    is_text(outcome, line, numbers, more),
+                    "{line}{numbers}{more}"
+                );
+            }
         }
+    }
+}
+
+// Trials, and their texts.
+static TRIALS: [(TrialOutcome, &str); 5] = [
+    (
+        TrialOutcome {
+            n: 0,
+            status: 0,
+            steps: 3310,
+            output: 64,
+            counts: Some(Counts {
+                executed: 422,
+                skipped: 2888,
+                asked: 16,
+                hits: 14,
+                made: 16,
+                refused: 1,
+            }),
+        },
+        "trial 0: status 0, steps 3310, output 64\nexecuted 422, skipped 2888, asked 16, hits 14, made 16\n",
+    ),
+    (
+        TrialOutcome {
+            n: 300,
+            status: 0,
+            steps: 15464,
+            output: 300,
+            counts: Some(Counts {
+                executed: 422,
+                skipped: 15042,
+                asked: 75,
+                hits: 73,
+                made: 75,
+                refused: 0,
+            }),
+        },
+        "trial 300: status 0, steps 15464, output 300\nexecuted 422, skipped 15042, asked 75, hits 73, made 75\n",
+    ),
+    (
+        TrialOutcome {
+            n: u64::MAX,
+            status: 0,
+            steps: 49454,
+            output: 960,
+            counts: None,
+        },
+        "trial 18446744073709551615: status 0, steps 49454, output 960\n",
+    ),
+    (
+        TrialOutcome {
+            n: 1,
+            status: 20,
+            steps: 300,
+            output: 4000,
+            counts: None,
+        },
+        "trial 1: status 20, steps 300, output 4000\n",
+    ),
+    (
+        TrialOutcome {
+            n: u64::MAX,
+            status: 255,
+            steps: u64::MAX,
+            output: u64::MAX,
+            counts: Some(Counts {
+                executed: u64::MAX,
+                skipped: u64::MAX,
+                asked: u64::MAX,
+                hits: u64::MAX,
+                made: u64::MAX,
+                refused: u64::MAX,
+            }),
+        },
+        "trial 18446744073709551615: status 255, steps 18446744073709551615, output 18446744073709551615\n\
+         executed 18446744073709551615, skipped 18446744073709551615, asked 18446744073709551615, \
+         hits 18446744073709551615, made 18446744073709551615\n",
+    ),
+];
+
+#[test]
+fn trials(rt: HostRuntime) {
+    for (trial, want) in &TRIALS {
+        let mut into = [0xEE; 512];
+        let length = trial_text(trial, &mut into);
+        assert_eq!(rt; length, want.len(), "length of {want}");
+        assert!(rt; &into[..length] == want.as_bytes(), "text of {want}");
+        assert!(rt;
+            into[length..].iter().all(|byte| *byte == 0xEE),
+            "behind {want}"
+        );
     }
 }
