@@ -1,5 +1,5 @@
 #!/usr/bin/env python3
-"""Tries the tools of this folder and the man page on the built program, and the links of documents.
+"""Tries the tools of this folder, the man page, the links of documents and the program to be copied.
 
     python3 tools/check.py [PROGRAM]
 
@@ -422,6 +422,20 @@ def check_links():
             same(f"the link {link} of {document.name}", found, True)
 
 
+def check_copy(folder):
+    """The copy of the program over the crates has each crate that a line of it names, and none else."""
+    script, copied = ROOT / "examples/embed/copy.sh", folder / "simulator"
+    same("copy.sh", outcome([script, copied]), (b"", b"", 0))
+    same("copy.sh into a folder that is there", outcome([script, copied])[2], 73)
+    lines = [line.partition(":") for line in (copied / "crates.txt").read_text().splitlines()]
+    ours = {re.match(r"\w+", line)[0] for line in (ROOT / "crates.txt").read_text().splitlines() if line[:1] != "#"}
+    wanted = {"embed"} | {name for line in lines for name in line[2].split() if name in ours}
+    same("the crates that copy.sh lists", sorted(line[0].split()[0] for line in lines), sorted(wanted))
+    same("the crates that it copies", sorted(path.name for path in (copied / "crates").iterdir()), sorted(wanted))
+    texts = [path.read_text() for path in copied.glob("crates/embed/*/**/*") if path.suffix in (".rt", ".antt")]
+    same("the name that it has before", [len(texts), any("asc_embed" in text for text in texts)], [2, False])
+
+
 def check_completion(known):
     if not has("bash", "the completion"):
         return
@@ -463,6 +477,7 @@ def main():
         check_steps(program, Path(folder))
         check_pc(program, Path(folder))
         check_plot(Path(folder))
+        check_copy(Path(folder))
     check_completion(known)
     print(f"tools/check.py: {tried} trials, {failed} failed")
     return 1 if failed else 0
