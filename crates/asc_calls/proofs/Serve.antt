@@ -6,36 +6,36 @@ use Rattle.std.proofs.lemmas.Bool.{false≢true}
 use Rattle.std.specs.Prelude.{◌==◌, ◌||◌}
 use Rattle.asc_model.specs.State.{State}
 use Rattle.asc_model.specs.Machine.{register, view_of, Register, Memory}
-use Rattle.asc_outside.specs.Outside.{Given, given_after}
+use Rattle.asc_outside.specs.Outside.{Given, given_after, PutsPart}
 use Rattle.asc_shape.specs.State.{state_after, memory_at}
 use Rattle.asc_shape.proofs.States.{shape-state_after}
 use Rattle.asc_outside.proofs.Streams.{given_after-nil, Takes-nil}
 use Rattle.asc_calls.specs.declared.calls.Served.{Served}
 use Rattle.asc_calls.specs.declared.calls.Served.TheVariants as served
 use Rattle.asc_calls.specs.GuestCall.{nothing, Device, Input, Out, Err, io_of, Went, Exit, early_answer, answered, break_after, result_of, result_of_read, guest_call, negative_answer, no_such_call, state_after_answer}
-use Rattle.asc_calls.specs.World.{CallState, outside, world, DoesIo}
+use Rattle.asc_calls.specs.World.{CallState, Faults, outside, world, DoesIo}
 use Rattle.asc_calls.specs.Serving.{Serves, IsCutShort}
-use Rattle.asc_calls.specs.Filling.{Reads, ReadsPart, PutsPart}
+use Rattle.asc_calls.specs.Filling.{Reads, ReadsPart}
 use Rattle.asc_calls.proofs.Taken.{is_true, shape-into}
 use Rattle.asc_calls.proofs.Requests.{request_of-93, request_of-214, request_of-other, read-early, read-taken, write-early, write-put, take-taken, take-part}
 
 -- where the devices stay, nothing was taken or put
-DoesIo-same : (left : Option (List ℕ)) (out err : Given) (n m : ℕ) → DoesIo (outside left out err n) (outside left out err m) nothing
-DoesIo-same left out err n m = record { taken = Takes-nil left; out = sym (given_after-nil out); err = sym (given_after-nil err) }
+DoesIo-same : (left : Option (List ℕ)) (out err : Given) (n m : ℕ) (before later : Faults) → DoesIo (outside left out err n before) (outside left out err m later) nothing
+DoesIo-same left out err n m before later = record { taken = Takes-nil left; out = sym (given_after-nil out); err = sym (given_after-nil err) }
 
 -- bytes were put to out alone
-pub DoesIo-out : (left : Option (List ℕ)) (out after err : Given) (n m : ℕ) (piece bytes : List ℕ) → piece ≡ bytes → after ≡ given_after out piece
-    → DoesIo (outside left out err n) (outside left after err m) (io_of Out bytes)
-DoesIo-out left out after err n m piece bytes same is = record {
+pub DoesIo-out : (left : Option (List ℕ)) (out after err : Given) (n m : ℕ) (before later : Faults) (piece bytes : List ℕ) → piece ≡ bytes → after ≡ given_after out piece
+    → DoesIo (outside left out err n before) (outside left after err m later) (io_of Out bytes)
+DoesIo-out left out after err n m before later piece bytes same is = record {
   taken = Takes-nil left;
   out = is ∙ ap (λ l. given_after out l) same;
   err = sym (given_after-nil err);
 }
 
 -- bytes were put to err alone
-pub DoesIo-err : (left : Option (List ℕ)) (out err after : Given) (n m : ℕ) (piece bytes : List ℕ) → piece ≡ bytes → after ≡ given_after err piece
-    → DoesIo (outside left out err n) (outside left out after m) (io_of Err bytes)
-DoesIo-err left out err after n m piece bytes same is = record {
+pub DoesIo-err : (left : Option (List ℕ)) (out err after : Given) (n m : ℕ) (before later : Faults) (piece bytes : List ℕ) → piece ≡ bytes → after ≡ given_after err piece
+    → DoesIo (outside left out err n before) (outside left out after m later) (io_of Err bytes)
+DoesIo-err left out err after n m before later piece bytes same is = record {
   taken = Takes-nil left;
   out = sym (given_after-nil out);
   err = is ∙ ap (λ l. given_after err l) same;
@@ -59,12 +59,12 @@ shape-answer s u answer is =
     ap (λ (t : State). t.shape) is ∙ shape-state_after (state_after s (Register 10 answer)) _ ∙ shape-state_after s (Register 10 answer)
 
 -- a call that answers, and does nothing else but that it may move the break
-module _ (s u : State) (calls : CallState) (brk : ℕ) (left : Option (List ℕ)) (out err : Given) (n m answer : ℕ) (is_u : u ≡ state_after_answer s answer) (count : m ≡ n + 1) where
+module _ (s u : State) (calls : CallState) (brk : ℕ) (left : Option (List ℕ)) (out err : Given) (n m answer : ℕ) (before later : Faults) (is_u : u ≡ state_after_answer s answer) (count : m ≡ n + 1) where
   pub Serves-answered : (answer_is : Served) → answer_is ≡ served.Went → ((rest : List ℕ) → guest_call calls.low calls.high s calls.brk rest ≡ answered s brk answer)
-      → Serves (world s calls left out err n) (world u (record calls { brk = brk }) left out err m) answer_is
-  Serves-answered answer_is went comes = subst (λ r. Serves (world s calls left out err n) (world u (record calls { brk = brk }) left out err m) r) (sym went) (record {
+      → Serves (world s calls left out err n before) (world u (record calls { brk = brk }) left out err m later) answer_is
+  Serves-answered answer_is went comes = subst (λ r. Serves (world s calls left out err n before) (world u (record calls { brk = brk }) left out err m later) r) (sym went) (record {
     io = nothing;
-    does = DoesIo-same left out err n m;
+    does = DoesIo-same left out err n m before later;
     call = λ rest _. comes rest ∙ ap (λ t. Went t brk nothing) (sym is_u);
     leaves = tt;
     shape = shape-answer s u answer is_u;
@@ -77,32 +77,32 @@ module _ (s u : State) (calls : CallState) (brk : ℕ) (left : Option (List ℕ)
 
   -- the break, which moves or stays
   pub Serves-break : (answer_is : Served) → answer_is ≡ served.Went → (number argument : ℕ) → number ≡ register (view_of s) 17 → argument ≡ register (view_of s) 10 → number ≡ 214
-      → answer ≡ break_after calls.low calls.high calls.brk argument → brk ≡ answer → Serves (world s calls left out err n) (world u (record calls { brk = brk }) left out err m) answer_is
+      → answer ≡ break_after calls.low calls.high calls.brk argument → brk ≡ answer → Serves (world s calls left out err n before) (world u (record calls { brk = brk }) left out err m later) answer_is
   unfolding guest_call
   Serves-break answer_is went number argument is_number is_argument own moved same = Serves-answered answer_is went (λ rest.
       ap (result_of calls.low calls.high s calls.brk rest) (request_of-214 (view_of s) number argument is_number is_argument own)
       ∙ ap (λ b. answered s b b) (sym moved) ∙ ap (λ b. answered s b answer) (sym same))
 
 -- a call that isn't served
-pub Serves-unknown : (s u : State) (calls : CallState) (left : Option (List ℕ)) (out err : Given) (n m number answer : ℕ) (answer_is : Served) → answer_is ≡ served.Went
+pub Serves-unknown : (s u : State) (calls : CallState) (left : Option (List ℕ)) (out err : Given) (n m number answer : ℕ) (before later : Faults) (answer_is : Served) → answer_is ≡ served.Went
     → number ≡ register (view_of s) 17 → (number ≡ 63 → ⊥) → (number ≡ 64 → ⊥) → (number < 93) ⊎ (95 ≤ number) → (number ≡ 214 → ⊥)
     → answer < 2 ^ 32 → (answer + 38) % 2 ^ 32 ≡ 0 → u ≡ state_after_answer s answer → m ≡ n + 1
-    → Serves (world s calls left out err n) (world u calls left out err m) answer_is
+    → Serves (world s calls left out err n before) (world u calls left out err m later) answer_is
 unfolding guest_call
-Serves-unknown s u calls left out err n m number answer answer_is went is_number read write end brk below is_answer is_u count =
+Serves-unknown s u calls left out err n m number answer before later answer_is went is_number read write end brk below is_answer is_u count =
     let same : negative_answer no_such_call ≡ answer = omega arith in
-    Serves-answered s u calls calls.brk left out err n m answer is_u count answer_is went (λ rest.
+    Serves-answered s u calls calls.brk left out err n m answer before later is_u count answer_is went (λ rest.
     ap (result_of calls.low calls.high s calls.brk rest) (request_of-other (view_of s) number is_number read write end brk)
     ∙ ap (λ a. answered s calls.brk a) same)
 
 -- the call of a program that ends
-pub Serves-exit : (s : State) (calls : CallState) (left : Option (List ℕ)) (out err : Given) (n m number argument : ℕ)
+pub Serves-exit : (s : State) (calls : CallState) (left : Option (List ℕ)) (out err : Given) (n m number argument : ℕ) (before later : Faults)
     → number ≡ register (view_of s) 17 → argument ≡ register (view_of s) 10 → 93 ≤ number → number < 95 → m ≡ n + 1
-    → Serves (world s calls left out err n) (world s calls left out err m) (served.Exit (bit_and argument 255))
+    → Serves (world s calls left out err n before) (world s calls left out err m later) (served.Exit (bit_and argument 255))
 unfolding guest_call
-Serves-exit s calls left out err n m number argument is_number is_argument least below count = record {
+Serves-exit s calls left out err n m number argument before later is_number is_argument least below count = record {
   io = nothing;
-  does = DoesIo-same left out err n m;
+  does = DoesIo-same left out err n m before later;
   call = λ rest _.
       ap (result_of calls.low calls.high s calls.brk rest) (request_of-93 (view_of s) number argument is_number is_argument least below)
       ∙ ap (λ x. Exit x) (sym (bit_and-255 argument));
@@ -115,26 +115,26 @@ Serves-exit s calls left out err n m number argument is_number is_argument least
   steps = count;
 }
 
-module _ (s : State) (calls : CallState) (left : Option (List ℕ)) (out err : Given) (n file : ℕ) (is_file : file ≡ register (view_of s) 10) where
+module _ (s : State) (calls : CallState) (left : Option (List ℕ)) (out err : Given) (n file : ℕ) (before later : Faults) (is_file : file ≡ register (view_of s) 10) where
   -- a read that is answered early
   pub Serves-read_early : (u : State) (m answer : ℕ) (answer_is : Served) → register (view_of s) 17 ≡ 63
       → Some answer ≡ early_answer s.shape (file == 0) (register (view_of s) 11) (register (view_of s) 12) → u ≡ state_after_answer s answer → m ≡ n + 1 → answer_is ≡ served.Went
-      → Serves (world s calls left out err n) (world u calls left out err m) answer_is
+      → Serves (world s calls left out err n before) (world u calls left out err m later) answer_is
   Serves-read_early u m answer answer_is asked early is_u count went =
-      Serves-answered s u calls calls.brk left out err n m answer is_u count answer_is went (λ rest. read-early calls.low calls.high s calls.brk rest file is_file asked answer early)
+      Serves-answered s u calls calls.brk left out err n m answer before later is_u count answer_is went (λ rest. read-early calls.low calls.high s calls.brk rest file is_file asked answer early)
 
   -- a write that is answered early
   pub Serves-write_early : (u : State) (m answer : ℕ) (answer_is : Served) (serves : Bool) → register (view_of s) 17 ≡ 64 → serves ≡ ((file == 1) || (file == 2))
       → Some answer ≡ early_answer s.shape serves (register (view_of s) 11) (register (view_of s) 12) → u ≡ state_after_answer s answer → m ≡ n + 1 → answer_is ≡ served.Went
-      → Serves (world s calls left out err n) (world u calls left out err m) answer_is
+      → Serves (world s calls left out err n before) (world u calls left out err m later) answer_is
   Serves-write_early u m answer answer_is serves asked serves_is early is_u count went =
-      Serves-answered s u calls calls.brk left out err n m answer is_u count answer_is went (λ rest. write-early calls.low calls.high s calls.brk rest file is_file asked serves serves_is answer early)
+      Serves-answered s u calls calls.brk left out err n m answer before later is_u count answer_is went (λ rest. write-early calls.low calls.high s calls.brk rest file is_file asked serves serves_is answer early)
 
   -- a read that comes to its end
   pub Serves-read : (t u : State) (now : CallState) (after : Option (List ℕ)) (m count buffer size : ℕ) (answer_is : Served) → register (view_of s) 17 ≡ 63
       → None ≡ early_answer s.shape (file == 0) (register (view_of s) 11) (register (view_of s) 12) → buffer ≡ register (view_of s) 11 → size ≡ register (view_of s) 12
       → Reads left after s t buffer size calls now count → u ≡ state_after_answer t count → m ≡ n + 1 → answer_is ≡ served.Went
-      → Serves (world s calls left out err n) (world u now after out err m) answer_is
+      → Serves (world s calls left out err n before) (world u now after out err m later) answer_is
   Serves-read t u now after m count buffer size answer_is asked early is_buffer is_size r is_u rise went =
       let all : now.ended ≡ false → length r.taken ≡ register (view_of s) 12 = λ going. r.count_is ∙ r.all going ∙ is_size in
       let within : length r.taken ≤ register (view_of s) 12 = omega (arith, r.into.within) in
@@ -143,7 +143,7 @@ module _ (s : State) (calls : CallState) (left : Option (List ℕ)) (out err : G
       ∙ ap (λ v. state_after_answer v (length r.taken)) (sym r.into.state)
       ∙ ap (λ k. state_after_answer t k) r.count_is
       ∙ sym is_u in
-      subst (λ a. Serves (world s calls left out err n) (world u now after out err m) a) (sym went) (record {
+      subst (λ a. Serves (world s calls left out err n before) (world u now after out err m later) a) (sym went) (record {
         io = io_of Input r.taken;
         does = record { taken = r.into.takes; out = sym (given_after-nil out); err = sym (given_after-nil err) };
         call = λ rest may.
@@ -163,7 +163,7 @@ module _ (s : State) (calls : CallState) (left : Option (List ℕ)) (out err : G
   -- a read whose source fails
   pub Serves-read_fault : (t : State) (now : CallState) (after : Option (List ℕ)) (buffer size : ℕ) → register (view_of s) 17 ≡ 63
       → None ≡ early_answer s.shape (file == 0) (register (view_of s) 11) (register (view_of s) 12) → buffer ≡ register (view_of s) 11 → size ≡ register (view_of s) 12
-      → ReadsPart left after s t buffer size calls now → Serves (world s calls left out err n) (world t now after out err n) served.ReadFault
+      → ReadsPart left after s t buffer size calls now → Serves (world s calls left out err n before) (world t now after out err n later) served.ReadFault
   Serves-read_fault t now after buffer size asked early is_buffer is_size r =
       let within : length r.taken ≤ register (view_of s) 12 = omega (arith, r.into.within) in
       record {
@@ -197,12 +197,12 @@ module _ (s : State) (calls : CallState) (left : Option (List ℕ)) (out err : G
   -- a write that comes to its end
   pub Serves-write : (u : State) (out_after err_after : Given) (m answer : ℕ) (answer_is : Served) (serves : Bool) (device : Device) → register (view_of s) 17 ≡ 64 → serves ≡ ((file == 1) || (file == 2))
       → None ≡ early_answer s.shape serves (register (view_of s) 11) (register (view_of s) 12) → (cond (file == 1) Out Err) ≡ device → (none : (io_of device (memory_at s (register (view_of s) 11) (register (view_of s) 12))).taken ≡ [])
-      → DoesIo (outside left out err n) (outside left out_after err_after m) (io_of device (memory_at s (register (view_of s) 11) (register (view_of s) 12)))
+      → DoesIo (outside left out err n before) (outside left out_after err_after m later) (io_of device (memory_at s (register (view_of s) 11) (register (view_of s) 12)))
       → answer ≡ register (view_of s) 12 → u ≡ state_after_answer s answer → m ≡ n + 1 → answer_is ≡ served.Went
-      → Serves (world s calls left out err n) (world u calls left out_after err_after m) answer_is
+      → Serves (world s calls left out err n before) (world u calls left out_after err_after m later) answer_is
   Serves-write u out_after err_after m answer answer_is serves device asked serves_is early is_device none does is_answer is_u rise went =
       let bytes = memory_at s (register (view_of s) 11) (register (view_of s) 12) in
-      subst (λ a. Serves (world s calls left out err n) (world u calls left out_after err_after m) a) (sym went) (record {
+      subst (λ a. Serves (world s calls left out err n before) (world u calls left out_after err_after m later) a) (sym went) (record {
         io = io_of device bytes;
         does = does;
         call = λ rest _.
@@ -239,12 +239,12 @@ module _ (s : State) (calls : CallState) (left : Option (List ℕ)) (out err : G
   -- a write to out whose sink fails
   pub Serves-write_fault : (piece : List ℕ) (after : Given) (serves : Bool) → register (view_of s) 17 ≡ 64 → serves ≡ ((file == 1) || (file == 2))
       → None ≡ early_answer s.shape serves (register (view_of s) 11) (register (view_of s) 12) → (cond (file == 1) Out Err) ≡ Out
-      → piece ≡ memory_at s (register (view_of s) 11) (register (view_of s) 12) → length piece ≡ register (view_of s) 12 → PutsPart out after piece → Serves (world s calls left out err n) (world s calls left after err n) served.WriteFault
+      → piece ≡ memory_at s (register (view_of s) 11) (register (view_of s) 12) → length piece ≡ register (view_of s) 12 → PutsPart out after piece → Serves (world s calls left out err n before) (world s calls left after err n later) served.WriteFault
   Serves-write_fault piece after serves asked serves_is early is_device is_piece size part =
       let bytes = memory_at s (register (view_of s) 11) (register (view_of s) 12) in
       record {
         io = io_of Out (take part.count bytes);
-        does = DoesIo-out left out after err n n (take part.count piece) (take part.count bytes) (ap (λ l. take part.count l) is_piece) part.given;
+        does = DoesIo-out left out after err n n before later (take part.count piece) (take part.count bytes) (ap (λ l. take part.count l) is_piece) part.given;
         call = λ rest _. Serves-part rest part.count serves Out asked serves_is early is_device;
         leaves = record {
           buffer = register (view_of s) 11;
@@ -266,12 +266,12 @@ module _ (s : State) (calls : CallState) (left : Option (List ℕ)) (out err : G
   -- a write to err whose sink fails
   pub Serves-err_fault : (piece : List ℕ) (after : Given) (serves : Bool) → register (view_of s) 17 ≡ 64 → serves ≡ ((file == 1) || (file == 2))
       → None ≡ early_answer s.shape serves (register (view_of s) 11) (register (view_of s) 12) → (cond (file == 1) Out Err) ≡ Err
-      → piece ≡ memory_at s (register (view_of s) 11) (register (view_of s) 12) → length piece ≡ register (view_of s) 12 → PutsPart err after piece → Serves (world s calls left out err n) (world s calls left out after n) served.ErrFault
+      → piece ≡ memory_at s (register (view_of s) 11) (register (view_of s) 12) → length piece ≡ register (view_of s) 12 → PutsPart err after piece → Serves (world s calls left out err n before) (world s calls left out after n later) served.ErrFault
   Serves-err_fault piece after serves asked serves_is early is_device is_piece size part =
       let bytes = memory_at s (register (view_of s) 11) (register (view_of s) 12) in
       record {
         io = io_of Err (take part.count bytes);
-        does = DoesIo-err left out err after n n (take part.count piece) (take part.count bytes) (ap (λ l. take part.count l) is_piece) part.given;
+        does = DoesIo-err left out err after n n before later (take part.count piece) (take part.count bytes) (ap (λ l. take part.count l) is_piece) part.given;
         call = λ rest _. Serves-part rest part.count serves Err asked serves_is early is_device;
         leaves = record {
           buffer = register (view_of s) 11;

@@ -4,7 +4,7 @@ use Rattle.std.proofs.Common.{◌≡◌, ℕ, ◌+◌, ◌-◌, ◌≤◌, List,
 use Rattle.std.proofs.lemmas.List.{take_at, drop_at, drop-drop, drop-append-le, take-append-drop, take_all, length-take-le}
 use Rattle.std.proofs.lemmas.Bool.Decides.{nat_tests}
 use Rattle.std.proofs.lemmas.Bool.{false≢true}
-use Rattle.std.proofs.Math.Seq.{take-add, drop-append-add}
+use Rattle.std.proofs.Math.Seq.{drop-append-add}
 use Rattle.asc_model.specs.Shape.{Shape, holds, place_of}
 use Rattle.asc_model.specs.Number.{AreBytes}
 use Rattle.asc_model.specs.State.{State, IsState}
@@ -15,9 +15,8 @@ use Rattle.asc_model.proofs.Views.{view_of-memory}
 use Rattle.asc_shape.specs.State.{state_after, memory_at, with_memory}
 use Rattle.asc_outside.specs.declared.outside.Failed.{Failed}
 use Rattle.asc_shape.specs.TakesIn.{TakesIn}
-use Rattle.asc_outside.specs.Outside.{Given, given_after}
 use Rattle.asc_shape.proofs.States.{changed_is, shape-state_after}
-use Rattle.asc_outside.proofs.Streams.{Takes-nil, Takes-append, given_after-given_after}
+use Rattle.asc_outside.proofs.Streams.{Takes-nil, Takes-append}
 use Rattle.asc_calls.specs.World.{CallState}
 use Rattle.asc_calls.specs.Filling.{Fills, TakesInto, Reads}
 
@@ -25,15 +24,6 @@ use Rattle.asc_calls.specs.Filling.{Fills, TakesInto, Reads}
 pub is_true : (b : Bool) → IsTrue b → b ≡ true
 is_true true e = refl
 is_true false e = absurd (false≢true e)
-
--- bytes put behind those that a sink was given of a piece
-pub given_more : (before mid after : Given) (piece rest : List ℕ) (m k : ℕ) → mid ≡ given_after before (take m piece) → rest ≡ drop m piece
-    → after ≡ given_after mid (take k rest) → after ≡ given_after before (take (m + k) piece)
-given_more before mid after piece rest m k was is now =
-    now ∙ ap (λ g. given_after g (take k rest)) was
-    ∙ ap (λ l. given_after (given_after before (take m piece)) (take k l)) is
-    ∙ given_after-given_after before (take m piece) (take k (drop m piece))
-    ∙ ap (given_after before) (sym (take-add m k piece))
 
 -- bytes in memory are a splice of the state's bytes
 state_after-memory : (s : State) (a : ℕ) (bytes : List ℕ) → IsState s → IsTrue (holds s.shape a (length bytes)) → AreBytes bytes

@@ -1,10 +1,10 @@
--- What taking bytes into a buffer does, and putting the bytes of a piece.
-use Rattle.std.specs.Prelude.{◌≡◌, ℕ, ◌<◌, ◌≤◌, IsTrue, false, List, [], length, take, Option}
+-- What taking bytes into a buffer does.
+use Rattle.std.specs.Prelude.{◌≡◌, ℕ, ◌<◌, ◌≤◌, IsTrue, false, List, [], length, Option}
 use Rattle.asc_model.specs.Number.{AreBytes}
 use Rattle.asc_model.specs.State.{State}
 use Rattle.asc_model.specs.Machine.{Memory}
 use Rattle.asc_shape.specs.State.{state_after}
-use Rattle.asc_outside.specs.Outside.{Takes, IsAtEnd, Given, given_after}
+use Rattle.asc_outside.specs.Outside.{Takes, IsAtEnd}
 use Rattle.asc_calls.specs.World.{CallState}
 
 -- from one state to another these bytes were taken into memory, where a buffer of n bytes begins
@@ -46,9 +46,3 @@ pub record ReadsPart (before after : Option (List ℕ)) (old new : State) (buffe
   pub fewer : length taken < n
   pub going : was.ended ≡ false
   pub calls : now ≡ was
-
--- a sink that failed was given the first bytes of a piece, and not all
-pub record PutsPart (before after : Given) (piece : List ℕ) : Type 0 where
-  pub count : ℕ
-  pub fewer : count < length piece
-  pub given : after ≡ given_after before (take count piece)

@@ -1,5 +1,5 @@
 -- What serving a call does to the world.
-use Rattle.std.specs.Prelude.{◌≡◌, ℕ, ◌+◌, ◌<◌, IsTrue, List, [], ◌++◌, length, take}
+use Rattle.std.specs.Prelude.{◌≡◌, ℕ, ◌+◌, ◌<◌, IsTrue, List, [], ◌++◌, length, take, Option, Some, None}
 use Rattle.asc_model.specs.State.{State}
 use Rattle.asc_model.specs.Machine.{Memory}
 use Rattle.asc_shape.specs.State.{state_after}
@@ -63,6 +63,14 @@ Leaves (served.Exit code) old new io = IsStill old new io
 Leaves served.ReadFault old new io = LeftByInput old new io
 Leaves served.WriteFault old new io = LeftByOutput 1 old new io.out
 Leaves served.ErrFault old new io = LeftByOutput 2 old new io.err
+
+-- the device that failed in a call, where one did
+abbrev pub failed_in : Served → Option Device
+failed_in served.Went = None
+failed_in (served.Exit code) = None
+failed_in served.ReadFault = Some Input
+failed_in served.WriteFault = Some Out
+failed_in served.ErrFault = Some Err
 
 -- a call counts one step, or none where a device failed
 abbrev pub steps_of : Served → ℕ

@@ -2,7 +2,7 @@
 use Rattle.std.specs.Prelude.{◌≡◌, ℕ, Bool, IsTrue, MatchBool, List, [], Option, Some, None}
 use Rattle.asc_model.specs.State.{State}
 use Rattle.asc_outside.specs.Outside.{one_more, Takes, IsAtEnd, Given, given_after}
-use Rattle.asc_calls.specs.GuestCall.{Io}
+use Rattle.asc_calls.specs.GuestCall.{Io, Device, Input, Out, Err}
 
 -- What the calls of one run keep: the bounds of the program's break, the break, and whether the end of the input was
 -- found.
@@ -12,6 +12,26 @@ pub record CallState : Type 0 where
   pub brk : ℕ
   pub ended : Bool
 
+-- how often each device has failed
+pub record Faults : Type 0 where
+  pub input : ℕ
+  pub out : ℕ
+  pub err : ℕ
+
+abbrev pub faults : (input out err : ℕ) → Faults
+faults input out err = record { input = input; out = out; err = err }
+
+-- with one more of the device that failed, where one did
+abbrev pub faults_after : Option Device → Faults → Faults
+faults_after None f = f
+faults_after (Some Input) f = record f { input = one_more f.input }
+faults_after (Some Out) f = record f { out = one_more f.out }
+faults_after (Some Err) f = record f { err = one_more f.err }
+
+-- the count of the device that failed rises by one, and those of the others stay
+abbrev pub BlamesOnly : (failed : Option Device) → (old new : Faults) → Type 0
+BlamesOnly failed old new = new ≡ faults_after failed old
+
 -- what devices tell, and the counter of steps
 pub record Outside : Type 0 where
   -- the input still to come, where it is told
@@ -19,9 +39,16 @@ pub record Outside : Type 0 where
   pub out : Given
   pub err : Given
   pub steps : ℕ
+  pub faults : Faults
 
-abbrev pub outside : Option (List ℕ) → Given → Given → ℕ → Outside
-outside left out err steps = record { left = left; out = out; err = err; steps = steps }
+abbrev pub outside : Option (List ℕ) → Given → Given → ℕ → Faults → Outside
+outside left out err steps faults = record {
+  left = left;
+  out = out;
+  err = err;
+  steps = steps;
+  faults = faults;
+}
 
 pub record World : Type 0 where
   pub state : State
@@ -29,11 +56,11 @@ pub record World : Type 0 where
   pub outside : Outside
   pub open outside use *
 
-abbrev pub world : State → CallState → Option (List ℕ) → Given → Given → ℕ → World
-world state calls left out err steps = record {
+abbrev pub world : State → CallState → Option (List ℕ) → Given → Given → ℕ → Faults → World
+world state calls left out err steps faults = record {
   state = state;
   calls = calls;
-  outside = record { left = left; out = out; err = err; steps = steps };
+  outside = outside left out err steps faults;
 }
 
 -- from old to new just this was taken from the input, and put to out and to err
@@ -41,11 +68,6 @@ pub record DoesIo (old new : Outside) (io : Io) : Type 0 where
   pub taken : Takes old.left new.left io.taken
   pub out : new.out ≡ given_after old.out io.out
   pub err : new.err ≡ given_after old.err io.err
-
--- a count of faults rises by one where its device is blamed, and else it stays
-pub record Blames (blamed : Type 0) (before now : ℕ) : Type 0 where
-  pub rose : blamed → now ≡ one_more before
-  pub stays : ¬ blamed → now ≡ before
 
 -- an input that agrees with what is told
 abbrev pub Agrees : Option (List ℕ) → List ℕ → Type 0

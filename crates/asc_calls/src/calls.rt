@@ -3,11 +3,11 @@ ghost use Rattle.asc_model.specs.Shape.{holds};
 ghost use Rattle.asc_model.specs.Machine.{register, view_of};
 ghost use Rattle.asc_outside.specs.Outside.{Given, HasCause};
 ghost use Rattle.asc_calls.specs.GuestCall.{early_answer, state_after_answer, negative_answer};
-ghost use Rattle.asc_calls.specs.World.{CallState, Blames, world};
-ghost use Rattle.asc_calls.specs.Serving.{Serves};
+ghost use Rattle.asc_calls.specs.World.{CallState, Faults, BlamesOnly, faults, world};
+ghost use Rattle.asc_calls.specs.Serving.{Serves, failed_in};
 
-use crate::devices::{fill, put_all};
-use asc_shape::{Failed, Sink, Source, State, Steps};
+use crate::devices::fill;
+use asc_shape::{Failed, Sink, Source, State, Steps, put_all};
 use std::marker::Model;
 use std::sync::ledger::Ledger;
 
@@ -76,17 +76,19 @@ impl Calls {
         steps: &mut Steps<L>,
     ) -> Served
         ensures served { Serves
-            (world state.old self.old (I.left input.old) (O.given out.old) (E.given err.old) steps.old)
-            (world state.new self.new (I.left input.new) (O.given out.new) (E.given err.new) steps.new)
+            (world state.old self.old (I.left input.old) (O.given out.old) (E.given err.old) steps.old
+            (faults (I.faults input.old) (O.faults out.old) (E.faults err.old)))
+            (world state.new self.new (I.left input.new) (O.given out.new) (E.given err.new) steps.new
+            (faults (I.faults input.new) (O.faults out.new) (E.faults err.new)))
             result }
 
         // Once the end of the input was found, the source is not asked.
         ensures unasked { IsTrue self.old.ended → input.new ≡ input.old }
 
-        // A device's count of faults rises by one where the answer blames it, and else it stays.
-        ensures input_faults { Blames (result ≡ Served.ReadFault) (I.faults input.old) (I.faults input.new) }
-        ensures out_faults { Blames (result ≡ Served.WriteFault) (O.faults out.old) (O.faults out.new) }
-        ensures err_faults { Blames (result ≡ Served.ErrFault) (E.faults err.old) (E.faults err.new) }
+        // The count of faults of the device that failed rises by one, and those of the others stay.
+        ensures faults { BlamesOnly (failed_in result)
+            (faults (I.faults input.old) (O.faults out.old) (E.faults err.old))
+            (faults (I.faults input.new) (O.faults out.new) (E.faults err.new)) }
     {
         match state.reg(17) {
             READ => self.read(state, input, steps),
@@ -111,14 +113,13 @@ impl Calls {
         steps: &mut Steps<L>,
     ) -> Served
         requires { register (view_of state.old) 17 ≡ 63 }
-        ensures served { (out err : Given) → Serves
-            (world state.old self.old (I.left input.old) out err steps.old)
-            (world state.new self.new (I.left input.new) out err steps.new)
+        ensures served { (out err : Given) (before after : Faults) → Serves
+            (world state.old self.old (I.left input.old) out err steps.old before)
+            (world state.new self.new (I.left input.new) out err steps.new after)
             result }
         ensures unasked { IsTrue self.old.ended → input.new ≡ input.old }
-        ensures input_faults { Blames (result ≡ Served.ReadFault) (I.faults input.old) (I.faults input.new) }
-        ensures write { result ≡ Served.WriteFault → ⊥ }
-        ensures err { result ≡ Served.ErrFault → ⊥ }
+        ensures faults { (out err : ℕ) → BlamesOnly (failed_in result)
+            (faults (I.faults input.old) out err) (faults (I.faults input.new) out err) }
     {
         if let Some(answer) = early_answer(state, state.reg(10) == 0) {
             return go_on(state, answer, steps);
@@ -177,13 +178,13 @@ fn write<O: Sink, E: Sink, L: Ledger>(
     steps: &mut Steps<L>,
 ) -> Served
     requires { register (view_of state.old) 17 ≡ 64 }
-    ensures served { (calls : CallState) (left : Option (List ℕ)) → Serves
-        (world state.old calls left (O.given out.old) (E.given err.old) steps.old)
-        (world state.new calls left (O.given out.new) (E.given err.new) steps.new)
+    ensures served { (calls : CallState) (left : Option (List ℕ)) (before after : Faults) → Serves
+        (world state.old calls left (O.given out.old) (E.given err.old) steps.old before)
+        (world state.new calls left (O.given out.new) (E.given err.new) steps.new after)
         result }
-    ensures out_faults { Blames (result ≡ Served.WriteFault) (O.faults out.old) (O.faults out.new) }
-    ensures err_faults { Blames (result ≡ Served.ErrFault) (E.faults err.old) (E.faults err.new) }
-    ensures read { result ≡ Served.ReadFault → ⊥ }
+    ensures faults { (input : ℕ) → BlamesOnly (failed_in result)
+        (faults input (O.faults out.old) (E.faults err.old))
+        (faults input (O.faults out.new) (E.faults err.new)) }
 {
     let file = state.reg(10);
     if let Some(answer) = early_answer(state, is_output(file)) {

@@ -1,12 +1,11 @@
-//! What calls do with a device: a source may give fewer bytes than are asked for, and a sink may take fewer than it is
-//! offered.
+//! How a call takes bytes: a source may give fewer than are asked for.
 
-ghost use Rattle.std.specs.Prelude.{◌≡◌, ◌<◌, IsTrue, IfOk, OnOk, OnErr, length};
+ghost use Rattle.std.specs.Prelude.{◌≡◌, ◌<◌, IsTrue, IfOk, OnErr};
 ghost use Rattle.asc_model.specs.Shape.{holds};
-ghost use Rattle.asc_outside.specs.Outside.{HasCause, IsAtEnd, given_after};
-ghost use Rattle.asc_calls.specs.Filling.{Fills, FillsPart, PutsPart};
+ghost use Rattle.asc_outside.specs.Outside.{HasCause, IsAtEnd};
+ghost use Rattle.asc_calls.specs.Filling.{Fills, FillsPart};
 
-use asc_shape::{Failed, Sink, Source, State};
+use asc_shape::{Failed, Source, State};
 
 /// Takes bytes of a source into memory, where a buffer of n bytes begins, until it is full, or the end of the input is
 /// found, and tells how many. Where n is 0 the source is not asked.
@@ -54,20 +53,4 @@ fn take_once<I: Source>(input: &mut I, state: &mut State, at: u32, n: u32) -> Re
     let count = state.take_in(at, n, input)? as u32;
     let _ = state.shape();
     Ok(count)
-}
-
-/// Puts all bytes of a piece to a sink, which may take fewer than it is offered, and is then asked again for the rest.
-///
-/// Where the sink fails, it was given the first bytes of the piece, and not all. Where the piece is empty the sink is
-/// not asked.
-pub fn put_all<S: Sink>(sink: &mut S, piece: &[u8]) -> Result<(), Failed>
-    ensures all { OnOk result (S.given sink.new ≡ given_after (S.given sink.old) piece.now) }
-    ensures part { OnErr result (PutsPart (S.given sink.old) (S.given sink.new) piece.now) }
-    ensures cause { HasCause (S.faults sink.old) (S.faults sink.new) result }
-{
-    let mut put = 0;
-    while put < piece.len() {
-        put += sink.put(&piece[put..])?;
-    }
-    Ok(())
 }

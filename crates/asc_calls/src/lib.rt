@@ -7,4 +7,3 @@ mod devices;
 mod tests;
 
 pub use calls::{Calls, Served};
-pub use devices::put_all;

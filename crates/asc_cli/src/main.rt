@@ -4,7 +4,7 @@
 ghost use Rattle.std.specs.Prelude.{◌≡◌, ◌≢◌, ◌⊎◌, ◌<◌, map, IfErr};
 ghost use Rattle.std.specs.Process.{exit_status};
 ghost use Rattle.std.specs.String.{string_bytes};
-ghost use Rattle.asc_calls.specs.World.{outside};
+ghost use Rattle.asc_calls.specs.World.{outside, faults};
 ghost use Rattle.asc_top.specs.Answer.{code_of, outcome_of};
 ghost use Rattle.asc_top.specs.Answered.{devices};
 ghost use Rattle.asc_top.specs.Reported.{report_with};
@@ -88,12 +88,12 @@ fn status<F: Store, I: Source, O: Sink, E: Sink, R: Sink, G: Gate, L: Ledger>(
 ) -> ExitCode
     // All that the program promises holds of an outcome, whose answer, or ReportFault, has the status as its code.
     ensures { IsStatus (map string_bytes words.now)
-        (devices (F.files store.old) (F.asked store.old)
-        (outside (I.left input.old) (O.given out.old) (E.given err.old) steps.old)
-        (F.faults store.old) (I.faults input.old) (O.faults out.old) (E.faults err.old))
-        (devices (F.files store.new) (F.asked store.new)
-        (outside (I.left input.new) (O.given out.new) (E.given err.new) steps.new)
-        (F.faults store.new) (I.faults input.new) (O.faults out.new) (E.faults err.new))
+        (devices (F.files store.old) (F.asked store.old) (F.faults store.old)
+        (outside (I.left input.old) (O.given out.old) (E.given err.old) steps.old
+        (faults (I.faults input.old) (O.faults out.old) (E.faults err.old))))
+        (devices (F.files store.new) (F.asked store.new) (F.faults store.new)
+        (outside (I.left input.new) (O.given out.new) (E.given err.new) steps.new
+        (faults (I.faults input.new) (O.faults out.new) (E.faults err.new))))
         (report_with (R.given report.old) (R.faults report.old))
         (report_with (R.given report.new) (R.faults report.new)) (exit_status result) }
 {

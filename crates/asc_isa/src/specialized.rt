@@ -14,18 +14,21 @@ use crate::operands::{b_type, i_type, r_type, s_type, shift};
 use asc_model::{Instr, Op};
 
 /// The instruction that a word is, as `decode` answers it, for a caller that has code of its own for each operation.
+///
+/// `COPY` tells two such callers apart. Each has a copy of all this that is called by it alone, and which the compiler then
+/// takes into it.
 #[inline(always)]
-pub fn decode_specialized(word: u32, atomics: bool) -> Option<Instr>
+pub fn decode_specialized<const COPY: bool>(word: u32, atomics: bool) -> Option<Instr>
     ensures instruction { result ≡ decode (version_of atomics) word }
     ensures registers { IfSome result HasRegisters }
 {
-    instruction(word, atomics)
+    instruction::<COPY>(word, atomics)
 }
 
 /// The instruction of a word, by its opcode. It is not in `decode_specialized`, so that what is said of registers is
 /// shown once.
 #[inline(always)]
-fn instruction(word: u32, atomics: bool) -> Option<Instr>
+fn instruction<const COPY: bool>(word: u32, atomics: bool) -> Option<Instr>
     ensures { result ≡ decode (version_of atomics) word }
 {
     match opcode(word) {
@@ -33,21 +36,21 @@ fn instruction(word: u32, atomics: bool) -> Option<Instr>
         0b0010111 => auipc(word),
         0b1101111 => jal(word),
         0b1100111 => jalr(word),
-        0b1100011 => branch(word),
-        0b0000011 => load(word),
-        0b0100011 => store(word),
-        0b0010011 => op_imm(word),
-        0b0110011 => op(word),
+        0b1100011 => branch::<COPY>(word),
+        0b0000011 => load::<COPY>(word),
+        0b0100011 => store::<COPY>(word),
+        0b0010011 => op_imm::<COPY>(word),
+        0b0110011 => op::<COPY>(word),
         0b0001111 => misc_mem(word),
         0b1110011 => system(word),
-        0b0101111 => if atomics { amo(word) } else { None },
+        0b0101111 => if atomics { amo::<COPY>(word) } else { None },
         _ => None,
     }
 }
 
 /// BRANCH: the conditional branches.
 #[inline]
-fn branch(word: u32) -> Option<Instr>
+fn branch<const COPY: bool>(word: u32) -> Option<Instr>
     requires { opcode word ≡ 0b1100011 }
     ensures { result ≡ find (rows_of 0b1100011 base_table) word }
 {
@@ -64,7 +67,7 @@ fn branch(word: u32) -> Option<Instr>
 
 /// LOAD.
 #[inline]
-fn load(word: u32) -> Option<Instr>
+fn load<const COPY: bool>(word: u32) -> Option<Instr>
     requires { opcode word ≡ 0b0000011 }
     ensures { result ≡ find (rows_of 0b0000011 base_table) word }
 {
@@ -80,7 +83,7 @@ fn load(word: u32) -> Option<Instr>
 
 /// STORE.
 #[inline]
-fn store(word: u32) -> Option<Instr>
+fn store<const COPY: bool>(word: u32) -> Option<Instr>
     requires { opcode word ≡ 0b0100011 }
     ensures { result ≡ find (rows_of 0b0100011 base_table) word }
 {
@@ -94,7 +97,7 @@ fn store(word: u32) -> Option<Instr>
 
 /// OP-IMM: the operations on a register and an immediate.
 #[inline]
-fn op_imm(word: u32) -> Option<Instr>
+fn op_imm<const COPY: bool>(word: u32) -> Option<Instr>
     requires { opcode word ≡ 0b0010011 }
     ensures { result ≡ find (rows_of 0b0010011 base_table) word }
 {
@@ -114,7 +117,7 @@ fn op_imm(word: u32) -> Option<Instr>
 
 /// OP: the operations on two registers.
 #[inline]
-fn op(word: u32) -> Option<Instr>
+fn op<const COPY: bool>(word: u32) -> Option<Instr>
     requires { opcode word ≡ 0b0110011 }
     ensures { result ≡ find (rows_of 0b0110011 base_table) word }
 {
@@ -149,7 +152,7 @@ fn op(word: u32) -> Option<Instr>
 
 /// AMO: the atomics on words.
 #[inline]
-fn amo(word: u32) -> Option<Instr>
+fn amo<const COPY: bool>(word: u32) -> Option<Instr>
     requires { opcode word ≡ 0b0101111 }
     ensures { result ≡ find (rows_of 0b0101111 atomic_table) word }
 {

@@ -8,7 +8,10 @@ use std::process::Abort;
 fn assert_decoded<R: Abort>(rt: &R, word: u32, with: Option<Instr>, without: Option<Instr>) {
     for (atomics, want) in [(true, with), (false, without)] {
         assert_eq!(rt;
-            (decode(word, atomics), decode_specialized(word, atomics)),
+            (
+                decode(word, atomics),
+                decode_specialized::<false>(word, atomics)
+            ),
             (want, want),
             "{word}"
         );

@@ -5,12 +5,11 @@
 mod hand;
 mod job;
 mod jobs;
-mod kind;
 mod tally;
 #[cfg(test)]
 mod tests;
 
+pub use asc_guess::Kind;
 pub use job::Job;
 pub use jobs::{Full, Giver, Jobs, Taker};
-pub use kind::Kind;
 pub use tally::{Column, Tally};

@@ -1,5 +1,5 @@
 -- Laws on what sources and sinks were given, and on their counts of faults.
-use Rattle.std.proofs.Common.{◌≡◌, ℕ, ◌+◌, ◌-◌, ◌^◌, min, List, [], ◌++◌, length, Option, Some, None, option_map, refl, ap, sym, arith, length-append}
+use Rattle.std.proofs.Common.{◌≡◌, ℕ, ◌+◌, ◌-◌, ◌^◌, min, List, [], ◌++◌, length, Option, Some, None, option_map, refl, ap, sym, arith, length-append, take, drop, take-add, ◌∙◌}
 use Rattle.std.proofs.lemmas.List.{append-nil, append_assoc}
 use Rattle.asc_outside.specs.Outside.{Given, given_after, Takes}
 
@@ -34,6 +34,15 @@ number_append None x y = refl
 -- one piece after another is both
 pub given_after-given_after : (given : Given) (x y : List ℕ) → given_after (given_after given x) y ≡ given_after given (x ++ y)
 given_after-given_after given x y = λ i. record { bytes = bytes_append given.bytes x y i; number = number_append given.number x y i }
+
+-- bytes put behind those that a sink was given of a piece
+pub given_more : (before mid after : Given) (piece rest : List ℕ) (m k : ℕ) → mid ≡ given_after before (take m piece) → rest ≡ drop m piece
+    → after ≡ given_after mid (take k rest) → after ≡ given_after before (take (m + k) piece)
+given_more before mid after piece rest m k was is now =
+    now ∙ ap (λ g. given_after g (take k rest)) was
+    ∙ ap (λ l. given_after (given_after before (take m piece)) (take k l)) is
+    ∙ given_after-given_after before (take m piece) (take k (drop m piece))
+    ∙ ap (given_after before) (sym (take-add m k piece))
 
 -- taking nothing leaves all
 pub Takes-nil : (left : Option (List ℕ)) → Takes left left []

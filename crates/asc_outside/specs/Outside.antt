@@ -1,5 +1,5 @@
 -- Words on sources, sinks and stores. What they hold may be told or not.
-use Rattle.std.specs.Prelude.{◌≡◌, ℕ, ◌+◌, ◌-◌, ◌^◌, ◌<◌, min, List, [], ◌∷◌, ◌++◌, length, Option, Some, None, option_map, Result, OnOk, OnErr, IsErrOf, nat_eq, if◌then◌else◌}
+use Rattle.std.specs.Prelude.{◌≡◌, ℕ, ◌+◌, ◌-◌, ◌^◌, ◌<◌, min, List, [], ◌∷◌, ◌++◌, length, take, Option, Some, None, option_map, Result, OnOk, OnErr, IsErrOf, nat_eq, if◌then◌else◌}
 use lib.Pointwise.{pointwise}
 use Rattle.asc_outside.specs.declared.outside.StoreFault.{StoreFault}
 use Rattle.asc_outside.specs.declared.outside.StoreFault.TheVariants.{Failed, Memory}
@@ -12,6 +12,11 @@ one_more n = n + min 1 (2 ^ 64 - 1 - n)
 pub record HasCause {T E : Type 0} (before now : ℕ) (result : Result T E) : Type 0 where
   pub stays : OnOk result (now ≡ before)
   pub rose : OnErr result (now ≡ one_more before)
+
+-- a count of faults rises by one where its device is blamed, and else it stays
+pub record Blames (blamed : Type 0) (before now : ℕ) : Type 0 where
+  pub rose : blamed → now ≡ one_more before
+  pub stays : ¬ blamed → now ≡ before
 
 -- these bytes were taken from the front of what was left
 abbrev pub Takes : Option (List ℕ) → Option (List ℕ) → List ℕ → Type 0
@@ -36,6 +41,12 @@ given_after given piece = record {
   bytes = option_map (λ bytes. bytes ++ piece) given.bytes;
   number = option_map (λ n. n + min (length piece) (2 ^ 64 - 1 - n)) given.number;
 }
+
+-- a sink that failed was given the first bytes of a piece, and not all
+pub record PutsPart (before after : Given) (piece : List ℕ) : Type 0 where
+  pub count : ℕ
+  pub fewer : count < length piece
+  pub given : after ≡ given_after before (take count piece)
 
 -- a file of a store: its name and its content
 pub record File : Type 0 where

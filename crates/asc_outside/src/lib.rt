@@ -17,5 +17,5 @@ pub use gate::{Gate, Open, Point};
 pub use list_sink::ListSink;
 pub use list_source::ListSource;
 pub use list_store::ListStore;
-pub use outside::{Failed, Loaded, Memory, Sink, Source, Store, StoreFault};
+pub use outside::{Failed, Loaded, Memory, Sink, Source, Store, StoreFault, put_all};
 pub use sure_source::SureSource;

@@ -1,5 +1,5 @@
-ghost use Rattle.std.specs.Prelude.{◌≡◌, ◌<◌, ◌≤◌, ℕ, List, Option, [], length, take, drop, vec_len, IfOk, OnErr};
-ghost use Rattle.asc_outside.specs.Outside.{HasCause, HasStoreCause, AsksFor, Takes, IsAtEnd, Given, given_after, File, MayHold, MayHoldLonger};
+ghost use Rattle.std.specs.Prelude.{◌≡◌, ◌<◌, ◌≤◌, ℕ, List, Option, [], length, take, drop, vec_len, IfOk, OnOk, OnErr};
+ghost use Rattle.asc_outside.specs.Outside.{HasCause, HasStoreCause, AsksFor, Takes, IsAtEnd, Given, given_after, PutsPart, File, MayHold, MayHoldLonger};
 
 use std::alloc::{AllocError, AllocFailed};
 
@@ -66,6 +66,22 @@ pub trait Sink {
         // A call that fails appends nothing.
         ensures nothing { OnErr result (given self.new ≡ given self.old) }
         ensures cause { HasCause (faults self.old) (faults self.new) result };
+}
+
+/// Puts all bytes of a piece to a sink, which may take fewer than it is offered, and is then asked again for the rest.
+///
+/// Where the sink fails, it was given the first bytes of the piece, and not all. Where the piece is empty the sink is
+/// not asked.
+pub fn put_all<S: Sink>(sink: &mut S, piece: &[u8]) -> Result<(), Failed>
+    ensures all { OnOk result (S.given sink.new ≡ given_after (S.given sink.old) piece.now) }
+    ensures part { OnErr result (PutsPart (S.given sink.old) (S.given sink.new) piece.now) }
+    ensures cause { HasCause (S.faults sink.old) (S.faults sink.new) result }
+{
+    let mut put = 0;
+    while put < piece.len() {
+        put += sink.put(&piece[put..])?;
+    }
+    Ok(())
 }
 
 /// How a file was read.

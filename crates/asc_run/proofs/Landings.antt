@@ -2,14 +2,17 @@
 use Rattle.std.proofs.Common.{◌≡◌, ◌≤◌, ◌<◌, ◌+◌, ◌-◌, ℕ, Bool, true, false, List, [], ◌∷◌, ◌++◌, length, Option, Some, None, refl, sym, ap, ◌∙◌, subst, arith, append_assoc}
 use Rattle.std.proofs.lemmas.List.{append-nil}
 use Rattle.asc_model.specs.State.{State}
+use Rattle.asc_model.specs.Step.{At}
+use Rattle.asc_model.specs.Plain.{plain}
 use Rattle.asc_traj.specs.Finder.{Tally, Tells, Plan, tally_after, steps_given, hits_of, JumpsBy}
 use Rattle.asc_traj.specs.Serial.{Serial, serial_reply}
 use Rattle.asc_run.specs.Serial.{visited, after_tasks, made_at}
 use Rattle.asc_run.specs.Execution.{Position, Progress, On}
-use Rattle.asc_run.specs.Visits.{Course, Visit, is_at, is_mark, AreVisits, with_landing, replies_of}
+use Rattle.asc_run.specs.Visits.{Course, Visit, Passes, IsMarkedFrom, is_at, goes_on_at, with_landing, replies_of}
 use Rattle.asc_run.specs.Helped.{Aid, Helped, SerialAt, Lands, KeepsMachine, HasVisits}
-use Rattle.asc_run.proofs.Reach.{Leads, LeadsToEnd}
-use Rattle.asc_run.proofs.Marks.{AreVisits-first, AreVisits-later, AreVisits-step, AreVisits-jump, AreVisits-none, goes_on_at-on, goes_on_at-off, GoesPlain-on}
+use Rattle.asc_run.proofs.Reach.{Leads, LeadsAlong, LeadsToEnd}
+use Rattle.asc_run.proofs.Shapes.{plain-part}
+use Rattle.asc_run.proofs.Marks.{AreVisits-later, AreVisits-step, AreVisits-jump, goes_on_at-on, goes_on_at-off, GoesPlain-on}
 
 Tells-none : (x : Option (List (Option ℕ))) → Tells [] x x
 Tells-none x ys e = (ys, e, sym (append-nil ys))
@@ -111,44 +114,65 @@ machine-more true limit c k run r s reply vs start old now new e at shape number
 
 -- ---- all that a walk says of a run
 
--- nothing yet
-pub HasVisits-first : (limit : ℕ) (target : Option ℕ) (start : State) (a : Aid) (n : ℕ) → n ≡ 0 → (run : Course) → HasVisits limit (is_mark target) start [] a a n run
-HasVisits-first limit target start a n z run = record {
-  are = AreVisits-first limit run (is_mark target run) n z;
-  serial = λ m told shape memory. (m, 0, told, refl, ((refl, refl), omega arith));
-}
+-- All that is said of a run while a walk goes on that had no mark up to a count: so far it has these visits, and from that
+-- count on, below the limit, a count is a mark where the run goes on at an address.
+pub record SoFar (limit : ℕ) (mark : Course → ℕ → Bool) (address : Option ℕ) (from : ℕ) (start : State) (visits : List Visit) (old now : Aid) (to : ℕ) (run : Course) : Type 0 where
+  pub has : HasVisits limit mark start visits old now to run
+  pub later : (count : ℕ) → from ≤ count → count < limit → mark run count ≡ goes_on_at address (run count)
 
--- one step more
-pub HasVisits-step : (limit : ℕ) (target : Option ℕ) (start s : State) (c k : ℕ) (vs : List Visit) (old now new : Aid) → s.shape ≡ start.shape → k ≡ length vs → old.plan.refused ≤ now.plan.refused → now.plan.refused ≤ new.plan.refused
-    → Lands (is_at target s) k s (limit - c) None now new
-    → Leads (HasVisits limit (is_mark target) start vs old now c) (HasVisits limit (is_mark target) start (with_landing (is_at target s) c None vs) old new (c + 1)) s c
-HasVisits-step limit target start s c k vs old now new shape number earlier later lands run r e at q = record {
-  are = AreVisits-step (is_at target s) limit run (is_mark target run) vs c q.are (goes_on_at-on target (run c) r s e at);
-  serial = machine-more (is_at target s) limit c k run r s None vs start old now new e at shape number earlier later lands q.serial;
-}
+module _ (limit : ℕ) (mark : Course → ℕ → Bool) (address : Option ℕ) (from : ℕ) (start : State) where
+  -- no visit yet
+  pub SoFar-first : (a : Aid) (run : Course) → IsMarkedFrom limit from address (mark run) run → SoFar limit mark address from start [] a a from run
+  SoFar-first a run marked = record {
+    has = record { are = marked.none; serial = λ m told shape memory. (m, 0, told, refl, ((refl, refl), omega arith)) };
+    later = marked.later;
+  }
 
--- a jump
-pub HasVisits-jump : (limit : ℕ) (target : Option ℕ) (start s t : State) (c k n : ℕ) (vs : List Visit) (old now new : Aid) → c < limit → JumpsBy n (limit - c) s t → (is_at target s ≡ false → Some n ≡ None)
-    → s.shape ≡ start.shape → k ≡ length vs → old.plan.refused ≤ now.plan.refused → now.plan.refused ≤ new.plan.refused → Lands (is_at target s) k s (limit - c) (Some n) now new
-    → Leads (HasVisits limit (is_mark target) start vs old now c) (HasVisits limit (is_mark target) start (with_landing (is_at target s) c (Some n) vs) old new (c + n)) s c
-HasVisits-jump limit target start s t c k n vs old now new below jump passed shape number earlier later lands run r e at q =
-    let most = jump.most in record {
-      are = AreVisits-jump (is_at target s) limit run (is_mark target run) vs c n q.are (goes_on_at-on target (run c) r s e at) passed jump.least (omega (arith, most)) (GoesPlain-on n (run c) r s t e at jump.goes);
-      serial = machine-more (is_at target s) limit c k run r s (Some n) vs start old now new e at shape number earlier later lands q.serial;
+  module _ (s : State) (c k : ℕ) (visits : List Visit) (old now new : Aid) (least : from ≤ c) (below : c < limit) (shape : s.shape ≡ start.shape) (number : k ≡ length visits) (earlier : old.plan.refused ≤ now.plan.refused) (later : now.plan.refused ≤ new.plan.refused) where
+    -- a landing from which it does not jump
+    pub SoFar-step : Lands (is_at address s) k s (limit - c) None now new
+        → Leads (SoFar limit mark address from start visits old now c) (SoFar limit mark address from start (with_landing (is_at address s) c None visits) old new (c + 1)) s c
+    SoFar-step lands run r e at q = record {
+      has = record {
+        are = AreVisits-step (is_at address s) limit run (mark run) visits c q.has.are (q.later c least below ∙ goes_on_at-on address (run c) r s e at);
+        serial = machine-more (is_at address s) limit c k run r s None visits start old now new e at shape number earlier later lands q.has.serial;
+      };
+      later = q.later;
     }
 
--- the last step: the run has ended then, and has no mark
-pub HasVisits-end : (limit : ℕ) (target : Option ℕ) (start s : State) (c stop : ℕ) (vs : List Visit) (old now : Aid) → c < stop → stop ≤ limit
-    → LeadsToEnd (HasVisits limit (is_mark target) start vs old now stop) (HasVisits limit (is_mark target) start vs old now limit) s c
-HasVisits-end limit target start s c stop vs old now below within run r e at off q = record {
-  are = AreVisits-later limit run (is_mark target run) vs stop limit q.are within (λ m le l. goes_on_at-off target (run m) (off m (omega arith)));
-  serial = q.serial;
-}
+    -- a jump
+    pub SoFar-jump : (t : State) (n : ℕ) → JumpsBy n (limit - c) s t → (is_at address s ≡ false → Some n ≡ None) → Lands (is_at address s) k s (limit - c) (Some n) now new
+        → Leads (SoFar limit mark address from start visits old now c) (SoFar limit mark address from start (with_landing (is_at address s) c (Some n) visits) old new (c + n)) s c
+    SoFar-jump t n jump passed lands run r e at q =
+        let most = jump.most in record {
+          has = record {
+            are = AreVisits-jump (is_at address s) limit run (mark run) visits c n q.has.are (q.later c least below ∙ goes_on_at-on address (run c) r s e at) passed jump.least (omega (arith, most))
+                (GoesPlain-on n (run c) r s t e at jump.goes);
+            serial = machine-more (is_at address s) limit c k run r s (Some n) visits start old now new e at shape number earlier later lands q.has.serial;
+          };
+          later = q.later;
+        }
 
--- where no address is set, up to any count
-pub HasVisits-none : (limit : ℕ) (target : Option ℕ) (start : State) (vs : List Visit) (old now : Aid) (a b : ℕ) → target ≡ None → (run : Course)
-    → HasVisits limit (is_mark target) start vs old now a run → HasVisits limit (is_mark target) start vs old now b run
-HasVisits-none limit target start vs old now a b none run q = record {
-  are = subst (λ t. AreVisits limit run (is_mark t run) vs b) (sym none) (AreVisits-none limit run vs a b (subst (λ t. AreVisits limit run (is_mark t run) vs a) none q.are));
-  serial = q.serial;
-}
+  -- plain steps that pass the address: no count between is a mark
+  pub SoFar-passed : (s t : State) (c n : ℕ) (visits : List Visit) (old now : Aid) → from ≤ c → c + n ≤ limit → 0 < n → plain n s ≡ At t → Passes address s n
+      → LeadsAlong (SoFar limit mark address from start visits old now (c + 1)) (SoFar limit mark address from start visits old now (c + n)) s c
+  SoFar-passed s t c n visits old now least within some goes passes run r e at along q = record {
+    has = record {
+      are = AreVisits-later limit run (mark run) visits (c + 1) (c + n) q.has.are (omega arith) (λ count from_c to.
+          let k : ℕ = count - c in
+          let sum : c + k ≡ count = omega arith in
+          let reached = plain-part k n s t (omega arith) goes in
+          let there = ap run (sym sum) ∙ along k reached.0 reached.1 in
+          q.later count (omega arith) (omega arith) ∙ goes_on_at-on address (run count) (record r { state = reached.0 }) reached.0 refl there ∙ passes k (omega arith) (omega arith) reached.0 reached.1);
+      serial = q.has.serial;
+    };
+    later = q.later;
+  }
+
+  -- the last step: the run has ended then, and has no mark
+  pub SoFar-end : (s : State) (c : ℕ) (visits : List Visit) (old now : Aid) → from ≤ c → c < limit
+      → LeadsToEnd (SoFar limit mark address from start visits old now (c + 1)) (HasVisits limit mark start visits old now limit) s c
+  SoFar-end s c visits old now least below run r e at off q = record {
+    are = AreVisits-later limit run (mark run) visits (c + 1) limit q.has.are (omega arith) (λ m le l. q.later m (omega arith) l ∙ goes_on_at-off address (run m) (off m (omega arith)));
+    serial = q.has.serial;
+  }

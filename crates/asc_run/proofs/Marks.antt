@@ -6,7 +6,7 @@ use Rattle.asc_model.specs.State.{State}
 use Rattle.asc_model.specs.Step.{At}
 use Rattle.asc_model.specs.Plain.{plain}
 use Rattle.asc_run.specs.Execution.{Position, Progress, On, Off}
-use Rattle.asc_run.specs.Visits.{Course, Visit, landing, is_at, goes_on_at, is_mark, GoesPlain, HasNoMark, AreVisits, replies_of, with_landing}
+use Rattle.asc_run.specs.Visits.{Course, Visit, landing, is_at, goes_on_at, GoesPlain, HasNoMark, AreVisits, replies_of, with_landing}
 use Rattle.asc_run.specs.Laws.{RepliesDetermineVisits}
 use Rattle.asc_run.proofs.Reach.{IsOff}
 
@@ -18,10 +18,6 @@ HasNoMark-one mark c p k h l = let e : c ≡ k = omega arith in subst (λ x. mar
 
 HasNoMark-none : (mark : ℕ → Bool) (c : ℕ) → HasNoMark mark c c
 HasNoMark-none mark c k h l = absurd (let x : ⊥ = omega arith in x)
-
--- no visit up to count 0
-pub AreVisits-first : (limit : ℕ) (run : Course) (mark : ℕ → Bool) (n : ℕ) → n ≡ 0 → AreVisits limit run mark [] n
-AreVisits-first limit run mark n z k h l = absurd (let x : ⊥ = omega arith in x)
 
 -- further counts that are no marks
 pub AreVisits-later : (limit : ℕ) (run : Course) (mark : ℕ → Bool) (vs : List Visit) (a b : ℕ) → AreVisits limit run mark vs a → a ≤ b → HasNoMark mark a b → AreVisits limit run mark vs b
@@ -49,33 +45,23 @@ pub goes_on_at-off : (target : Option ℕ) (p : Progress) → IsOff p → goes_o
 goes_on_at-off target (On position) x = absurd x
 goes_on_at-off target (Off count ended last) x = refl
 
--- where no address is set there is no mark
-goes_on_at-none : (p : Progress) → goes_on_at None p ≡ false
-goes_on_at-none (On position) = refl
-goes_on_at-none (Off count ended last) = refl
-
--- and so no visit
-pub AreVisits-none : (limit : ℕ) (run : Course) (vs : List Visit) (a b : ℕ) → AreVisits limit run (is_mark None run) vs a → AreVisits limit run (is_mark None run) vs b
-AreVisits-none limit run [] a b x = λ count _ _. goes_on_at-none (run count)
-AreVisits-none limit run (v ∷ vs) a b x = absurd (false≢true (sym (goes_on_at-none (run v.at)) ∙ x.1.0))
-
 pub GoesPlain-on : (n : ℕ) (p : Progress) (r : Position) (s t : State) → r.state ≡ s → p ≡ On r → plain n s ≡ At t → GoesPlain n p
 GoesPlain-on n p r s t e h g = subst (GoesPlain n) (sym h) (t, ap (plain n) e ∙ g)
 
 -- ---- the replies determine the visits
-floor : List Visit → ℕ
+pub floor : List Visit → ℕ
 floor [] = 0
 floor (v ∷ vs) = landing v
 
-floor_of : (limit : ℕ) (run : Course) (mark : ℕ → Bool) (vs : List Visit) (a : ℕ) → AreVisits limit run mark vs a → (floor vs ≤ a) × HasNoMark mark (floor vs) a
+pub floor_of : (limit : ℕ) (run : Course) (mark : ℕ → Bool) (vs : List Visit) (a : ℕ) → AreVisits limit run mark vs a → (floor vs ≤ a) × HasNoMark mark (floor vs) a
 unfolding floor
 floor_of limit run mark [] a x = (omega arith, x)
 floor_of limit run mark (v ∷ vs) a x = (x.1.1.1.0, x.1.1.1.1)
 
-same_at : (mark : ℕ → Bool) (f a b : ℕ) → f ≤ a → HasNoMark mark f b → mark a ≡ true → b ≤ a
+pub same_at : (mark : ℕ → Bool) (f a b : ℕ) → f ≤ a → HasNoMark mark f b → mark a ≡ true → b ≤ a
 same_at mark f a b l n m = elim (cases_lt a b) [ inl x ↦ absurd (false≢true (sym (n a l x) ∙ m)) | inr x ↦ x ]
 
-same_visit : (v u : Visit) → v.at ≡ u.at → v.reply ≡ u.reply → v ≡ u
+pub same_visit : (v u : Visit) → v.at ≡ u.at → v.reply ≡ u.reply → v ≡ u
 same_visit v u p q = ap (λ x. let y : Visit = record { at = x; reply = v.reply } in y) p ∙ ap (λ x. let y : Visit = record { at = u.at; reply = x } in y) q
 
 no_push : (xs : List (Option ℕ)) (x : Option ℕ) → [] ≡ xs ++ x ∷ [] → ⊥

@@ -8,7 +8,7 @@ use Rattle.asc_model.proofs.PlainSteps.{plain-none, plain-last}
 use Rattle.asc_outside.specs.Outside.{Given, given_after}
 use Rattle.asc_outside.proofs.Streams.{given_after-nil, given_after-given_after, Takes-nil, Takes-append}
 use Rattle.asc_calls.specs.GuestCall.{Io, nothing, then_io, Device, guest_call}
-use Rattle.asc_calls.specs.World.{CallState, Outside, World, world, DoesIo, MayCome, KnowsEnd}
+use Rattle.asc_calls.specs.World.{CallState, Faults, Outside, World, world, DoesIo, MayCome, KnowsEnd}
 use Rattle.asc_calls.specs.Serving.{IsCutShort}
 use Rattle.asc_run.specs.declared.walk.Ended.{Ended}
 use Rattle.asc_run.specs.declared.walk.Ended.TheVariants.{Limit}
@@ -16,6 +16,7 @@ use Rattle.asc_run.specs.Execution.{Position, Progress, On, Off, next_progress, 
 use Rattle.asc_run.specs.Turn.{position_in, IsAt, Turns, TurnFails}
 use Rattle.asc_run.specs.Visits.{Course}
 use Rattle.asc_run.specs.Walk.{Follows, StopsAt}
+use Rattle.asc_run.specs.Way.{Reaches}
 use Rattle.asc_run.proofs.Shapes.{plain-shape}
 use Rattle.asc_run.proofs.Growth.{begins_at_call}
 
@@ -31,22 +32,13 @@ DoesIo-then_io a b c x y p q = record {
   err = q.err ∙ ap (λ g. given_after g y.err) p.err ∙ given_after-given_after a.err x.err y.err;
 }
 
--- From old to now a program went on for n steps from its start, of which so many were skipped. What it took and put is
--- io, and its plain run has Q.
-pub record Reaches (Q : Course → Type 0) (low high : ℕ) (start : State) (old now : World) (n skipped : ℕ) : Type 0 where
-  pub io : Io
-  pub does : DoesIo old.outside now.outside io
-  pub run : (rest : List ℕ) → MayCome now rest → progress low high (first_position start low (io.taken ++ rest)) n ≡ On (position_in now rest io)
-  pub says : (rest : List ℕ) → MayCome now rest → Q (progress low high (first_position start low (io.taken ++ rest)))
-  pub known : KnowsEnd now
-  pub same_low : now.calls.low ≡ low
-  pub same_high : now.calls.high ≡ high
-  pub shape : now.state.shape ≡ start.shape
-  pub steps : now.steps + skipped ≡ old.steps + n
-
 -- where a run goes on at a count in a state, Q gives Q'
 abbrev pub Leads : (Q Q' : Course → Type 0) → State → (n : ℕ) → Type 0
 Leads Q Q' s n = (run : Course) (r : Position) → r.state ≡ s → run n ≡ On r → Q run → Q' run
+
+-- the same, where the run goes on as plain steps from that state do
+abbrev pub LeadsAlong : (Q Q' : Course → Type 0) → State → (n : ℕ) → Type 0
+LeadsAlong Q Q' s n = (run : Course) (r : Position) → r.state ≡ s → run n ≡ On r → ((k : ℕ) (after : State) → plain k s ≡ At after → run (n + k) ≡ On (record r { state = after })) → Q run → Q' run
 
 -- the same, where the run has ended one step later
 abbrev pub IsOff : Progress → Type 0
@@ -130,10 +122,27 @@ progress-jump low high start n (suc m) r after at h =
     rw suc-add (ap (next_progress low high (m + n)) (progress-jump low high start n m r last.0 at last.1)
     ∙ ap (progress_after_step low high (m + n) (record r { state = last.0 })) last.2)
 
-pub Reaches-jump : (Q Q' : Course → Type 0) (low high : ℕ) (start : State) (old : World) (s t : State) (calls : CallState) (left : Option (List ℕ)) (out err : Given) (steps n m k : ℕ)
-    → Reaches Q low high start old (world s calls left out err steps) n k → plain m s ≡ At t → Leads Q Q' s n
-    → Reaches Q' low high start old (world t calls left out err steps) (n + m) (k + m)
-Reaches-jump Q Q' low high start old s t calls left out err steps n m k r h more = record {
+-- more that holds of the run, as plain steps go on from here
+pub Reaches-along : (Q Q' : Course → Type 0) (low high : ℕ) (start : State) (old now : World) (n k : ℕ) → Reaches Q low high start old now n k → LeadsAlong Q Q' now.state n → Reaches Q' low high start old now n k
+Reaches-along Q Q' low high start old now n k r more = record {
+  io = r.io;
+  does = r.does;
+  run = r.run;
+  says = λ rest may. more _ _ refl (r.run rest may) (λ j after h.
+      let sum : n + j ≡ j + n = omega arith in
+      ap (progress low high (first_position start low (r.io.taken ++ rest))) sum
+      ∙ progress-jump low high (first_position start low (r.io.taken ++ rest)) n j _ after (r.run rest may) h) (r.says rest may);
+  known = r.known;
+  same_low = r.same_low;
+  same_high = r.same_high;
+  shape = r.shape;
+  steps = r.steps;
+}
+
+pub Reaches-jump : (Q Q' : Course → Type 0) (low high : ℕ) (start : State) (old : World) (s t : State) (calls : CallState) (left : Option (List ℕ)) (out err : Given) (steps : ℕ) (faults : Faults) (n m k : ℕ)
+    → Reaches Q low high start old (world s calls left out err steps faults) n k → plain m s ≡ At t → Leads Q Q' s n
+    → Reaches Q' low high start old (world t calls left out err steps faults) (n + m) (k + m)
+Reaches-jump Q Q' low high start old s t calls left out err steps faults n m k r h more = record {
   io = r.io;
   does = record { taken = r.does.taken; out = r.does.out; err = r.does.err };
   run = λ rest may.
@@ -149,10 +158,10 @@ Reaches-jump Q Q' low high start old s t calls left out err steps n m k r h more
 }
 
 -- m plain steps, which are counted
-pub Reaches-steps : (Q : Course → Type 0) (low high : ℕ) (start : State) (old : World) (s t : State) (calls : CallState) (left : Option (List ℕ)) (out err : Given) (steps n m k : ℕ)
-    → Reaches Q low high start old (world s calls left out err steps) n k → plain m s ≡ At t
-    → Reaches Q low high start old (world t calls left out err (steps + m)) (n + m) k
-Reaches-steps Q low high start old s t calls left out err steps n m k r h = record {
+pub Reaches-steps : (Q : Course → Type 0) (low high : ℕ) (start : State) (old : World) (s t : State) (calls : CallState) (left : Option (List ℕ)) (out err : Given) (steps : ℕ) (faults : Faults) (n m k : ℕ)
+    → Reaches Q low high start old (world s calls left out err steps faults) n k → plain m s ≡ At t
+    → Reaches Q low high start old (world t calls left out err (steps + m) faults) (n + m) k
+Reaches-steps Q low high start old s t calls left out err steps faults n m k r h = record {
   io = r.io;
   does = record { taken = r.does.taken; out = r.does.out; err = r.does.err };
   run = λ rest may.

@@ -1,11 +1,11 @@
--- Steps and jumps keep the shape of a state.
-use Rattle.std.proofs.Common.{◌≡◌, ℕ, zero, suc, sym, ap, ◌∙◌}
+-- Steps and jumps keep the shape of a state, and go on by states.
+use Rattle.std.proofs.Common.{◌≡◌, ℕ, zero, suc, ◌+◌, ◌-◌, ◌≤◌, sym, ap, ◌∙◌, zero-add, suc-add, arith}
 use Rattle.asc_model.specs.Shape.{Shape}
 use Rattle.asc_model.specs.State.{State}
 use Rattle.asc_model.specs.Machine.{Machine, state_of, view_of}
 use Rattle.asc_model.specs.Step.{At, Outcome, Goes, Calls, Fails, next_of, outcome, next}
 use Rattle.asc_model.specs.Plain.{plain}
-use Rattle.asc_model.proofs.PlainSteps.{plain-first, plain-none}
+use Rattle.asc_model.proofs.PlainSteps.{plain-first, plain-last, plain-none}
 
 at-same : (a b : State) → At a ≡ At b → a ≡ b
 at-same a b e = cc
@@ -27,3 +27,15 @@ plain-shape zero s t h = sym (ap (λ (u : State). u.shape) (plain-none s t h))
 plain-shape (suc n) s t h =
     let first = plain-first n s t h in
     plain-shape n first.0 t first.2 ∙ next-shape s first.0 first.1
+
+-- n plain steps that reach a state reach one after k of them
+plain-front : (j k : ℕ) (s t : State) → plain (j + k) s ≡ At t → (u : State) × (plain k s ≡ At u)
+plain-front zero k s t h = (t, ap (λ n. plain n s) (sym (zero-add k)) ∙ h)
+plain-front (suc j) k s t h =
+    let last = plain-last (j + k) s t (ap (λ n. plain n s) (sym (suc-add j k)) ∙ h) in
+    plain-front j k s last.0 last.1
+
+pub plain-part : (k n : ℕ) (s t : State) → k ≤ n → plain n s ≡ At t → (u : State) × (plain k s ≡ At u)
+plain-part k n s t fewer h =
+    let sum : (n - k) + k ≡ n = omega arith in
+    plain-front (n - k) k s t (ap (λ m. plain m s) sum ∙ h)

@@ -4,51 +4,31 @@ use Rattle.std.proofs.lemmas.Bool.{false≢true}
 use Rattle.std.proofs.lemmas.List.{drop_at}
 use Rattle.asc_model.specs.declared.fault.Fault.{Fault}
 use Rattle.asc_model.specs.State.{State}
-use Rattle.asc_model.specs.Step.{At, Call, Bad, next}
+use Rattle.asc_model.specs.Step.{Call, Bad, next}
 use Rattle.asc_outside.specs.Outside.{Given, Takes, IsAtEnd}
 use Rattle.asc_calls.specs.declared.calls.Served.{Served}
 use Rattle.asc_calls.specs.declared.calls.Served.TheVariants as served
 use Rattle.asc_calls.specs.GuestCall.{Io, nothing, then_io, Device, Input, Out, Err, CallResult}
-use Rattle.asc_calls.specs.World.{CallState, outside, World, world, DoesIo, Agrees, MayCome}
+use Rattle.asc_calls.specs.World.{CallState, Faults, outside, World, world, DoesIo, Agrees, MayCome}
 use Rattle.asc_calls.specs.Serving.{Serves, call_of, IsCutShort, IsAnswer, steps_of}
 use Rattle.asc_run.specs.declared.walk.Ended.{Ended}
 use Rattle.asc_run.specs.declared.walk.Ended.TheVariants as ends
 use Rattle.asc_run.specs.Execution.{On, progress_after_step, progress_after_call}
 use Rattle.asc_run.specs.Turn.{position_in, IsAt, Turns, TurnFails, device_of_turn}
-use Rattle.asc_run.proofs.Shapes.{next-shape}
 use Rattle.asc_run.proofs.Growth.{then_io-nothing}
 use Rattle.asc_run.proofs.Reach.{DoesIo-nothing}
 
 -- devices that stay took and were given nothing, whatever the counter of steps did
-DoesIo-none : (left : Option (List ℕ)) (out err : Given) (n m : ℕ) → DoesIo (outside left out err n) (outside left out err m) nothing
-DoesIo-none left out err n m =
-    let a = DoesIo-nothing (outside left out err n) in record { taken = a.taken; out = a.out; err = a.err }
-
--- a step that goes on
-pub Turns-at : (s t : State) (calls : CallState) (left : Option (List ℕ)) (out err : Given) (n k : ℕ) → next s ≡ At t
-    → Turns (world s calls left out err n) (world t calls left out err (n + 1)) k (k + 1) None
-Turns-at s t calls left out err n k e = record {
-  io = nothing;
-  does = DoesIo-none left out err n (n + 1);
-  turn = λ first rest may.
-      ap (λ x. progress_after_step calls.low calls.high k (record { state = s; brk = calls.brk; left = rest; io = first }) x) e
-      ∙ ap (λ a. On (record { state = t; brk = calls.brk; left = rest; io = a })) (sym (then_io-nothing first));
-  came = λ rest may. may;
-  known = λ known. known;
-  low = refl;
-  high = refl;
-  shape = next-shape s t e;
-  steps = omega arith;
-  most = omega arith;
-  one = λ _. refl;
-}
+DoesIo-none : (left : Option (List ℕ)) (out err : Given) (n m : ℕ) (faults : Faults) → DoesIo (outside left out err n faults) (outside left out err m faults) nothing
+DoesIo-none left out err n m faults =
+    let a = DoesIo-nothing (outside left out err n faults) in record { taken = a.taken; out = a.out; err = a.err }
 
 -- a fault
-pub Turns-bad : (s : State) (calls : CallState) (left : Option (List ℕ)) (out err : Given) (n k : ℕ) (fault : Fault) → next s ≡ Bad fault
-    → Turns (world s calls left out err n) (world s calls left out err n) k k (Some (ends.Fault fault))
-Turns-bad s calls left out err n k fault e = record {
+pub Turns-bad : (s : State) (calls : CallState) (left : Option (List ℕ)) (out err : Given) (n : ℕ) (faults : Faults) (k : ℕ) (fault : Fault) → next s ≡ Bad fault
+    → Turns (world s calls left out err n faults) (world s calls left out err n faults) k k (Some (ends.Fault fault))
+Turns-bad s calls left out err n faults k fault e = record {
   io = nothing;
-  does = DoesIo-none left out err n n;
+  does = DoesIo-none left out err n n faults;
   turn = λ first rest may. (
     record { state = s; brk = calls.brk; left = rest; io = first },
     ap (λ x. progress_after_step calls.low calls.high k (record { state = s; brk = calls.brk; left = rest; io = first }) x) e,

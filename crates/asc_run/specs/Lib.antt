@@ -3,7 +3,11 @@ pub mod Turn
 pub mod Visits
 pub mod Serial
 pub mod Helped
-pub mod Faults
+pub mod Way
 pub mod Walk
+pub mod SerialRun
+pub mod Made
+pub mod SerialHelper
+pub mod SerialInside
 pub mod Laws
 pub mod Rows

@@ -9,11 +9,15 @@ use Rattle.asc_model.specs.State.{State}
 use Rattle.asc_model.specs.Step.{At}
 use Rattle.asc_model.specs.Plain.{plain}
 use Rattle.asc_model.specs.Entry.{Entry}
-use Rattle.asc_traj.specs.Serial.{Stride, Guessing, Serial, serial_reply}
+use Rattle.asc_guess.specs.declared.kind.Kind.TheVariants.{Stride}
+use Rattle.asc_guess.specs.Guess.{guess_of, targets_of}
+use Rattle.asc_traj.specs.declared.guessing.Guessing.{Guessing}
+use Rattle.asc_traj.specs.Serial.{Serial, serial_reply}
+use Rattle.asc_run.specs.declared.recognised.Recognised.TheVariants as recognised
 use Rattle.asc_run.specs.Execution.{progress, first_position}
 use Rattle.asc_run.specs.Visits.{Course, Visit, is_mark, AreVisits, replies_of, tally_of}
 use Rattle.asc_run.specs.Walk.{tally}
-use Rattle.asc_run.specs.Serial.{guess_of, targets_of, visited, made_at}
+use Rattle.asc_run.specs.Serial.{visited, made_at}
 
 abbrev pub code : List ℕ
 code = 0x00000293 ∷ 0x00400313 ∷ 0x00128293 ∷ 0xFE629EE3 ∷ 0x05D00893 ∷ 0x00000513 ∷ 0x00000073 ∷ []
@@ -98,7 +102,7 @@ abbrev pub limited_visits : List Visit
 limited_visits = visit 8 None ∷ visit 6 (Some 2) ∷ visit 4 None ∷ visit 2 None ∷ []
 
 pub record Visits : Type 0 where
-  pub four : AreVisits 20 loop_run (is_mark (Some 0x10008) loop_run) four_visits 20
-  pub limited : AreVisits 11 loop_run (is_mark (Some 0x10008) loop_run) limited_visits 11
+  pub four : AreVisits 20 loop_run (is_mark (recognised.At 0x10008) loop_run) four_visits 20
+  pub limited : AreVisits 11 loop_run (is_mark (recognised.At 0x10008) loop_run) limited_visits 11
   pub replies : replies_of four_visits ≡ None ∷ None ∷ Some 2 ∷ Some 4 ∷ []
   pub counts : tally_of four_visits (tally 0 0 0) ≡ tally 4 6 2

@@ -1,26 +1,22 @@
 -- What is made of the visits of a run without workers: a machine that guesses, traces and keeps entries at each visit.
-use Rattle.std.specs.Prelude.{ℕ, zero, suc, ◌+◌, ◌-◌, max, nat_lt, List, [], map, length, fold, Option, Some, None, if◌then◌else◌}
-use Rattle.std.specs.List.{flat_map, range_with_len}
+use Rattle.std.specs.Prelude.{ℕ, zero, suc, ◌+◌, ◌-◌, List, [], ◌∷◌, ◌++◌, map, length, fold, Option, Some, None, if◌then◌else◌}
+use Rattle.std.specs.List.{flat_map}
 use Rattle.asc_model.specs.State.{State}
 use Rattle.asc_model.specs.Machine.{view_of}
 use Rattle.asc_model.specs.Entry.{Entry, entry_of}
 use Rattle.asc_model.specs.Reach.{Bounds, reach_of}
-use Rattle.asc_shape.specs.Stride.{strided}
-use Rattle.asc_traj.specs.Serial.{Kind, Last, Stride, Guessing, kinds_of, Serial}
+use Rattle.asc_guess.specs.declared.kind.Kind.{Kind}
+use Rattle.asc_guess.specs.declared.kind.Kind.TheVariants.{Last, Stride}
+use Rattle.asc_guess.specs.Guess.{guess_of, targets_of}
+use Rattle.asc_traj.specs.declared.guessing.Guessing.{Guessing}
+use Rattle.asc_traj.specs.Serial.{Serial}
 use Rattle.asc_shard.specs.Content.{add}
 
 -- ---- guesses
 
--- the state that so many visits after the last one is guessed, from that and the one before
-abbrev pub guess_of : Kind → (ahead : ℕ) → (prev last : State) → State
-guess_of Last ahead prev last = last
-guess_of Stride ahead prev last = record last { bytes = strided ahead last.bytes prev.bytes }
-
--- The visits that are guessed at a visit, where those up to issued were guessed before: all up to so many ahead, but
--- those already guessed. None at the first visit.
-abbrev pub targets_of : (issued visit ahead : ℕ) → List ℕ
-targets_of issued visit ahead = let before = max issued visit in
-    if nat_lt visit 2 then [] else range_with_len (before + 1) (visit + ahead - before)
+-- the kinds that are on, in the order in which they are guessed
+abbrev pub kinds_of : Guessing → List Kind
+kinds_of g = (if g.last then Last ∷ [] else []) ++ (if g.stride then Stride ∷ [] else [])
 
 -- a guess: its kind, and how many visits after the last one
 abbrev pub Task : Type 0

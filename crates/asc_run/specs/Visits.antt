@@ -1,11 +1,14 @@
 -- The marks that a walk leaves on the one plain run: the counts at which its helper is told of the state and asked for
 -- a jump, each with the reply.
-use Rattle.std.specs.Prelude.{◌≡◌, ℕ, ◌+◌, ◌≤◌, ◌<◌, Bool, true, false, ◌==◌, List, [], ◌∷◌, ◌++◌, Option, Some, None}
+use Rattle.std.specs.Prelude.{◌≡◌, ℕ, zero, suc, ◌+◌, ◌≤◌, ◌<◌, Bool, true, false, nat_le, ◌==◌, ◌&&◌, List, [], ◌∷◌, ◌++◌, Option, Some, None}
 use Rattle.asc_model.specs.State.{State}
 use Rattle.asc_model.specs.Machine.{view_of}
 use Rattle.asc_model.specs.Step.{At}
 use Rattle.asc_model.specs.Plain.{plain}
 use Rattle.asc_traj.specs.Finder.{Tally, tally_after}
+use Rattle.asc_guess.specs.Choice.{chosen_address}
+use Rattle.asc_run.specs.declared.recognised.Recognised.{Recognised}
+use Rattle.asc_run.specs.declared.recognised.Recognised.TheVariants as recognised
 use Rattle.asc_run.specs.Execution.{Progress, On, Off}
 
 -- how a run goes: how far it has come at each count
@@ -17,14 +20,45 @@ abbrev pub is_at : Option ℕ → State → Bool
 is_at None s = false
 is_at (Some address) s = (view_of s).pc == address
 
+-- of so many plain steps of a state, none but the last leads to an address, where one is set
+abbrev pub Passes : Option ℕ → State → (n : ℕ) → Type 0
+Passes address s n =
+    (k : ℕ) → 0 < k → k < n → (after : State) → plain k s ≡ At after → is_at address after ≡ false
+
 -- whether a run goes on there
 abbrev pub goes_on_at : Option ℕ → Progress → Bool
 goes_on_at address (On position) = is_at address position.state
 goes_on_at address (Off count ended last) = false
 
--- whether a count of a run is a mark: at this address, where one is set, its helper is visited
-abbrev pub is_mark : Option ℕ → Course → ℕ → Bool
-is_mark address run count = goes_on_at address (run count)
+-- its address and this count, where it goes on
+abbrev pub pair_at : ℕ → Progress → List (ℕ × ℕ)
+pair_at count (On position) = ((view_of position.state).pc, count) ∷ []
+pair_at count (Off n ended last) = []
+
+-- the addresses at a run's first counts, each with its count
+unfoldable pub profile_of : Course → (counts : ℕ) → List (ℕ × ℕ)
+profile_of run zero = []
+profile_of run (suc n) = profile_of run n ++ pair_at n (run n)
+
+-- at how many counts, from 0 on, the address is noted before one is chosen
+abbrev pub noted_counts : Recognised → ℕ
+noted_counts recognised.Nowhere = 0
+noted_counts (recognised.At address) = 0
+noted_counts (recognised.Chosen profile least) = profile
+
+-- the bounds of what is noted, and of how often an address has to stand there
+abbrev pub HasBounds : Recognised → Type 0
+HasBounds recognised.Nowhere = Unit {0}
+HasBounds (recognised.At address) = Unit {0}
+HasBounds (recognised.Chosen profile least) = (2 ≤ profile) × (profile ≤ 65536) × (2 ≤ least) × (least ≤ 65536)
+
+-- Whether a count of a run is a mark, at which its helper is visited: the run goes on there at the address that is
+-- recognised. One that is chosen of the first counts is looked for behind these.
+abbrev pub is_mark : Recognised → Course → ℕ → Bool
+is_mark recognised.Nowhere run count = false
+is_mark (recognised.At address) run count = goes_on_at (Some address) (run count)
+is_mark (recognised.Chosen profile least) run count =
+    nat_le profile count && goes_on_at (chosen_address (profile_of run profile) least) (run count)
 
 pub record Visit : Type 0 where
   -- at which count
@@ -48,6 +82,11 @@ Fits limit run count (Some n) = (1 ≤ n) × ((count + n ≤ limit) × GoesPlain
 -- none of the counts from a to b, b aside, is a mark
 abbrev pub HasNoMark : (ℕ → Bool) → (a b : ℕ) → Type 0
 HasNoMark mark a b = (count : ℕ) → a ≤ count → count < b → mark count ≡ false
+
+-- Up to a count a run has no mark. From there on, below a limit, it has one wherever it goes on at this address.
+pub record IsMarkedFrom (limit from : ℕ) (address : Option ℕ) (mark : ℕ → Bool) (run : Course) : Type 0 where
+  pub none : HasNoMark mark 0 from
+  pub later : (count : ℕ) → from ≤ count → count < limit → mark count ≡ goes_on_at address (run count)
 
 -- These are the visits of a walk up to a count, the newest first: each is at a mark, its reply fits, and between its
 -- landing and the next visit, or the count, there is no mark. Before the first visit there is none either.

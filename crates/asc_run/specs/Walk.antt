@@ -1,13 +1,14 @@
 -- What a walk does to the world.
-use Rattle.std.specs.Prelude.{◌≡◌, ℕ, ◌+◌, ◌<◌, List, ◌++◌, Option, Some, None, false}
+use Rattle.std.specs.Prelude.{◌≡◌, ℕ, ◌+◌, ◌<◌, Bool, List, ◌++◌, Option, Some, None, false}
 use Rattle.asc_model.specs.State.{State}
-use Rattle.asc_outside.specs.Outside.{Given}
 use Rattle.asc_elf.specs.Image.{Image, high_of}
 use Rattle.asc_calls.specs.GuestCall.{Io, then_io, IsBeginning, Device}
-use Rattle.asc_calls.specs.World.{CallState, World, world, DoesIo, MayCome, KnowsEnd}
+use Rattle.asc_calls.specs.World.{CallState, Outside, World, DoesIo, MayCome, KnowsEnd}
 use Rattle.asc_traj.specs.Finder.{Tally}
 use Rattle.asc_run.specs.declared.walk.Ended.{Ended}
 use Rattle.asc_run.specs.declared.walk.Settings.{Settings}
+use Rattle.asc_run.specs.declared.recognised.Recognised.{Recognised}
+use Rattle.asc_run.specs.declared.recognised.Recognised.TheVariants.{Nowhere}
 use Rattle.asc_run.specs.declared.walk.Ended.TheVariants.{Limit}
 use Rattle.asc_run.specs.Execution.{Run, exec, Progress, progress, first_position, device_of, StandsAtFailure}
 use Rattle.asc_run.specs.Visits.{Course, Visit, is_mark}
@@ -47,8 +48,8 @@ new_walk image settings = record {
 }
 
 -- the world of a walk
-abbrev pub world_of : Walk → Option (List ℕ) → Given → Given → ℕ → World
-world_of walk left out err steps = world walk.state walk.calls left out err steps
+abbrev pub world_of : Walk → Outside → World
+world_of walk o = record { state = walk.state; calls = walk.calls; outside = o }
 
 -- the run of a program that stands in a world and has not begun, over this input
 abbrev pub run_from : (limit : ℕ) → World → List ℕ → Run
@@ -100,19 +101,40 @@ pub record Goes (limit : ℕ) (Says : (to : ℕ) → Course → Type 0) (old new
   pub stops : (device : Device) → device_of ended ≡ Some device
       → StopsAt limit (Says (count + 1)) old new count skipped device
 
--- It went so with a helper, which was asked where the program stood at an address, and came from first to last.
-pub record GoesHelped (limit : ℕ) (address : Option ℕ) (old new : World) (first last : Aid) (count skipped : ℕ)
+-- It went so with a helper, which was asked at the marks, and came from first to last.
+pub record GoesHelped (limit : ℕ) (mark : Course → ℕ → Bool) (old new : World) (first last : Aid) (count skipped : ℕ)
     (ended : Ended) : Type 0 where
   pub visits : List Visit
   pub helped : Helped visits first last
-  pub goes : Goes limit (HasVisits limit (is_mark address) old.state visits first last) old new count skipped ended
+  pub goes : Goes limit (HasVisits limit mark old.state visits first last) old new count skipped ended
 
 -- a helper's counts rose by those of a walk
 abbrev pub IsRaisedBy : Tally → (old new : Tally) → Type 0
 IsRaisedBy walk old new =
     new ≡ tally (old.asked + walk.asked) (old.given + walk.given) (old.hits + walk.hits)
 
--- the device that failed in a call of go, where one did: none does once a walk has ended
+-- ---- a call of go
+
+-- what the first call does with the walk and the devices
+pub record GoesFirst (was now : Walk) (old new : Outside) (first last : Aid) (ended : Ended) : Type 0 where
+  -- it goes as plain execution does, or stops where a device failed; the visits are those that the helper's replies
+  -- leave on that run
+  pub goes : GoesHelped was.settings.limit (is_mark was.settings.recognised) (world_of was old) (world_of now new) first last
+      now.count now.tally.given ended
+  -- the settings stay
+  pub settings : now.settings ≡ was.settings
+  -- the answer is kept for a further call
+  pub kept : now.ended ≡ Some ended
+
+-- what the first call does with a helper whose tally was before and is after
+pub record HelpsFirst {H : Type 0} (address : Recognised) (walk : Tally) (old new : H) (before after : Tally) : Type 0
+  where
+    -- its counts rise by the walk's
+    pub raised : IsRaisedBy walk before after
+    -- where no address is to be recognised, it stays as it was
+    pub unset : address ≡ Nowhere → new ≡ old
+
+-- the device that failed in a call, where one did: none does once a walk has ended
 abbrev pub device_in : (before : Option Ended) → Ended → Option Device
 device_in None ended = device_of ended
 device_in (Some earlier) ended = None

@@ -3,11 +3,23 @@
 
 mod helper;
 mod laws;
+mod made;
 mod process;
+mod profile;
+mod recognised;
+mod seen;
+mod serial;
+#[cfg(test)]
+mod serial_tests;
 #[cfg(test)]
 mod tests;
 mod walk;
 
 pub use helper::{Bare, Helper};
-pub use laws::{progress_is_plain, replies_determine_visits, rows_are_computed};
+pub use laws::{
+    progress_is_plain, replies_determine_visits, rows_are_computed, serial_runs_are_one,
+};
+pub use made::Made;
+pub use recognised::Recognised;
+pub use serial::Serial;
 pub use walk::{Counts, Ended, MOST_STEPS, Settings, Walk};

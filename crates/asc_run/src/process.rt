@@ -1,10 +1,10 @@
-ghost use Rattle.std.specs.Prelude.{◌≡◌, ◌≤◌, ◌<◌, ◌+◌, ◌-◌, ◌^◌, length, [], Some, None, IsNone, false};
+ghost use Rattle.std.specs.Prelude.{◌≡◌, ◌≢◌, ◌≤◌, ◌<◌, ◌+◌, ◌-◌, ◌^◌, ℕ, Bool, length, [], Some, None, IsNone, false};
 
 use crate::helper::Helper;
 use crate::walk::Ended;
 use asc_calls::{Calls, Served};
 use asc_shape::{Sink, Source, State, Steps};
-use asc_step::{Stepped, step_many};
+use asc_step::{Stepped, step_many, step_until};
 use std::sync::ledger::Ledger;
 
 /// A program on its way.
@@ -27,17 +27,17 @@ impl Process {
     ghost use Rattle.asc_model.specs.Step.{At, Call, next};
     ghost use Rattle.asc_step.specs.Step.{stepped_of};
     ghost use Rattle.asc_calls.specs.GuestCall.{Device};
-    ghost use Rattle.asc_calls.specs.World.{world};
+    ghost use Rattle.asc_calls.specs.World.{World, world, faults, BlamesOnly};
     ghost use Rattle.asc_traj.specs.Finder.{IsJump};
     ghost use Rattle.asc_run.specs.Execution.{device_of};
-    ghost use Rattle.asc_run.specs.Faults.{faults, BlamesOnly};
     ghost use Rattle.asc_run.specs.Turn.{Turns, TurnFails, device_of_turn};
-    ghost use Rattle.asc_run.specs.Visits.{is_at, with_landing};
+    ghost use Rattle.asc_run.specs.Visits.{Course, Passes, is_at, with_landing};
     ghost use Rattle.asc_run.specs.Helped.{aid, HasRoom, Helped, Lands};
-    ghost use Rattle.asc_run.specs.Walk.{tally, HasNotBegun, GoesHelped, IsRaisedBy};
+    ghost use Rattle.asc_run.specs.Way.{ComesUnmarked};
+    ghost use Rattle.asc_run.specs.Walk.{tally, GoesHelped, IsRaisedBy};
 
-    /// Runs a program that has not begun until it ends, a device fails, or `limit` steps are done or jumped over. Where
-    /// it stands at `pc`, the helper is visited, and asked for a jump.
+    /// Runs a program until it ends, a device fails, or `limit` steps are done or jumped over. Where it stands at `pc`,
+    /// the helper is visited, and asked for a jump. Nothing was jumped over before.
     pub(crate) fn run<H: Helper, I: Source, O: Sink, E: Sink, L: Ledger>(
         &mut self,
         limit: u64,
@@ -49,13 +49,16 @@ impl Process {
         steps: &mut Steps<L>,
     ) -> Ended
         requires limit { limit ≤ 2 ^ 40 }
-        requires start { HasNotBegun self.old.count (tally self.old.asked self.old.skipped self.old.hits)
-            self.old.calls }
+        requires count { self.old.count ≤ limit }
+        requires none_told { tally self.old.asked self.old.skipped self.old.hits ≡ tally 0 0 0 }
         requires room { HasRoom (2 ^ 61)
             (aid (H.tally helper.old) (H.replies helper.old) (H.plan helper.old) (H.machine helper.old)) }
-        ensures run { GoesHelped limit pc
-            (world self.old.state self.old.calls (I.left input.old) (O.given out.old) (E.given err.old) steps.old)
-            (world self.new.state self.new.calls (I.left input.new) (O.given out.new) (E.given err.new) steps.new)
+        ensures run { (mark : Course → ℕ → Bool) (start : World) → ComesUnmarked limit mark pc start
+            (world self.old.state self.old.calls (I.left input.old) (O.given out.old) (E.given err.old) steps.old
+            (faults (I.faults input.old) (O.faults out.old) (E.faults err.old))) self.old.count
+            → GoesHelped limit mark start
+            (world self.new.state self.new.calls (I.left input.new) (O.given out.new) (E.given err.new) steps.new
+            (faults (I.faults input.new) (O.faults out.new) (E.faults err.new)))
             (aid (H.tally helper.old) (H.replies helper.old) (H.plan helper.old) (H.machine helper.old))
             (aid (H.tally helper.new) (H.replies helper.new) (H.plan helper.new) (H.machine helper.new))
             self.new.count self.new.skipped result }
@@ -68,31 +71,22 @@ impl Process {
             (faults (I.faults input.old) (O.faults out.old) (E.faults err.old))
             (faults (I.faults input.new) (O.faults out.new) (E.faults err.new)) }
     {
-        // Up to this count plain steps are taken, and there the program lands.
-        let mut stop = self.count;
         loop {
-            if self.count < stop {
-                let stopped = self.go_on(stop - self.count, steps);
-                if self.count < stop {
-                    match stopped {
-                        Stepped::Went => {}
-                        Stepped::Fault(fault) => return Ended::Fault(fault),
-                        Stepped::Call => {
-                            if let Some(ended) = self.call(input, out, err, steps) {
-                                return ended;
-                            }
-                        }
-                    }
-                }
-            } else if self.count == limit {
+            if self.count == limit {
                 return Ended::Limit;
-            } else if let Some(n) = self.land(pc, helper, limit - self.count) {
+            }
+            if let Some(n) = self.land(pc, helper, limit - self.count) {
                 self.count += n;
                 self.skipped += n;
                 self.hits += 1;
-                stop = self.count;
             } else {
-                stop = if pc.is_some() { self.count + 1 } else { limit };
+                let landed = self.count;
+                let stopped = self.go_on(pc, limit - landed, steps);
+                if self.count == landed {
+                    if let Some(ended) = self.stop(stopped, input, out, err, steps) {
+                        return ended;
+                    }
+                }
             }
         }
     }
@@ -126,21 +120,70 @@ impl Process {
         }
     }
 
-    /// Takes plain steps until so many are done, or one does not go on, in a loop of their own. It answers what the
-    /// last attempt answered.
-    fn go_on<L: Ledger>(&mut self, most: u64, steps: &mut Steps<L>) -> Stepped
+    /// Takes plain steps until so many are done, one leads to `pc`, or the next does not go on, in a loop of their own. It
+    /// answers what the last attempt answered.
+    pub(crate) fn go_on<L: Ledger>(
+        &mut self,
+        pc: Option<u32>,
+        most: u64,
+        steps: &mut Steps<L>,
+    ) -> Stepped
         requires { self.old.count + most < 2 ^ 64 }
         ensures goes { plain (self.new.count - self.old.count) self.old.state ≡ At self.new.state }
+        ensures passes { Passes pc self.old.state (self.new.count - self.old.count) }
         ensures grows { self.old.count ≤ self.new.count }
         ensures most { self.new.count ≤ self.old.count + most }
         ensures counter { steps.new ≡ steps.old + (self.new.count - self.old.count) }
-        ensures all { result ≡ Stepped.Went → self.new.count ≡ self.old.count + most }
-        ensures ends { (result ≡ Stepped.Went → ⊥) → result ≡ stepped_of (next self.new.state) }
+        ensures some { result ≡ Stepped.Went → 0 < most → self.old.count < self.new.count }
+        ensures ends { result ≢ Stepped.Went → result ≡ stepped_of (next self.new.state) }
         ensures kept { self.new ≡ record self.old { state = self.new.state; count = self.new.count } }
     {
-        let (done, stepped) = step_many(&mut self.state, most, steps);
+        let (done, stepped) = match pc {
+            Some(pc) => step_until(&mut self.state, pc, most, steps),
+            None => step_many(&mut self.state, most, steps),
+        };
         self.count += done;
         stepped
+    }
+
+    /// What an attempt at a step that did not go on comes to: the guest call at which the program stands is served, and a
+    /// fault ends the run. It answers how the run ended, if it did.
+    pub(crate) fn stop<I: Source, O: Sink, E: Sink, L: Ledger>(
+        &mut self,
+        stopped: Stepped,
+        input: &mut I,
+        out: &mut O,
+        err: &mut E,
+        steps: &mut Steps<L>,
+    ) -> Option<Ended>
+        requires count { self.old.count + 1 < 2 ^ 64 }
+        requires stopped { stopped ≢ Stepped.Went }
+        requires stands { stopped ≡ stepped_of (next self.old.state) }
+        ensures turn { device_of_turn result ≡ None → Turns
+            (world self.old.state self.old.calls (I.left input.old) (O.given out.old) (E.given err.old) steps.old
+            (faults (I.faults input.old) (O.faults out.old) (E.faults err.old)))
+            (world self.new.state self.new.calls (I.left input.new) (O.given out.new) (E.given err.new) steps.new
+            (faults (I.faults input.new) (O.faults out.new) (E.faults err.new)))
+            self.old.count self.new.count result }
+        ensures fails { (device : Device) → device_of_turn result ≡ Some device → TurnFails
+            (world self.old.state self.old.calls (I.left input.old) (O.given out.old) (E.given err.old) steps.old
+            (faults (I.faults input.old) (O.faults out.old) (E.faults err.old)))
+            (world self.new.state self.new.calls (I.left input.new) (O.given out.new) (E.given err.new) steps.new
+            (faults (I.faults input.new) (O.faults out.new) (E.faults err.new)))
+            device }
+        ensures count { (device : Device) → device_of_turn result ≡ Some device → self.new.count ≡ self.old.count }
+        ensures grows { self.old.count ≤ self.new.count }
+        ensures tally { tally self.new.asked self.new.skipped self.new.hits
+            ≡ tally self.old.asked self.old.skipped self.old.hits }
+        ensures faults { BlamesOnly (device_of_turn result)
+            (faults (I.faults input.old) (O.faults out.old) (E.faults err.old))
+            (faults (I.faults input.new) (O.faults out.new) (E.faults err.new)) }
+    {
+        match stopped {
+            Stepped::Went => None,
+            Stepped::Call => self.call(input, out, err, steps),
+            Stepped::Fault(fault) => Some(Ended::Fault(fault)),
+        }
     }
 
     /// The guest call at which the program stands. It answers how the run ended, if it did.
@@ -154,12 +197,16 @@ impl Process {
         requires count { self.old.count + 1 < 2 ^ 64 }
         requires asks { next self.old.state ≡ Call }
         ensures turn { device_of_turn result ≡ None → Turns
-            (world self.old.state self.old.calls (I.left input.old) (O.given out.old) (E.given err.old) steps.old)
-            (world self.new.state self.new.calls (I.left input.new) (O.given out.new) (E.given err.new) steps.new)
+            (world self.old.state self.old.calls (I.left input.old) (O.given out.old) (E.given err.old) steps.old
+            (faults (I.faults input.old) (O.faults out.old) (E.faults err.old)))
+            (world self.new.state self.new.calls (I.left input.new) (O.given out.new) (E.given err.new) steps.new
+            (faults (I.faults input.new) (O.faults out.new) (E.faults err.new)))
             self.old.count self.new.count result }
         ensures fails { (device : Device) → device_of_turn result ≡ Some device → TurnFails
-            (world self.old.state self.old.calls (I.left input.old) (O.given out.old) (E.given err.old) steps.old)
-            (world self.new.state self.new.calls (I.left input.new) (O.given out.new) (E.given err.new) steps.new)
+            (world self.old.state self.old.calls (I.left input.old) (O.given out.old) (E.given err.old) steps.old
+            (faults (I.faults input.old) (O.faults out.old) (E.faults err.old)))
+            (world self.new.state self.new.calls (I.left input.new) (O.given out.new) (E.given err.new) steps.new
+            (faults (I.faults input.new) (O.faults out.new) (E.faults err.new)))
             device }
         ensures count { (device : Device) → device_of_turn result ≡ Some device → self.new.count ≡ self.old.count }
         ensures grows { self.old.count ≤ self.new.count }

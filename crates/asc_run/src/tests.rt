@@ -1,7 +1,7 @@
 ghost use Rattle.std.specs.Prelude.{◌≡◌, ◌<◌, ◌^◌};
 ghost use Rattle.asc_run.specs.Helped.{aid, HasRoom};
 
-use crate::{Bare, Counts, Ended, Helper, MOST_STEPS, Settings, Walk};
+use crate::{Bare, Counts, Ended, Helper, MOST_STEPS, Recognised, Settings, Walk};
 use asc_depvec::Tracer;
 use asc_elf::read;
 use asc_shape::{CountSink, Shape, State, Steps, SureSource, Version};
@@ -30,7 +30,7 @@ const EXIT_SEVEN: [u32; 7] = [0x05D0_0893, 0x0070_0513, 0x0000_0073, 0, 0, 0, 0]
 const ILLEGAL: [u32; 7] = [0x05D0_0893, 0x0070_0513, 0, 0, 0, 0, 0];
 
 /// A loop of two instructions from 0x10008 on, which counts x5 from 0 to 4, and then an end with code 0.
-const COUNTING: [u32; 7] = [
+pub(crate) const COUNTING: [u32; 7] = [
     0x0000_0293,
     0x0040_0313,
     0x0012_8293,
@@ -41,7 +41,7 @@ const COUNTING: [u32; 7] = [
 ];
 
 /// How a program with 64 KiB of memory and no input ends, and its numbers. A second call of `go` changes neither.
-fn run<H: Helper, L: Ledger, R: Abort>(
+pub(crate) fn run<H: Helper, L: Ledger, R: Abort>(
     rt: &R,
     alloc: Global,
     blank: Blank,
@@ -56,6 +56,9 @@ fn run<H: Helper, L: Ledger, R: Abort>(
         (aid (H.tally helper.old) (H.replies helper.old) (H.plan helper.old) (H.machine helper.old)) }
 {
     assert!(rt; settings.limit <= MOST_STEPS);
+    if let Recognised::Chosen { profile, least } = settings.recognised {
+        assert!(rt; (2..=65_536).contains(&profile) && (2..=65_536).contains(&least));
+    }
     let mut file = HEAD.to_vec(alloc).expect(rt, "memory");
     for word in words {
         file.extend_from_slice(&word.to_le_bytes())
@@ -82,22 +85,37 @@ fn runs(rt: HostRuntime) {
         pc: 0x10008,
         value: 0,
     };
-    let pc = Some(0x10008);
+    let nowhere = Recognised::Nowhere;
+    let at = Recognised::At(0x10008);
+    let chosen = |least| Recognised::Chosen { profile: 6, least };
     // The code, the limit and the address, and then how the run ends, its count, and how often a jump was asked for.
-    for (words, limit, pc, ended, count, asked) in [
-        (EXIT_SEVEN, MOST_STEPS, None, Ended::Exit(7), 3, 0),
-        (EXIT_SEVEN, 3, None, Ended::Exit(7), 3, 0),
-        (EXIT_SEVEN, 2, None, Ended::Limit, 2, 0),
-        (EXIT_SEVEN, 0, None, Ended::Limit, 0, 0),
-        (ILLEGAL, 3, None, Ended::Fault(illegal), 2, 0),
-        (ILLEGAL, 3, pc, Ended::Fault(illegal), 2, 1),
-        (COUNTING, MOST_STEPS, None, Ended::Exit(0), 13, 0),
-        (COUNTING, MOST_STEPS, pc, Ended::Exit(0), 13, 4),
-        (COUNTING, 8, pc, Ended::Limit, 8, 3),
-        (COUNTING, MOST_STEPS, Some(0x1001C), Ended::Exit(0), 13, 0),
+    for (words, limit, recognised, ended, count, asked) in [
+        (EXIT_SEVEN, MOST_STEPS, nowhere, Ended::Exit(7), 3, 0),
+        (EXIT_SEVEN, 3, nowhere, Ended::Exit(7), 3, 0),
+        (EXIT_SEVEN, 2, nowhere, Ended::Limit, 2, 0),
+        (EXIT_SEVEN, 0, nowhere, Ended::Limit, 0, 0),
+        (EXIT_SEVEN, MOST_STEPS, chosen(2), Ended::Exit(7), 3, 0),
+        (ILLEGAL, 3, nowhere, Ended::Fault(illegal), 2, 0),
+        (ILLEGAL, 3, at, Ended::Fault(illegal), 2, 1),
+        (ILLEGAL, 3, chosen(2), Ended::Fault(illegal), 2, 0),
+        (COUNTING, MOST_STEPS, nowhere, Ended::Exit(0), 13, 0),
+        (COUNTING, MOST_STEPS, at, Ended::Exit(0), 13, 4),
+        (COUNTING, 8, at, Ended::Limit, 8, 3),
+        (
+            COUNTING,
+            MOST_STEPS,
+            Recognised::At(0x1001C),
+            Ended::Exit(0),
+            13,
+            0,
+        ),
+        (COUNTING, MOST_STEPS, chosen(2), Ended::Exit(0), 13, 2),
+        (COUNTING, MOST_STEPS, chosen(3), Ended::Exit(0), 13, 0),
+        (COUNTING, 7, chosen(2), Ended::Limit, 7, 1),
+        (COUNTING, 5, chosen(2), Ended::Limit, 5, 0),
     ] {
         let mut helper = Bare::new(Nothing::new());
-        let settings = Settings { limit, pc };
+        let settings = Settings { limit, recognised };
         let got = run::<_, Brand, _>(
             &rt,
             rt.alloc(),
@@ -113,7 +131,11 @@ fn runs(rt: HostRuntime) {
             asked,
             hits: 0,
         };
-        assert_eq!(rt; got, (ended, counts), "with limit {limit} and {pc:?}");
+        assert_eq!(rt;
+            got,
+            (ended, counts),
+            "with limit {limit} and {recognised:?}"
+        );
         assert_eq!(rt; (helper.made(), helper.refused(), helper.full()), (0, 0, 0));
         assert_eq!(rt; helper.finder().asked(), asked);
     }
@@ -190,7 +212,7 @@ fn jumps(rt: HostRuntime) {
         let mut helper = Bare::new(noted);
         let settings = Settings {
             limit,
-            pc: Some(0x10008),
+            recognised: Recognised::At(0x10008),
         };
         let got = run::<_, Brand, _>(&rt, alloc, Blank::new(1), &COUNTING, settings, &mut helper);
         assert_eq!(rt; got, (ended, counts), "with limit {limit}");

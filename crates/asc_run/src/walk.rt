@@ -2,6 +2,7 @@ ghost use Rattle.std.specs.Prelude.{◌≡◌, ◌≤◌, ◌+◌, ◌^◌, List
 
 use crate::helper::Helper;
 use crate::process::Process;
+use crate::recognised::Recognised;
 use asc_calls::Calls;
 use asc_elf::Image;
 use asc_shape::{Memory, Sink, Source, State, Steps};
@@ -36,19 +37,20 @@ pub struct Settings {
     /// The greatest number of steps, at most `MOST_STEPS`.
     pub limit: u64,
     /// The recognised address: where the program stands there the helper is visited, and asked for a jump.
-    pub pc: Option<u32>,
+    pub recognised: Recognised,
 }
 
 impl Default for Settings {
-    ghost use Rattle.std.specs.Prelude.{◌≡◌, ◌^◌, None};
+    ghost use Rattle.std.specs.Prelude.{◌≡◌, ◌^◌};
+    ghost use Rattle.asc_run.specs.declared.recognised.Recognised.TheVariants.{Nowhere};
 
-    ghost is_default = { λ s. (s.limit ≡ 2 ^ 40) × (s.pc ≡ None) };
+    ghost is_default = { λ s. (s.limit ≡ 2 ^ 40) × (s.recognised ≡ Nowhere) };
 
     /// The greatest limit on steps, and no address.
     fn default() -> Settings {
         Settings {
             limit: MOST_STEPS,
-            pc: None,
+            recognised: Recognised::Nowhere,
         }
     }
 }
@@ -73,11 +75,14 @@ pub struct Counts {
 pub struct Walk {
     process: Process,
     settings: Settings,
+    /// Where the program stood in its first steps, of which an address is chosen.
+    notes: Vec<(u32, u64)>,
     ended: Option<Ended>,
 }
 
 impl Model for Walk {
-    ghost use Rattle.std.specs.Prelude.{◌≡◌, ◌≤◌, ◌^◌, None};
+    ghost use Rattle.std.specs.Prelude.{◌≡◌, ◌≤◌, ◌^◌, [], None, vec_capacity};
+    ghost use Rattle.asc_run.specs.Visits.{HasBounds, noted_counts};
     ghost use Rattle.asc_run.specs.Walk as model;
 
     ghost Value = { model.Walk };
@@ -92,23 +97,27 @@ impl Model for Walk {
     } };
 
     ghost invariant = { λ w. (w.settings.limit ≤ 2 ^ 40) × (w.process.count ≤ w.settings.limit)
-        × (w.process.skipped ≤ w.process.count)
+        × (w.process.skipped ≤ w.process.count) × HasBounds w.settings.recognised
         × (w.ended ≡ None → model.HasNotBegun w.process.count
-        (model.tally w.process.asked w.process.skipped w.process.hits) w.process.calls) };
+        (model.tally w.process.asked w.process.skipped w.process.hits) w.process.calls
+        × (w.notes.items ≡ []) × (noted_counts w.settings.recognised ≤ vec_capacity w.notes)) };
 }
 
 impl Walk {
-    ghost use Rattle.asc_run.specs.Faults.{faults, BlamesOnly};
+    ghost use Rattle.asc_calls.specs.World.{faults, outside, BlamesOnly};
     ghost use Rattle.asc_run.specs.Helped.{aid, HasRoom};
-    ghost use Rattle.asc_run.specs.Walk.{new_walk, world_of, device_in, GoesHelped, IsRaisedBy};
+    ghost use Rattle.asc_run.specs.Visits.{HasBounds};
+    ghost use Rattle.asc_run.specs.Walk.{new_walk, device_in, GoesFirst, HelpsFirst};
 
-    /// A walk that has not begun. It takes the memory of one state.
+    /// A walk that has not begun. It takes the memory of one state, and of what is noted where an address is to be chosen.
     pub fn new(alloc: Global, image: &Image<'_>, settings: Settings) -> Result<Walk, Memory>
-        requires { settings.limit ≤ 2 ^ 40 }
+        requires limit { settings.limit ≤ 2 ^ 40 }
+        requires bounds { HasBounds settings.recognised }
         ensures { IfOk result (λ walk. walk ≡ new_walk image.now settings) }
     {
         let mut state = State::new(alloc, image.shape())?;
         image.put(&mut state);
+        let notes = Vec::with_capacity(alloc, settings.recognised.noted_counts() as usize)?;
         Ok(Walk {
             process: Process {
                 state,
@@ -119,6 +128,7 @@ impl Walk {
                 hits: 0,
             },
             settings,
+            notes,
             ended: None,
         })
     }
@@ -126,7 +136,8 @@ impl Walk {
     /// Runs the program to its end, its limit, or a call in which a device fails. No allocator is handed in.
     ///
     /// Wherever the program stands at the recognised address, the helper is visited and then asked for a jump, each
-    /// once. Where no address is set it is neither visited nor asked.
+    /// once. Where the address is to be chosen, that begins when the steps are done of which it is. Where none is
+    /// recognised the helper is neither visited nor asked.
     ///
     /// A second call answers as the first did, and changes nothing.
     pub fn go<H: Helper, I: Source, O: Sink, E: Sink, L: Ledger>(
@@ -142,25 +153,23 @@ impl Walk {
 
         // The first call goes as plain execution does, or stops where a device failed. The helper's visits are those
         // that its replies leave on that run.
-        ensures first { IsNone self.old.ended → GoesHelped self.old.settings.limit self.old.settings.pc
-            (world_of self.old (I.left input.old) (O.given out.old) (E.given err.old) steps.old)
-            (world_of self.new (I.left input.new) (O.given out.new) (E.given err.new) steps.new)
+        ensures first { IsNone self.old.ended → GoesFirst self.old self.new
+            (outside (I.left input.old) (O.given out.old) (E.given err.old) steps.old
+            (faults (I.faults input.old) (O.faults out.old) (E.faults err.old)))
+            (outside (I.left input.new) (O.given out.new) (E.given err.new) steps.new
+            (faults (I.faults input.new) (O.faults out.new) (E.faults err.new)))
             (aid (H.tally helper.old) (H.replies helper.old) (H.plan helper.old) (H.machine helper.old))
-            (aid (H.tally helper.new) (H.replies helper.new) (H.plan helper.new) (H.machine helper.new))
-            self.new.count self.new.tally.given result }
+            (aid (H.tally helper.new) (H.replies helper.new) (H.plan helper.new) (H.machine helper.new)) result }
 
-        // The helper's counts rise by the walk's. Where no address is set, the helper stays as it was.
-        ensures helper { IsNone self.old.ended
-            → IsRaisedBy self.new.tally (H.tally helper.old) (H.tally helper.new) }
-        ensures unset { IsNone self.old.settings.pc → helper.new ≡ helper.old }
-        ensures limit { self.new.count ≤ self.old.settings.limit }
-        ensures settings { self.new.settings ≡ self.old.settings }
-        ensures kept { self.new.ended ≡ Some result }
+        // The helper's counts rise by the walk's. Where no address is to be recognised, the helper stays as it was.
+        ensures helper { IsNone self.old.ended → HelpsFirst self.old.settings.recognised self.new.tally helper.old
+            helper.new (H.tally helper.old) (H.tally helper.new) }
 
         // A second one answers the same, and changes nothing.
         ensures again { IfSome self.old.ended (λ ended. (result ≡ ended) × (self.new ≡ self.old)
             × (helper.new ≡ helper.old) × (input.new ≡ input.old) × (out.new ≡ out.old) × (err.new ≡ err.old)
             × (steps.new ≡ steps.old)) }
+        ensures limit { self.new.count ≤ self.old.settings.limit }
 
         // The count of faults of the device that failed in this call rises by one, and those of the others stay.
         ensures faults { BlamesOnly (device_in self.old.ended result)
@@ -170,8 +179,12 @@ impl Walk {
         if let Some(ended) = self.ended {
             return ended;
         }
-        let Settings { limit, pc } = self.settings;
-        let ended = self.process.run(limit, pc, helper, input, out, err, steps);
+        let settings = self.settings;
+        let process = &mut self.process;
+        let ended = match process.recognise(settings, &mut self.notes, input, out, err, steps) {
+            Ok(address) => process.run(settings.limit, address, helper, input, out, err, steps),
+            Err(ended) => ended,
+        };
         self.ended = Some(ended);
         ended
     }

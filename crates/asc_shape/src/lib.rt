@@ -16,7 +16,7 @@ mod words;
 pub use asc_model::{Status, Version};
 pub use asc_outside::{
     CountSink, Failed, Gate, ListSink, ListSource, ListStore, Loaded, Memory, Open, Point, Sink,
-    Source, Store, StoreFault, SureSource,
+    Source, Store, StoreFault, SureSource, put_all,
 };
 pub use bytes::Bytes;
 pub use laws::good_shapes_are_made;

@@ -1,9 +1,10 @@
 ghost use Rattle.std.specs.Prelude.{◌≡◌, ◌+◌, ◌<◌, ◌≤◌, [], List, length, map, sum_by, slice_index_or, None, IfOk, IfSome, IfNone};
 ghost use Rattle.std.specs.Arc.{arc_value};
+ghost use Rattle.std.specs.List.{list_any};
 ghost use Rattle.asc_traj.specs.Finder.{IsJump};
 ghost use Rattle.asc_traj.specs.Content.{longest};
 ghost use Rattle.asc_shard.specs.Groups.{AreAsked, Asked};
-ghost use Rattle.asc_shard.specs.Content.{add, outcome_of, IsContent, IsFound};
+ghost use Rattle.asc_shard.specs.Content.{add, is_same_entry, outcome_of, IsContent, IsFound};
 ghost use Rattle.asc_shard.specs.Inside.{raised};
 
 use crate::find::{Probes, Uncounted, search};
@@ -67,6 +68,13 @@ impl Shard {
             slots,
             capacity,
         })
+    }
+
+    /// Whether an entry that is the same is held.
+    pub fn holds(&self, entry: &Entry) -> bool
+        ensures { result ≡ list_any (is_same_entry entry.now) self.now.held }
+    {
+        has_same(&self.entries, &self.slots, entry, mark_of(entry))
     }
 
     /// Puts an entry last, unless one that is the same is held. No allocator is handed in.

@@ -3,3 +3,4 @@ pub mod Touches
 pub mod Effects
 pub mod Rooms
 pub mod Steps
+pub mod Passed

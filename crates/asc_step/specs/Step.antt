@@ -1,6 +1,8 @@
 -- What a step answers, and what it leaves.
-use Rattle.std.specs.Prelude.{◌≡◌, ℕ, ◌+◌, ◌≤◌}
+use Rattle.std.specs.Prelude.{◌≡◌, ◌≢◌, ℕ, ◌+◌, ◌≤◌, ◌<◌}
 use Rattle.asc_model.specs.State.{State}
+use Rattle.asc_model.specs.Machine.{view_of}
+use Rattle.asc_model.specs.Plain.{plain}
 use Rattle.asc_model.specs.Places.{places_read, writes}
 use Rattle.asc_model.specs.Step.{Next, At, Call, Bad, next}
 use Rattle.asc_model.specs.Reach.{step_room}
@@ -38,3 +40,8 @@ abbrev pub counted_steps : Stepped → ℕ
 counted_steps answers.Went = 1
 counted_steps answers.Call = 0
 counted_steps (answers.Fault fault) = 0
+
+-- of so many steps of a state, none but the last leads to this pc
+abbrev pub PassesBy : State → (pc count : ℕ) → Type 0
+PassesBy s pc count =
+    (k : ℕ) → 0 < k → k < count → (after : State) → plain k s ≡ At after → (view_of after).pc ≢ pc

@@ -16,6 +16,6 @@ mod tests;
 mod version;
 
 pub use asc_model::{Fault, FaultKind};
-pub use many::step_many;
+pub use many::{step_many, step_until};
 pub use stepped::Stepped;
 pub use stepping::{step, try_step, try_step_of};

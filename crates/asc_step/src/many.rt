@@ -1,8 +1,9 @@
 //! Many steps of a state, one after another.
-ghost use Rattle.std.specs.Prelude.{◌≡◌, ◌+◌, ◌≤◌};
+ghost use Rattle.std.specs.Prelude.{◌≡◌, ◌≢◌, ◌⊎◌, ◌+◌, ◌≤◌, ◌<◌};
+ghost use Rattle.asc_model.specs.Machine.{view_of};
 ghost use Rattle.asc_model.specs.Plain.{plain};
 ghost use Rattle.asc_model.specs.Step.{At, next};
-ghost use Rattle.asc_step.specs.Step.{stepped_of};
+ghost use Rattle.asc_step.specs.Step.{PassesBy, stepped_of};
 ghost use Rattle.asc_step.specs.declared.stepped.Stepped.TheVariants.{Went};
 
 use crate::Stepped;
@@ -20,15 +21,47 @@ pub fn step_many<L: Ledger>(state: &mut State, most: u64, steps: &mut Steps<L>) 
     ensures counter { steps.new ≡ steps.old + result.0 }
     ensures most { result.0 ≤ most }
     ensures all { result.1 ≡ Went → result.0 ≡ most }
-    ensures ends { (result.1 ≡ Went → ⊥) → result.1 ≡ stepped_of (next state.new) }
+    ensures fewer { result.1 ≢ Went → result.0 < most }
+    ensures ends { result.1 ≢ Went → result.1 ≡ stepped_of (next state.new) }
 {
     let shape = state.shape();
     let mut count = 0;
     while count < most {
-        match step_of(state, shape, steps) {
+        match step_of::<State, L, false>(state, shape, steps) {
             Stepped::Went => count += 1,
             ended => return (count, ended),
         }
     }
     (count, Stepped::Went)
+}
+
+/// Takes steps of a state as `step_many` does, but no further than the first one that leads to this pc. A state that
+/// stands there at first goes on.
+#[inline(never)]
+pub fn step_until<L: Ledger>(
+    state: &mut State,
+    pc: u32,
+    most: u64,
+    steps: &mut Steps<L>,
+) -> (u64, Stepped)
+    ensures goes { plain result.0 state.old ≡ At state.new }
+    ensures passes { PassesBy state.old pc result.0 }
+    ensures counter { steps.new ≡ steps.old + result.0 }
+    ensures most { result.0 ≤ most }
+    ensures all { result.1 ≡ Went → (result.0 ≡ most) ⊎ ((0 < result.0) × ((view_of state.new).pc ≡ pc)) }
+    ensures fewer { result.1 ≢ Went → result.0 < most }
+    ensures ends { result.1 ≢ Went → result.1 ≡ stepped_of (next state.new) }
+{
+    let shape = state.shape();
+    let mut done = 0;
+    while done < most {
+        match step_of::<State, L, true>(state, shape, steps) {
+            Stepped::Went => done += 1,
+            ended => return (done, ended),
+        }
+        if state.pc() == pc {
+            return (done, Stepped::Went);
+        }
+    }
+    (done, Stepped::Went)
 }

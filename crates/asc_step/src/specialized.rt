@@ -22,8 +22,11 @@ use asc_isa::{Instr, Op, decode_specialized};
 use asc_shape::{Shape, Words};
 
 /// Takes one step of a state of this shape as `try_step` does, with code of its own for each operation.
+///
+/// `UNTIL` tells the two loops of steps apart. So each of them has a copy of this that is called there alone, which the
+/// compiler then takes into the loop.
 #[inline]
-pub(crate) fn step_specialized<B: Words>(bytes: &mut B, shape: Shape) -> Stepped
+pub(crate) fn step_specialized<B: Words, const UNTIL: bool>(bytes: &mut B, shape: Shape) -> Stepped
     requires shape { shape ≡ (B.face bytes.old).state.shape }
     requires room { step_room ≤ room_of (B.face bytes.old).marks }
     ensures { Attempts (B.face bytes.old) (B.face bytes.new) result }
@@ -35,8 +38,8 @@ pub(crate) fn step_specialized<B: Words>(bytes: &mut B, shape: Shape) -> Stepped
         return fault(kind, pc, pc);
     }
     let word = read_word(bytes, shape.place_of(pc));
-    match decode_specialized(word, has_atomics(shape.version())) {
-        Some(instruction) => execute_specialized(bytes, shape, pc, instruction),
+    match decode_specialized::<UNTIL>(word, has_atomics(shape.version())) {
+        Some(instruction) => execute_specialized::<B, UNTIL>(bytes, shape, pc, instruction),
         None => fault(FaultKind::Illegal, pc, word),
     }
 }
@@ -45,7 +48,7 @@ pub(crate) fn step_specialized<B: Words>(bytes: &mut B, shape: Shape) -> Stepped
 ///
 /// Each arm does the same: so the compiler makes code of its own for each operation, to which decoding leads at once.
 #[inline]
-fn execute_specialized<B: Words>(
+fn execute_specialized<B: Words, const UNTIL: bool>(
     bytes: &mut B,
     shape: Shape,
     pc: u32,

@@ -76,9 +76,10 @@ pub fn try_step<B: Words>(bytes: &mut B) -> Stepped
     try_step_of(bytes, shape)
 }
 
-/// Takes one step as `try_step_of` does, and counts it where the program went on.
+/// Takes one step as `try_step_of` does, and counts it where the program went on. `UNTIL` tells the two loops of steps
+/// apart, as in `step_specialized`.
 #[inline]
-pub(crate) fn step_of<B: Words, L: Ledger>(
+pub(crate) fn step_of<B: Words, L: Ledger, const UNTIL: bool>(
     bytes: &mut B,
     shape: Shape,
     steps: &mut Steps<L>,
@@ -88,7 +89,7 @@ pub(crate) fn step_of<B: Words, L: Ledger>(
     ensures step { Attempts (B.face bytes.old) (B.face bytes.new) result }
     ensures counter { steps.new ≡ steps.old + counted_steps result }
 {
-    let stepped = step_specialized(bytes, shape);
+    let stepped = step_specialized::<B, UNTIL>(bytes, shape);
     if let Stepped::Went = stepped {
         steps.tick();
     }
@@ -103,5 +104,5 @@ pub fn step<B: Words, L: Ledger>(bytes: &mut B, steps: &mut Steps<L>) -> Stepped
     ensures counter { steps.new ≡ steps.old + counted_steps result }
 {
     let shape = bytes.shape();
-    step_of(bytes, shape, steps)
+    step_of::<B, L, false>(bytes, shape, steps)
 }

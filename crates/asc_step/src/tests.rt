@@ -1,6 +1,6 @@
 ghost use Rattle.std.specs.Prelude.{◌≡◌, ◌<◌};
 
-use crate::{Fault, FaultKind, Stepped, step, step_many, try_step};
+use crate::{Fault, FaultKind, Stepped, step, step_many, step_until, try_step};
 use asc_shape::{Shape, State, Steps};
 use std::alloc::Global;
 use std::marker::Brand;
@@ -42,7 +42,7 @@ fn three_steps(rt: HostRuntime) {
     );
 }
 
-/// Two steps that are counted, and a call that is not.
+/// Two steps that are counted, by each of the loops of steps, and a call that is not.
 fn run_three<L: Ledger, R: Abort>(rt: &R, blank: Blank, state: &mut State)
     requires name { blank.name ≡ L.name }
     requires parts { blank.parts ≡ L.parts }
@@ -53,11 +53,20 @@ fn run_three<L: Ledger, R: Abort>(rt: &R, blank: Blank, state: &mut State)
     assert_eq!(rt; step_many(state, 1, &mut steps), (1, Stepped::Went));
     assert_eq!(rt; step(state, &mut steps), Stepped::Call);
     assert_eq!(rt; step_many(state, 5, &mut steps), (0, Stepped::Call));
-    counts_two(&steps);
+    state.set_pc(0x10000);
+    assert_eq!(rt;
+        step_until(state, 0x10004, 5, &mut steps),
+        (1, Stepped::Went)
+    );
+    assert_eq!(rt;
+        step_until(state, 0x10004, 5, &mut steps),
+        (1, Stepped::Call)
+    );
+    counts_four(&steps);
 }
 
-fn counts_two<L: Ledger>(_steps: &Steps<L>)
-    requires { _steps.now ≡ 2 }
+fn counts_four<L: Ledger>(_steps: &Steps<L>)
+    requires { _steps.now ≡ 4 }
 {}
 
 /// One step at 0x10000: its word, x10, x11 and x12 before it, and then its answer, the pc and x10.

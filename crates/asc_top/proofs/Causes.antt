@@ -13,7 +13,8 @@ use Rattle.asc_words.specs.declared.answer.Answer.{Answer}
 use Rattle.asc_words.specs.declared.answer.Answer.TheVariants as answers
 use Rattle.asc_words.specs.declared.answer.Outcome.{Outcome}
 use Rattle.asc_words.specs.declared.answer.Bad.{Bad}
-use Rattle.asc_top.specs.Program.{file_limit, load_of, IsNoImage, answer_at, refusal, result_of_load, run_of_image, meaning, Means, Runs}
+use Rattle.asc_top.specs.Program.{file_limit, load_of, IsNoImage, answer_at, refusal, result_of_load, run_of_image, meaning, Runs}
+use Rattle.asc_top.specs.Numbers.{Means}
 use Rattle.asc_top.specs.Kinds.{Finished, kind_of}
 
 -- a file that is not too long means what its load comes to
@@ -45,6 +46,7 @@ run_of-answer line (Err fault) left answered ended is = let refused = ap kind_of
 -- how a run ended, by its answer
 end_in : Answer → Option Ended
 end_in (answers.Exit code) = Some (ends.Exit code)
+end_in (answers.Done refused) = None
 end_in (answers.Limit count) = Some ends.Limit
 end_in (answers.Fault fault count) = Some (ends.Fault fault)
 end_in answers.ReadFault = Some ends.ReadFault
@@ -157,6 +159,14 @@ module _ (line : RunLine) (content : List ℕ) (within : length content ≤ file
   pub too_long-never : outcome.answer ≡ answers.TooLong → ⊥
   unfolding end_in
   too_long-never is = let of = unrun answers.TooLong is refl in cc (of.answer, is)
+
+  pub done-never : (refused : ℕ) → outcome.answer ≡ answers.Done refused → ⊥
+  unfolding end_in
+  done-never refused is = let of = unrun (answers.Done refused) is refl in cc (of.answer, is)
+
+  pub report_fault-never : outcome.answer ≡ answers.ReportFault → ⊥
+  unfolding end_in
+  report_fault-never is = let of = unrun answers.ReportFault is refl in cc (of.answer, is)
 
   pub store_fault-never : outcome.answer ≡ answers.StoreFault → ⊥
   unfolding end_in

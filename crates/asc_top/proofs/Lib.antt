@@ -1,4 +1,9 @@
 pub mod Causes
-pub mod Visited
-pub mod Outcomes
-pub mod Headline
+pub mod Ends
+pub mod Refused
+pub mod Outputs
+pub mod Unguessed
+pub mod Walks
+pub mod Serials
+pub mod Runs
+pub mod Trials

@@ -1,41 +1,43 @@
 -- All that holds of an answer, whatever then becomes of its report.
-use Rattle.std.specs.Prelude.{◌≡◌, ◌≢◌, ◌⊎◌, ◌↔◌, ℕ, ◌<◌, List, length, Option, Some, None, Result, Ok, Err, IsErr, IsSome, IsTrue}
+use Rattle.std.specs.Prelude.{◌≡◌, ◌≢◌, ◌⊎◌, ◌↔◌, ℕ, ◌<◌, List, [], length, Option, Some, None, Result, Ok, Err, IsSome, IsTrue}
 use Rattle.asc_model.specs.declared.fault.Fault.{Fault}
-use Rattle.asc_outside.specs.Outside.{File, AsksFor, content_of}
+use Rattle.asc_outside.specs.Outside.{File, Blames, AsksFor, Given, MayHold, content_of, given_after}
 use Rattle.asc_elf.specs.declared.fault.ElfFault.{ElfFault}
-use Rattle.asc_calls.specs.GuestCall.{Device}
-use Rattle.asc_calls.specs.World.{Outside, Blames}
+use Rattle.asc_calls.specs.GuestCall.{Device, Out}
+use Rattle.asc_calls.specs.World.{Outside, BlamesOnly}
+use Rattle.asc_make.specs.File.{image_of}
 use Rattle.asc_run.specs.declared.walk.Ended.TheVariants as ends
-use Rattle.asc_run.specs.Faults.{Faults, faults as faults_of, BlamesOnly}
+use Rattle.asc_run.specs.Execution.{Run}
 use Rattle.asc_words.specs.Line.{line_of}
+use Rattle.asc_words.specs.Report.{trial_text}
 use Rattle.asc_words.specs.declared.line.RunLine.{RunLine}
 use Rattle.asc_words.specs.declared.line.Line.{Line}
 use Rattle.asc_words.specs.declared.line.Line.TheVariants as lines
 use Rattle.asc_words.specs.declared.answer.Answer.{Answer}
 use Rattle.asc_words.specs.declared.answer.Answer.TheVariants as answers
 use Rattle.asc_words.specs.declared.answer.Outcome.{Outcome}
+use Rattle.asc_words.specs.declared.answer.TrialOutcome.{TrialOutcome}
 use Rattle.asc_words.specs.declared.answer.Bad.{Bad}
-use Rattle.asc_top.specs.Program.{file_limit, meaning, Gives, Means, HasFile, Runs, IsNoImage, IsStopped}
-use Rattle.asc_top.specs.Kinds.{Finished, kind_of, Completes, ComesOfFile, IsRefusal, device_of_answer}
+use Rattle.asc_top.specs.Program.{file_limit, meaning, Gives, GivesPart, Runs, IsNoImage, IsStopped, make_result, trial_run}
+use Rattle.asc_top.specs.Numbers.{Means, Tries, TriesPart}
+use Rattle.asc_top.specs.Kinds.{Finished, kind_of, Completes, IsRefusal, device_of_answer}
 
 -- ---- what is told
 
 -- What is told of all that the program meets but its report: the store's files, the names that it was asked for and how
--- often it has failed, the guest's devices with the counter of steps, and how often each of these has failed.
+-- often it has failed, and the guest's devices with the counter of steps.
 pub record Devices : Type 0 where
   pub files : Option (List File)
   pub asked : Option (List (List ℕ))
   pub store_faults : ℕ
   pub guest : Outside
-  pub faults : Faults
 
-abbrev pub devices : Option (List File) → Option (List (List ℕ)) → Outside → (store input out err : ℕ) → Devices
-devices files asked guest store input out err = record {
+abbrev pub devices : Option (List File) → Option (List (List ℕ)) → (store_faults : ℕ) → Outside → Devices
+devices files asked store_faults guest = record {
   files = files;
   asked = asked;
-  store_faults = store;
+  store_faults = store_faults;
   guest = guest;
-  faults = faults_of input out err;
 }
 
 -- the store tells that it holds a file of that name with this content
@@ -43,70 +45,124 @@ abbrev pub IsHeld : Option (List File) → (name content : List ℕ) → Type 0
 IsHeld (Some files) name content = content_of files name ≡ Some content
 IsHeld None name content = ⊥
 
--- the words ask for this run, the content of its file is told, and so is the input
-pub record IsTold (words : List (List ℕ)) (old : Devices) (line : RunLine) (content left : List ℕ) : Type 0 where
-  pub asked : line_of words ≡ Ok (lines.Run line)
-  pub held : IsHeld old.files line.image content
-  pub input : old.guest.left ≡ Some left
+-- what words ask for: a line, or what is wrong with them
+abbrev pub Asked : Type 0
+Asked = Result Line Bad
+
+-- ---- the headline
+
+-- What is done where no device fails and no memory is wanting. A run whose file and input are told gives what the file
+-- means. A make gives its image, and a trial its text. Wrong words are answered, and nothing is done.
+abbrev pub Done : Asked → (old new : Devices) → Answer → Type 0
+Done (Ok (lines.Run line)) old new answered =
+    (content left : List ℕ) → IsHeld old.files line.image content → old.guest.left ≡ Some left
+    → (executed : ℕ) × Gives old.guest new.guest executed answered (meaning line content left)
+Done (Ok (lines.Make n)) old new answered = Gives old.guest new.guest 0 answered (make_result n)
+Done (Ok (lines.Trial n workers)) old new answered = Tries n workers old.guest new.guest answered
+Done (Err bad) old new answered = (answered ≡ answers.Usage bad) × (new.guest ≡ old.guest)
+
+-- The headline. Where no device failed and no memory was wanting, the answer, what was taken and put, and the rise of
+-- the counter are the definition's.
+abbrev pub Headline : Asked → (old new : Devices) → Answer → Type 0
+Headline asked old new answered = Completes answered → Done asked old new answered
 
 -- ---- what holds of an answer
 
--- The headline. Where the words ask for a run of a file and over an input that are told, no device failed and no memory
--- was wanting, the answer, what was taken and put, and the rise of the counter are those of what the file means.
-abbrev pub Headline : (words : List (List ℕ)) → (old new : Devices) → Answer → Type 0
-Headline words old new answered =
-    (line : RunLine) (content left : List ℕ) → IsTold words old line content left → Completes answered
-    → Gives old.guest new.guest answered (meaning line content left)
+-- the same where a run's file or input is not told: it gives what some file means that the store may hold
+abbrev pub DoneUntold : Asked → (old new : Devices) → Outcome → Type 0
+DoneUntold (Ok (lines.Run line)) old new outcome =
+    (content : List ℕ) × MayHold old.files line.image content × Means old.guest new.guest outcome line content
+DoneUntold asked old new outcome = Done asked old new outcome.answer
 
--- What the store was asked for until these words were answered so. The words ask for a run, and it was asked for the
--- run's image, once; or it was asked for nothing, since they ask for no run, or memory was wanting.
-abbrev pub AsksForImage : (words : List (List ℕ)) → Answer → (before after : Option (List (List ℕ))) → Type 0
-AsksForImage words answered before after =
-    ((line : RunLine) × (line_of words ≡ Ok (lines.Run line)) × AsksFor line.image before after)
-    ⊎ ((after ≡ before) × (IsErr (line_of words) ⊎ (answered ≡ answers.Memory)))
+-- A device failed. Under the guest of a run: all is plain execution's up to the call in which that happened. Else it is
+-- out, while it took an image or the text of a trial.
+abbrev pub Stops : Asked → (old new : Devices) → Device → Type 0
+Stops (Ok (lines.Run line)) old new device =
+    (content : List ℕ) × MayHold old.files line.image content × IsStopped old.guest new.guest device line content
+Stops (Ok (lines.Make n)) old new device = (device ≡ Out) × GivesPart old.guest new.guest 0 (make_result n)
+Stops (Ok (lines.Trial n workers)) old new device = (device ≡ Out) × TriesPart n workers old.guest new.guest
+Stops (Err bad) old new device = ⊥
+
+-- the words ask for the run of a file, and the store may hold a file of its name whose content has P
+abbrev pub HasFile : Asked → Devices → (RunLine → List ℕ → Type 0) → Type 0
+HasFile (Ok (lines.Run line)) old P = (content : List ℕ) × MayHold old.files line.image content × P line content
+HasFile (Ok (lines.Make n)) old P = ⊥
+HasFile (Ok (lines.Trial n workers)) old P = ⊥
+HasFile (Err bad) old P = ⊥
+
+-- the same, or they ask for a trial, whose image has P
+abbrev pub HasImage : Asked → Devices → ((told : Option (List ℕ)) → RunLine → List ℕ → Type 0) → Type 0
+HasImage (Ok (lines.Run line)) old P =
+    (content : List ℕ) × MayHold old.files line.image content × P old.guest.left line content
+HasImage (Ok (lines.Make n)) old P = ⊥
+HasImage (Ok (lines.Trial n workers)) old P = P (Some []) (trial_run workers) (image_of n)
+HasImage (Err bad) old P = ⊥
+
+-- an image was put to a sink, or the text of a trial
+abbrev pub IsWritten : Asked → (before after : Given) → Type 0
+IsWritten (Ok (lines.Run line)) before after = ⊥
+IsWritten (Ok (lines.Make n)) before after = after ≡ given_after before (image_of n)
+IsWritten (Ok (lines.Trial n workers)) before after =
+    (trial : TrialOutcome) × (trial.n ≡ n) × (after ≡ given_after before (trial_text trial))
+IsWritten (Err bad) before after = ⊥
 
 -- these words ask for the numbers of a run
-abbrev pub AskForCounts : Result Line Bad → Type 0
+abbrev pub AskForCounts : Asked → Type 0
 AskForCounts (Ok (lines.Run line)) = IsTrue line.report
+AskForCounts (Ok (lines.Make n)) = ⊥
+AskForCounts (Ok (lines.Trial n workers)) = ⊥
 AskForCounts (Err bad) = ⊥
 
--- All that holds of an outcome of these words by itself, whatever then becomes of its report. A cause is a field: that
+-- What the store was asked for until these words were answered so: for the image of a run, once, and else for nothing.
+-- Nor was it for a run, where memory was wanting before.
+abbrev pub AsksForImage : Asked → Answer → (before after : Option (List (List ℕ))) → Type 0
+AsksForImage (Ok (lines.Run line)) answered before after =
+    AsksFor line.image before after ⊎ ((after ≡ before) × (answered ≡ answers.Memory))
+AsksForImage (Ok (lines.Make n)) answered before after = after ≡ before
+AsksForImage (Ok (lines.Trial n workers)) answered before after = after ≡ before
+AsksForImage (Err bad) answered before after = after ≡ before
+
+-- All that holds of an outcome of what was asked by itself, whatever then becomes of its report. A cause is a field: that
 -- the answer comes only there. That it comes there, unless a device fails or memory is wanting, is the headline.
-pub record IsAnswerTo (words : List (List ℕ)) (old new : Devices) (outcome : Outcome) : Type 0 where
-  pub headline : Headline words old new outcome.answer
+pub record IsAnswerFor (asked : Asked) (old new : Devices) (outcome : Outcome) : Type 0 where
+  pub headline : Headline asked old new outcome.answer
   -- told or not, it is that of some file and some input, which agree with what is told
-  pub untold : ComesOfFile outcome.answer → HasFile words old.files (Means old.guest new.guest outcome)
-  -- where a device failed under the guest, all is plain execution's up to the call in which that happened
-  pub stopped : (device : Device) → device_of_answer outcome.answer ≡ Some device
-      → HasFile words old.files (IsStopped old.guest new.guest device)
-  -- Exit: the plain run of the file ends with that code.
+  pub untold : Completes outcome.answer → DoneUntold asked old new outcome
+  -- where a device failed, all is as it should be up to there
+  pub stopped : (device : Device) → device_of_answer outcome.answer ≡ Some device → Stops asked old new device
+  -- Exit: the plain run of a file that is not too long ends with that code.
   pub exit : (code : ℕ) → outcome.answer ≡ answers.Exit code
-      → HasFile words old.files (Runs old.guest.left (λ run. run.ended ≡ ends.Exit code))
+      → HasFile asked old (Runs old.guest.left (λ run. run.ended ≡ ends.Exit code))
+  -- Done: the whole of an image was put to out, or of a trial's text. No memory is refused where an image is made.
+  pub done : (refused : ℕ) → outcome.answer ≡ answers.Done refused → IsWritten asked old.guest.out new.guest.out
   -- Limit: it is still going on after that many steps, which are the line's limit.
   pub limit : (count : ℕ) → outcome.answer ≡ answers.Limit count
-      → HasFile words old.files (Runs old.guest.left (λ run. (run.ended ≡ ends.Limit) × (run.count ≡ count)))
+      → HasImage asked old (λ told. Runs told (λ run. (run.ended ≡ ends.Limit) × (run.count ≡ count)))
   -- Fault: it meets that fault after that many steps.
-  pub fault : (fault : Fault) (count : ℕ) → outcome.answer ≡ answers.Fault fault count → HasFile words old.files
-      (Runs old.guest.left (λ run. (run.ended ≡ ends.Fault fault) × (run.count ≡ count)))
+  pub fault : (fault : Fault) (count : ℕ) → outcome.answer ≡ answers.Fault fault count
+      → HasImage asked old (λ told. Runs told (λ run. (run.ended ≡ ends.Fault fault) × (run.count ≡ count)))
   -- Image: the file is no image, for that fault.
-  pub image : (fault : ElfFault) → outcome.answer ≡ answers.Image fault → HasFile words old.files (IsNoImage fault)
+  pub image : (fault : ElfFault) → outcome.answer ≡ answers.Image fault → HasImage asked old (λ told. IsNoImage fault)
   -- TooLong: the file is longer than what is read.
-  pub too_long : outcome.answer ≡ answers.TooLong
-      → HasFile words old.files (λ line content. file_limit < length content)
+  pub too_long : outcome.answer ≡ answers.TooLong → HasFile asked old (λ line content. file_limit < length content)
   -- Usage: that is wrong with the words. Where something is, it is answered, unless memory was wanting.
-  pub usage : (bad : Bad) → outcome.answer ≡ answers.Usage bad → line_of words ≡ Err bad
-  pub no_command : (bad : Bad) → line_of words ≡ Err bad → outcome.answer ≢ answers.Memory
+  pub usage : (bad : Bad) → outcome.answer ≡ answers.Usage bad → asked ≡ Err bad
+  pub no_command : (bad : Bad) → asked ≡ Err bad → outcome.answer ≢ answers.Memory
       → outcome.answer ≡ answers.Usage bad
   -- StoreFault: the store failed, and once. Else it did not.
   pub store_fault : Blames (outcome.answer ≡ answers.StoreFault) old.store_faults new.store_faults
   -- ReadFault, WriteFault and ErrFault: that device failed, and once. Every other did not.
-  pub faults : BlamesOnly (device_of_answer outcome.answer) old.faults new.faults
+  pub faults : BlamesOnly (device_of_answer outcome.answer) old.guest.faults new.guest.faults
   -- ReportFault is answered in place of this answer, and is none.
   pub no_report_fault : outcome.answer ≢ answers.ReportFault
   -- the numbers of a run are told where the words ask for them and the guest came to an end, and else none are
-  pub counts : IsSome outcome.counts ↔ (AskForCounts (line_of words) × (kind_of outcome.answer ≡ Finished))
+  pub counts : IsSome outcome.counts ↔ (AskForCounts asked × (kind_of outcome.answer ≡ Finished))
   -- where the guest was not run, nothing was taken, put or counted
   pub refused : IsRefusal outcome.answer → new.guest ≡ old.guest
   pub files : new.files ≡ old.files
   -- the store was asked for the image of a run, once, and for nothing else
-  pub asked : AsksForImage words outcome.answer old.asked new.asked
+  pub names : AsksForImage asked outcome.answer old.asked new.asked
+
+-- all that holds of an outcome of these words
+abbrev pub IsAnswerTo : (words : List (List ℕ)) → (old new : Devices) → Outcome → Type 0
+IsAnswerTo words = IsAnswerFor (line_of words)

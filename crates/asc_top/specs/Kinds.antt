@@ -7,7 +7,9 @@ use Rattle.asc_words.specs.declared.answer.Answer.TheVariants as answers
 pub data Kind : Type 0 where
   -- the guest came to its end, its limit or a fault
   Finished : Kind
-  -- a device failed under the guest
+  -- a text was written
+  Written : Kind
+  -- a device failed under the guest, or out while it took a text
   Stopped : Device → Kind
   -- the file is none that is run
   BadFile : Kind
@@ -20,6 +22,7 @@ pub data Kind : Type 0 where
 
 abbrev pub kind_of : Answer → Kind
 kind_of (answers.Exit code) = Finished
+kind_of (answers.Done refused) = Written
 kind_of (answers.Limit count) = Finished
 kind_of (answers.Fault fault count) = Finished
 kind_of answers.ReadFault = Stopped Input
@@ -32,19 +35,16 @@ kind_of answers.StoreFault = Unread
 kind_of answers.Memory = Unread
 kind_of answers.ReportFault = Unreported
 
--- an answer that a file's meaning gives
-abbrev pub ComesOfFile : Answer → Type 0
-ComesOfFile answer = (kind_of answer ≡ Finished) ⊎ (kind_of answer ≡ BadFile)
-
 -- no device failed, and no memory was wanting
 abbrev pub Completes : Answer → Type 0
-Completes answer = ComesOfFile answer ⊎ (kind_of answer ≡ BadWords)
+Completes answer =
+    ((kind_of answer ≡ Finished) ⊎ (kind_of answer ≡ BadFile)) ⊎ ((kind_of answer ≡ Written) ⊎ (kind_of answer ≡ BadWords))
 
 -- the guest was not run
 abbrev pub IsRefusal : Answer → Type 0
 IsRefusal answer = (kind_of answer ≡ BadFile) ⊎ ((kind_of answer ≡ BadWords) ⊎ (kind_of answer ≡ Unread))
 
--- the device that failed under the guest, where one did
+-- the device that failed, where one did
 abbrev pub device_of_kind : Kind → Option Device
 device_of_kind (Stopped device) = Some device
 device_of_kind _ = None

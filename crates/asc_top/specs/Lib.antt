@@ -2,6 +2,8 @@ pub use Rattle.asc_words.specs.Answer
 pub use Rattle.asc_words.specs.Line
 pub use Rattle.asc_words.specs.Report
 pub mod Program
+pub mod Numbers
 pub mod Kinds
+pub mod Ran
 pub mod Answered
 pub mod Reported

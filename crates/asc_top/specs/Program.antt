@@ -1,22 +1,17 @@
--- What a file means as a program, and what was done of it.
-use Rattle.std.specs.Prelude.{◌≡◌, ℕ, zero, suc, Bool, ◌+◌, ◌*◌, ◌<◌, ◌≤◌, List, length, Option, Some, None, Result, Ok, Err, nat_lt, if◌then◌else◌}
-use Rattle.asc_outside.specs.Outside.{File, MayHold}
+-- What a file means as a program, and what a command line comes to.
+use Rattle.std.specs.Prelude.{◌≡◌, ℕ, Bool, true, false, ◌+◌, ◌*◌, ◌<◌, ◌≤◌, List, [], length, take, Option, Some, None, Result, Ok, Err, nat_lt, if◌then◌else◌}
+use Rattle.asc_model.specs.declared.version.Version.TheVariants.{Two}
+use Rattle.asc_outside.specs.Outside.{PutsPart}
 use Rattle.asc_elf.specs.declared.fault.ElfFault.{ElfFault}
 use Rattle.asc_elf.specs.Image as loader
-use Rattle.asc_calls.specs.GuestCall.{Io, nothing, then_io, IsBeginning, Device}
+use Rattle.asc_calls.specs.GuestCall.{Io, nothing, io_of, then_io, IsBeginning, Device, Out}
 use Rattle.asc_calls.specs.World.{Outside, DoesIo, Agrees}
-use Rattle.asc_traj.specs.Finder.{Plan}
-use Rattle.asc_run.specs.declared.walk.Counts.{Counts as WalkCounts}
+use Rattle.asc_make.specs.File.{image_of}
 use Rattle.asc_run.specs.declared.walk.Ended.{Ended}
 use Rattle.asc_run.specs.declared.walk.Ended.TheVariants as ends
 use Rattle.asc_run.specs.Execution.{Run, exec, progress, first_position, StandsAtFailure}
-use Rattle.asc_run.specs.Visits.{Course, is_mark}
-use Rattle.asc_words.specs.Line.{line_of}
 use Rattle.asc_words.specs.declared.line.RunLine.{RunLine}
-use Rattle.asc_words.specs.declared.line.Line.TheVariants as lines
 use Rattle.asc_words.specs.declared.answer.Answer.{Answer}
-use Rattle.asc_words.specs.declared.answer.Counts.{Counts}
-use Rattle.asc_words.specs.declared.answer.Outcome.{Outcome}
 use Rattle.asc_words.specs.declared.answer.Answer.TheVariants as answers
 
 -- ---- what a file means
@@ -33,15 +28,6 @@ load_of line content = loader.image_of content (1024 * line.memory) line.version
 abbrev pub run_of_image : RunLine → loader.Image → (left : List ℕ) → Run
 run_of_image line image left = exec line.limit image.low (loader.high_of image) image.start left
 
--- how far that run comes in n steps
-abbrev pub course_of_image : loader.Image → (left : List ℕ) → Course
-course_of_image image left = progress image.low (loader.high_of image) (first_position image.start image.low left)
-
--- at how many counts below a limit a run goes on and stands at an address, where one is set
-unfoldable pub visits_of : Option ℕ → Course → (limit : ℕ) → ℕ
-visits_of address run zero = 0
-visits_of address run (suc n) = visits_of address run n + (if is_mark address run n then 1 else 0)
-
 -- the answer of a run that ended so after count steps
 abbrev pub answer_at : Ended → ℕ → Answer
 answer_at (ends.Exit code) count = answers.Exit code
@@ -51,51 +37,23 @@ answer_at ends.ReadFault count = answers.ReadFault
 answer_at ends.WriteFault count = answers.WriteFault
 answer_at ends.ErrFault count = answers.ErrFault
 
--- the numbers of a walk, and of what its helper planned
-abbrev pub counts_of : WalkCounts → Plan → Counts
-counts_of walk plan = record {
-  executed = walk.executed;
-  skipped = walk.skipped;
-  asked = walk.asked;
-  hits = walk.hits;
-  made = plan.made;
-  refused = plan.refused;
-}
-
--- the numbers that a run reports which ended so: none where they are not asked for, or a device stopped it
-abbrev pub reported_counts : (is_asked : Bool) → Ended → Counts → Option Counts
-reported_counts is_asked (ends.Exit code) counts = if is_asked then Some counts else None
-reported_counts is_asked (ends.Fault fault) counts = if is_asked then Some counts else None
-reported_counts is_asked ends.Limit counts = if is_asked then Some counts else None
-reported_counts is_asked ends.ReadFault counts = None
-reported_counts is_asked ends.WriteFault counts = None
-reported_counts is_asked ends.ErrFault counts = None
-
--- What a program comes to: the answer, what it took and put, how many steps it did, and how often it stood at the line's
--- address.
+-- what a program comes to: the answer, what it took and put, and its count of steps
 pub record ProgramResult : Type 0 where
   pub answer : Answer
   pub io : Io
   pub count : ℕ
-  pub visits : ℕ
 
--- an answer for which the program was not run
+-- an answer for which no program was run
 abbrev pub refusal : Answer → ProgramResult
-refusal answer = record { answer = answer; io = nothing; count = 0; visits = 0 }
+refusal answer = record { answer = answer; io = nothing; count = 0 }
 
-abbrev pub result_of_run : Run → (visits : ℕ) → ProgramResult
-result_of_run run visits = record {
-  answer = answer_at run.ended run.count;
-  io = run.io;
-  count = run.count;
-  visits = visits;
-}
+abbrev pub result_of_run : Run → ProgramResult
+result_of_run run = record { answer = answer_at run.ended run.count; io = run.io; count = run.count }
 
 -- what a loaded file comes to over an input
 abbrev pub result_of_load : RunLine → Result loader.Image ElfFault → (left : List ℕ) → ProgramResult
 result_of_load line (Err fault) left = refusal (answers.Image fault)
-result_of_load line (Ok image) left =
-    result_of_run (run_of_image line image left) (visits_of line.pc (course_of_image image left) line.limit)
+result_of_load line (Ok image) left = result_of_run (run_of_image line image left)
 
 -- What a file means as a program, for a line and over an input: one that is too long and one that is no image are
 -- refused, and every other is run plainly.
@@ -104,45 +62,24 @@ meaning line content left =
     if nat_lt file_limit (length content) then refusal answers.TooLong
     else result_of_load line (load_of line content) left
 
--- ---- what a program did
+-- ---- what was done
 
--- the answer is the result's, what was taken and put is the result's, and the counter rose by its count
-pub record Gives (old new : Outside) (answered : Answer) (result : ProgramResult) : Type 0 where
+-- The answer is the result's, and what was taken and put is the result's. The counter rose by the steps that were
+-- executed; the others of its count were jumped over.
+pub record Gives (old new : Outside) (executed : ℕ) (answered : Answer) (result : ProgramResult) : Type 0 where
   pub answer : answered ≡ result.answer
   pub does : DoesIo old new result.io
-  pub steps : new.steps ≡ old.steps + result.count
+  pub most : executed ≤ result.count
+  pub steps : new.steps ≡ old.steps + executed
 
--- The words ask for a run, and the store may hold a file of its image's name, such that P holds of the line and the
--- file's content. Where the store tells its files, it does hold that file.
-pub record HasFile (words : List (List ℕ)) (files : Option (List File)) (P : RunLine → List ℕ → Type 0) : Type 0 where
-  pub line : RunLine
-  pub asked : line_of words ≡ Ok (lines.Run line)
-  pub content : List ℕ
-  pub held : MayHold files line.image content
-  pub holds : P line content
-
--- the numbers of a run: as yet nothing is guessed, and no jump is found
-pub record AreNumbersOf (result : ProgramResult) (counts : Counts) : Type 0 where
-  -- the steps done and the steps jumped over are all its steps
-  pub total : counts.executed + counts.skipped ≡ result.count
-  -- a jump was asked for wherever it stood at the address
-  pub asked : counts.asked ≡ result.visits
-  pub skipped : counts.skipped ≡ 0
-  pub hits : counts.hits ≡ 0
-  pub made : counts.made ≡ 0
-  pub refused : counts.refused ≡ 0
-
-abbrev pub AreNumbers : ProgramResult → Option Counts → Type 0
-AreNumbers result None = Unit {0}
-AreNumbers result (Some counts) = AreNumbersOf result counts
-
--- Over some input that agrees with what is told, the file means what was answered, taken, put and counted, and the
--- numbers that are told are its run's.
-pub record Means (old new : Outside) (outcome : Outcome) (line : RunLine) (content : List ℕ) : Type 0 where
-  pub left : List ℕ
-  pub agrees : Agrees old.left left
-  pub gives : Gives old new outcome.answer (meaning line content left)
-  pub numbers : AreNumbers (meaning line content left) outcome.counts
+-- Out failed while it took what a result puts there: it took a beginning of it, and not all. Nothing else was taken or
+-- put.
+pub record GivesPart (old new : Outside) (executed : ℕ) (result : ProgramResult) : Type 0 where
+  pub left : new.left ≡ old.left
+  pub out : PutsPart old.out new.out result.io.out
+  pub err : new.err ≡ old.err
+  pub most : executed ≤ result.count
+  pub steps : new.steps ≡ old.steps + executed
 
 -- a file that is not too long is an image whose plain run, over some input that agrees with what is told, has P
 pub record Runs (told : Option (List ℕ)) (P : Run → Type 0) (line : RunLine) (content : List ℕ) : Type 0 where
@@ -177,4 +114,32 @@ pub record IsStopped (old new : Outside) (device : Device) (line : RunLine) (con
   pub call : StandsAtFailure image.low (loader.high_of image) device done
       (progress image.low (loader.high_of image) (first_position image.start image.low left) count)
   pub begins : IsBeginning (then_io io done) (run_of_image line image left).io
-  pub steps : new.steps ≡ old.steps + count
+  pub executed : ℕ
+  pub most : executed ≤ count
+  pub steps : new.steps ≡ old.steps + executed
+
+-- ---- generated images
+
+-- what `asc make` comes to: the image is put to out
+abbrev pub make_result : (n : ℕ) → ProgramResult
+make_result n = record { answer = answers.Done 0; io = io_of Out (image_of n); count = 0 }
+
+-- how the image of a trial is run: its loop begins at the address
+abbrev pub trial_run : (workers : ℕ) → RunLine
+trial_run workers = record {
+  image = [];
+  memory = 128;
+  limit = 1000000;
+  version = Two;
+  last = false;
+  stride = true;
+  pc = Some 0x10018;
+  profile = 4096;
+  least = 4;
+  laps = 1;
+  span = 100000;
+  ahead = 2;
+  workers = workers;
+  queue = 256;
+  report = true;
+}

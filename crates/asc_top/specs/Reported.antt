@@ -1,11 +1,11 @@
--- What becomes of an outcome when its text is put to the report.
+-- What becomes of an outcome when its text is put to the report, and of the text of a trial.
 use Rattle.std.specs.Prelude.{◌≡◌, ◌⊎◌, ℕ}
-use Rattle.asc_outside.specs.Outside.{Given, given_after, one_more}
-use Rattle.asc_calls.specs.Filling.{PutsPart}
+use Rattle.asc_outside.specs.Outside.{Given, PutsPart, given_after, one_more}
 use Rattle.asc_words.specs.declared.answer.Answer.{Answer}
+use Rattle.asc_words.specs.declared.answer.TrialOutcome.{TrialOutcome}
 use Rattle.asc_words.specs.declared.answer.Outcome.{Outcome}
-use Rattle.asc_words.specs.declared.answer.Answer.TheVariants.{ReportFault}
-use Rattle.asc_words.specs.Report.{report_text}
+use Rattle.asc_words.specs.declared.answer.Answer.TheVariants.{Done, ReportFault, WriteFault}
+use Rattle.asc_words.specs.Report.{report_text, trial_text}
 
 -- what a report was given, and how often it has failed
 pub record Report : Type 0 where
@@ -30,3 +30,9 @@ pub record IsCutOff (before after : Report) (outcome : Outcome) (shown : Answer)
 -- the text of an outcome was put to the report, and this is shown
 abbrev pub IsReported : (before after : Report) → Outcome → (shown : Answer) → Type 0
 IsReported before after outcome shown = IsShown before after outcome shown ⊎ IsCutOff before after outcome shown
+
+-- the text of a trial was put to a sink, or it failed, and once
+abbrev pub IsPut : TrialOutcome → (refused : ℕ) → (before after : Given) → (faults now : ℕ) → Answer → Type 0
+IsPut trial refused before after faults now answered =
+    ((answered ≡ Done refused) × (after ≡ given_after before (trial_text trial)) × (now ≡ faults))
+    ⊎ ((answered ≡ WriteFault) × PutsPart before after (trial_text trial) × (now ≡ one_more faults))

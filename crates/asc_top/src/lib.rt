@@ -1,7 +1,12 @@
 //! The program as one call: the words of a command line and the outside are handed in, and an answer is given.
 #![tactic(auto)]
 
+mod make;
+mod numbers;
 mod program;
+mod run;
+mod settings;
+mod trial;
 
 pub use asc_words::{Answer, Bad, Outcome};
 pub use program::{reported, top};

@@ -3,6 +3,7 @@
 
 mod entry;
 mod finder;
+mod guessing;
 mod halt;
 mod halter;
 mod longest;
@@ -14,6 +15,7 @@ mod tracing;
 pub use asc_model::Why;
 pub use entry::Entry;
 pub use finder::{Finder, ListFinder, Nothing};
+pub use guessing::Guessing;
 pub use halt::{Halt, Never};
 pub use halter::{Flag, Halter};
 pub use longest::{is_longer, jump_by, jump_longest, longest_match};

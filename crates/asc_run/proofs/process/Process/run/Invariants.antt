@@ -1,26 +1,30 @@
--- The program has come as far as plain execution in as many steps, with the visits so far.
-use Rattle.std.proofs.Common.{◌≡◌, ◌+◌, ◌-◌, ◌*◌, ◌≤◌, ◌⊎◌, None, IsNone}
-use Rattle.asc_calls.specs.World.{world}
-use Rattle.asc_run.specs.Faults.{faults}
-use Rattle.asc_run.specs.Helped.{aid}
+-- Where the program has come from a start as plain execution does, it has come on so, with the visits so far.
+use Rattle.std.proofs.Common.{◌≡◌, ◌+◌, ◌-◌, ◌≤◌, ℕ, Bool, IsNone}
+use Rattle.asc_calls.specs.World.{World, world, faults}
+use Rattle.asc_run.specs.Visits.{Course}
+use Rattle.asc_run.specs.Helped.{aid, Plans}
+use Rattle.asc_run.specs.Way.{ComesUnmarked}
 use Rattle.asc_run.proofs.Walking.{WalksOn}
 use Rattle.asc_run.proofs.process.Process.run.Given as goal
 
 abbrev pub invariant-loop-self : goal.invariant-loop-self
 invariant-loop-self g l = record {
-  walk : WalksOn l.limit l.pc
-      (world l.fn.self.state l.fn.self.calls (g.I.Source.left l.fn.input) (g.O.Sink.given l.fn.out) (g.E.Sink.given l.fn.err) l.fn.steps)
-      (world l.self.state l.self.calls (g.I.Source.left l.input) (g.O.Sink.given l.out) (g.E.Sink.given l.err) l.steps)
-      l.self.count l.stop l.self.skipped l.self.asked
+  walk : (mark : Course → ℕ → Bool) (start : World)
+      → ComesUnmarked l.limit mark l.pc start (world l.fn.self.state l.fn.self.calls (g.I.Source.left l.fn.input) (g.O.Sink.given l.fn.out) (g.E.Sink.given l.fn.err) l.fn.steps
+      (faults (g.I.Source.faults l.fn.input) (g.O.Sink.faults l.fn.out) (g.E.Sink.faults l.fn.err))) l.fn.self.count
+      → WalksOn l.limit mark l.pc l.fn.self.count start
+      (world l.self.state l.self.calls (g.I.Source.left l.input) (g.O.Sink.given l.out) (g.E.Sink.given l.err) l.steps
+      (faults (g.I.Source.faults l.input) (g.O.Sink.faults l.out) (g.E.Sink.faults l.err)))
+      l.self.count l.self.count l.self.skipped l.self.asked
       (aid (g.H.Finder.tally l.fn.helper) (g.H.Finder.replies l.fn.helper) (g.H.Finder.plan l.fn.helper) (g.H.Finder.machine l.fn.helper))
       (aid (g.H.Finder.tally l.helper) (g.H.Finder.replies l.helper) (g.H.Finder.plan l.helper) (g.H.Finder.machine l.helper));
-  here : l.self.count ≤ l.stop;
-  within : l.stop ≤ l.limit;
-  near : (l.stop ≤ l.self.count + 1) ⊎ (l.pc ≡ None);
+  grows : l.fn.self.count ≤ l.self.count;
+  within : l.self.count ≤ l.limit;
   given : (g.H.Finder.tally l.helper).given ≡ (g.H.Finder.tally l.fn.helper).given + l.self.skipped;
   asked : (g.H.Finder.tally l.helper).asked ≡ (g.H.Finder.tally l.fn.helper).asked + l.self.asked;
   hits : (g.H.Finder.tally l.helper).hits ≡ (g.H.Finder.tally l.fn.helper).hits + l.self.hits;
-  visits : l.self.asked ≤ l.stop;
+  plans : Plans l.self.asked (g.H.Finder.plan l.fn.helper) (g.H.Finder.plan l.helper);
+  visits : l.self.asked ≤ l.self.count;
   skips : l.self.skipped ≤ l.self.count;
   hit : l.self.hits ≤ l.self.count;
   unset : IsNone l.pc → l.helper ≡ l.fn.helper;
@@ -29,4 +33,4 @@ invariant-loop-self g l = record {
 }
 
 abbrev pub decreases-loop-self : goal.decreases-loop-self
-decreases-loop-self g l = 2 * (l.limit - l.self.count) + (1 - (l.stop - l.self.count))
+decreases-loop-self g l = l.limit - l.self.count

@@ -1,0 +1,50 @@
+-- Readers of which one after another is asked.
+use Rattle.std.proofs.Common.{◌≡◌, ℕ, zero, suc, ◌<◌, List, [], ◌∷◌, length, get_or, set, Option, Some, None, refl, ap, sym, ◌∙◌, subst, arith, IfNone, IfSome}
+use Rattle.std.specs.Option.{option_or}
+use Rattle.asc_model.specs.State.{State}
+use Rattle.asc_cache.specs.Cache.{ShardReader, IsLater, AreLater, found_by, first_found}
+use Rattle.asc_cache.proofs.Fronts.{prefix_self, prefix_trans}
+use Rattle.asc_cache.proofs.Rows.{pick, any_default}
+
+pub no-first : (s : State) (left : ℕ) (xs : List ShardReader) → ((k : ℕ) (d : ShardReader) → k < length xs → found_by s left (get_or xs k d) ≡ None) → first_found s left xs ≡ None
+no-first s left [] h = refl
+no-first s left (x ∷ xs) h =
+    ap (λ o. option_or o (first_found s left xs)) (h 0 x (omega arith)) ∙ no-first s left xs (λ k d small. h (suc k) d (omega arith))
+
+pub one-first : (s : State) (left n : ℕ) (xs : List ShardReader) (i : ℕ) → i < length xs → ((d : ShardReader) → found_by s left (get_or xs i d) ≡ Some n)
+    → ((k : ℕ) (d : ShardReader) → k < i → found_by s left (get_or xs k d) ≡ None) → first_found s left xs ≡ Some n
+one-first s left n [] i room here before = absurd (let x : ⊥ = omega arith in x)
+one-first s left n (x ∷ xs) zero room here before = ap (λ o. option_or o (first_found s left xs)) (here x)
+one-first s left n (x ∷ xs) (suc i) room here before =
+    ap (λ o. option_or o (first_found s left xs)) (before 0 x (omega arith)) ∙ one-first s left n xs i (omega arith) here (λ k d small. before (suc k) d (omega arith))
+
+pub is-first : (s : State) (left : ℕ) (m : ℕ) (xs : List ShardReader) (r : Option ℕ) → length xs ≡ m
+    → IfNone r ((k : ℕ) (d : ShardReader) → k < m → found_by s left (get_or xs k d) ≡ None)
+    → IfSome r (λ n. (i : ℕ) × (i < m) × ((d : ShardReader) → found_by s left (get_or xs i d) ≡ Some n)
+    × ((k : ℕ) (d : ShardReader) → k < i → found_by s left (get_or xs k d) ≡ None))
+    → r ≡ first_found s left xs
+is-first s left m xs None same none some = sym (no-first s left xs (λ k d small. none k d (omega (arith, same))))
+is-first s left m xs (Some n) same none some = sym (one-first s left n xs some.0 (omega (arith, same, some.1)) some.2 some.3)
+
+pub unchanged : (x y : ShardReader) → x ≡ y → IsLater x y
+unchanged x y e = subst (IsLater x) e (record { shard = refl; capacity = refl; seen = prefix_self x.seen })
+
+-- one of them is a later one
+pub one-later : (xs : List ShardReader) (i : ℕ) (e y : ShardReader) → i < length xs → IsLater (get_or xs i e) y → (k : ℕ) (d : ShardReader) → IsLater (get_or xs k d) (get_or (set xs i y) k d)
+one-later xs i e y room later k d =
+    pick xs i k y d (IsLater (get_or xs k d)) room
+    (λ same. subst (λ r. IsLater r y) (sym (ap (λ n. get_or xs n d) same ∙ any_default xs i d e room)) later)
+    (λ n. unchanged (get_or xs k d) (get_or xs k d) refl)
+
+pub later-trans : (xs ys zs : List ShardReader) → AreLater xs ys → AreLater ys zs → AreLater xs zs
+later-trans xs ys zs p q = record {
+  count = q.count ∙ p.count;
+  each = λ i d small.
+      let a = p.each i d small in
+      let b = q.each i d (omega (arith, p.count)) in
+      record {
+        shard = b.shard ∙ a.shard;
+        capacity = b.capacity ∙ a.capacity;
+        seen = prefix_trans (get_or xs i d).seen (get_or ys i d).seen (get_or zs i d).seen a.seen b.seen;
+      };
+}

@@ -1,0 +1,32 @@
+-- One more shard that was just opened.
+use Rattle.std.proofs.Common.{◌≡◌, ℕ, zero, suc, ◌+◌, ◌<◌, ◌≤◌, List, [], ◌∷◌, ◌++◌, length, get_or, refl, ap, sym, ◌∙◌, subst, arith, ⊎_elim, length-append}
+use Rattle.std.proofs.lemmas.Bool.{cases_lt}
+use Rattle.asc_cache.specs.Cache.{ShardWriter, ShardReader, IsOpened, AreOpened}
+
+-- a list with one element more, at its old places and at the new one
+old-place : {X : Type 0} (xs : List X) (x d : X) (k : ℕ) → k < length xs → get_or (xs ++ x ∷ []) k d ≡ get_or xs k d
+old-place [] x d k h = absurd (let y : ⊥ = omega arith in y)
+old-place (z ∷ xs) x d zero h = refl
+old-place (z ∷ xs) x d (suc k) h = old-place xs x d k (omega arith)
+
+new-place : {X : Type 0} (xs : List X) (x d : X) → get_or (xs ++ x ∷ []) (length xs) d ≡ x
+new-place [] x d = refl
+new-place (z ∷ xs) x d = new-place xs x d
+
+pub opened-more : (n capacity : ℕ) (ws : List ShardWriter) (rs : List ShardReader) (w : ShardWriter) (r : ShardReader) → AreOpened n capacity ws rs → IsOpened capacity n w r
+    → AreOpened (n + 1) capacity (ws ++ w ∷ []) (rs ++ r ∷ [])
+opened-more n capacity ws rs w r all one = record {
+  writer_count = omega (arith, length-append ws (w ∷ []), all.writer_count);
+  reader_count = omega (arith, length-append rs (r ∷ []), all.reader_count);
+  each = λ i dw dr small. ⊎_elim
+      (λ (h : i < n).
+      subst (λ x. IsOpened capacity i x (get_or (rs ++ r ∷ []) i dr)) (sym (old-place ws w dw i (omega (arith, all.writer_count))))
+      (subst (λ y. IsOpened capacity i (get_or ws i dw) y) (sym (old-place rs r dr i (omega (arith, all.reader_count)))) (all.each i dw dr h)))
+      (λ (h : n ≤ i).
+      let e : i ≡ n = omega arith in
+      let x : get_or (ws ++ w ∷ []) i dw ≡ w = ap (λ k. get_or (ws ++ w ∷ []) k dw) (e ∙ sym all.writer_count) ∙ new-place ws w dw in
+      let y : get_or (rs ++ r ∷ []) i dr ≡ r = ap (λ k. get_or (rs ++ r ∷ []) k dr) (e ∙ sym all.reader_count) ∙ new-place rs r dr in
+      subst (λ v. IsOpened capacity i v (get_or (rs ++ r ∷ []) i dr)) (sym x)
+      (subst (λ v. IsOpened capacity i w v) (sym y) (subst (λ k. IsOpened capacity k w r) (sym e) one)))
+      (cases_lt i n);
+}

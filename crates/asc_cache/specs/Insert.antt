@@ -1,0 +1,15 @@
+-- What an insertion does to a shard's content.
+use Rattle.std.specs.Prelude.{◌≡◌, Result, Ok, Err}
+use Rattle.asc_model.specs.Entry.{Entry}
+use Rattle.asc_shard.specs.Shard.{Shard}
+use Rattle.asc_shard.specs.Content.{add, outcome_of}
+use Rattle.asc_shard.specs.declared.shard.Inserted.{Inserted}
+
+-- a shard after an insertion of an entry
+abbrev pub shard_after : Shard → Entry → Shard
+shard_after s e = record { held = add s.capacity s.held e; capacity = s.capacity }
+
+-- An entry is put into a shard, and what becomes of it is answered. Where memory was wanting the shard stays.
+abbrev pub IsInserted : {F : Type 0} → Result Inserted F → Entry → (old new : Shard) → Type 0
+IsInserted (Ok i) e old new = (i ≡ outcome_of old.held e) × (new ≡ shard_after old e)
+IsInserted (Err _) e old new = new ≡ old

@@ -1,0 +1,4 @@
+pub mod Cache
+pub mod Insert
+pub mod LogRule
+pub mod ShardRule

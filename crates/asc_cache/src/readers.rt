@@ -1,0 +1,202 @@
+ghost use Rattle.std.specs.Prelude.{◌≡◌, ◌<◌, ◌≤◌, ◌^◌, ℕ, [], ◌∷◌, length, slice_index_or, IfNone, IfSome, Some, None};
+ghost use mathlib.Core.List.{IsPrefix};
+ghost use Rattle.asc_traj.specs.Finder.{IsJump, Tells, tally_after};
+ghost use Rattle.asc_shard.specs.Content.{IsContent};
+ghost use Rattle.asc_cache.specs.LogRule.{AreOfOneList};
+ghost use Rattle.asc_cache.specs.Cache.{ShardReader, AreLater, IsLater, IsOwnReader, content_seen, first_found, found_by};
+
+use crate::reader::{ShardReader, Told};
+use crate::writer::ShardWriter;
+use asc_shape::State;
+use asc_traj::Finder;
+use std::marker::Model;
+use std::sync::Wait;
+
+/// The readers of all shards, as one finder.
+///
+/// It keeps the runtime's handle, since a look-up tries again until it is let in. It waits for no writer at work, but
+/// for a writer that was dropped it would wait for ever: a run keeps all writers until it has ended.
+#[derive(Drop)]
+pub struct ShardReaders<R: Wait + Drop> {
+    readers: Vec<ShardReader>,
+    rt: R,
+    asked: u64,
+    given: u64,
+    hits: u64,
+}
+
+impl<R: Wait + Drop> Model for ShardReaders<R> {
+    ghost use Rattle.std.specs.Prelude.{◌≤◌};
+    ghost use Rattle.asc_cache.specs.Cache as model;
+
+    ghost Value = { model.ShardReaders };
+
+    ghost view = { λ r. record {
+      readers = r.readers.items;
+      tally = record { asked = r.asked; given = r.given; hits = r.hits };
+    } };
+
+    ghost invariant = { λ r. r.hits ≤ r.asked };
+}
+
+/// Asks shard after shard, each once, up to the first that finds a jump.
+fn jump_all<R: Wait>(
+    rt: &R,
+    readers: &mut [ShardReader],
+    state: &mut State,
+    left: u64,
+) -> Option<u64>
+    ensures jump { IsJump result left state.old state.new }
+    ensures later { (i : ℕ) (d : ShardReader) → i < length readers.old
+        → IsLater (slice_index_or readers.old i d) (slice_index_or readers.new i d) }
+    ensures none { IfNone result ((i : ℕ) (d : ShardReader) → i < length readers.old
+        → found_by state.old left (slice_index_or readers.new i d) ≡ None) }
+    ensures some { IfSome result (λ n. (i : ℕ) × (i < length readers.old)
+        × ((d : ShardReader) → found_by state.old left (slice_index_or readers.new i d) ≡ Some n)
+        × ((k : ℕ) (d : ShardReader) → k < i → found_by state.old left (slice_index_or readers.new k d) ≡ None)) }
+{
+    for i in 0..readers.len() {
+        if let Some(n) = readers[i].jump(rt, state, left) {
+            return Some(n);
+        }
+    }
+    None
+}
+
+/// The same, with what is found as one equation.
+fn jump_first<R: Wait>(
+    rt: &R,
+    readers: &mut [ShardReader],
+    state: &mut State,
+    left: u64,
+) -> Option<u64>
+    ensures jump { IsJump result left state.old state.new }
+    ensures later { AreLater readers.old readers.new }
+    ensures first { result ≡ first_found state.old left readers.new }
+{
+    jump_all(rt, readers, state, left)
+}
+
+impl<R: Wait + Drop> ShardReaders<R> {
+    /// Readers that were not asked yet.
+    pub(crate) fn of(rt: R, readers: Vec<ShardReader>) -> ShardReaders<R>
+        ensures { result ≡ record { readers = readers.items; tally = record { asked = 0; given = 0; hits = 0 } } }
+    {
+        ShardReaders {
+            readers,
+            rt,
+            asked: 0,
+            given: 0,
+            hits: 0,
+        }
+    }
+
+    /// How many shards there are.
+    pub fn shards(&self) -> usize
+        ensures { result ≡ length self.now.readers }
+    {
+        self.readers.len()
+    }
+
+    /// The reader of a shard takes in what its writer told: it waits until it has seen as much. From now on it sees no
+    /// less.
+    pub fn learn(&mut self, told: Told)
+        requires there { told.index < length self.old.readers }
+        requires shard { (d : ShardReader) → told.shard ≡ (slice_index_or self.old.readers told.index d).shard }
+        ensures told { (d : ShardReader) → IsPrefix told.stored (slice_index_or self.new.readers told.index d).seen }
+        ensures later { AreLater self.old.readers self.new.readers }
+        ensures tally { self.new.tally ≡ self.old.tally }
+    {
+        let index = told.index();
+        self.readers[index].learn(&self.rt, told);
+    }
+
+    /// The writer of a shard tells, and its reader learns: it has then seen all that is stored.
+    pub fn meet<Q: Wait + Drop>(&mut self, writer: &ShardWriter<Q>)
+        requires { IsOwnReader writer.now self.old.readers }
+        ensures seen { (d : ShardReader)
+            → IsPrefix writer.now.stored (slice_index_or self.new.readers writer.now.index d).seen }
+        ensures later { AreLater self.old.readers self.new.readers }
+        ensures tally { self.new.tally ≡ self.old.tally }
+    {
+        self.learn(writer.tell());
+    }
+
+    /// Of what is stored in a shard and what its reader has seen the shorter begins the longer. It does nothing.
+    pub fn compare<Q: Wait + Drop>(&self, writer: &ShardWriter<Q>)
+        requires { IsOwnReader writer.now self.now.readers }
+        ensures { (d : ShardReader)
+            → AreOfOneList writer.now.stored (slice_index_or self.now.readers writer.now.index d).seen }
+    {
+        let told = writer.tell();
+        self.readers[told.index()].compare(&told);
+    }
+
+    /// How many insertions the reader of a shard has seen.
+    pub fn seen(&self, i: usize) -> u64
+        requires { i < length self.now.readers }
+        ensures { (d : ShardReader) → result ≡ length (slice_index_or self.now.readers i d).seen }
+    {
+        self.readers[i].seen()
+    }
+
+    /// It does nothing. A caller's proof learns from it what holds of what a reader has seen.
+    pub fn truth(&self, i: usize)
+        requires { i < length self.now.readers }
+        ensures { (d : ShardReader) → IsContent (slice_index_or self.now.readers i d).capacity
+            (content_seen (slice_index_or self.now.readers i d)) }
+    {
+        self.readers[i].truth();
+    }
+}
+
+impl<R: Wait + Drop> Finder for ShardReaders<R> {
+    ghost use Rattle.asc_traj.specs.Serial.{Serial, serial_reply};
+    ghost use Rattle.asc_cache.specs.Cache.{machine_of, plan_of, replies_of};
+
+    ghost tally = { λ s. s.tally };
+
+    ghost replies = { replies_of };
+
+    ghost plan = { plan_of };
+
+    ghost machine = { machine_of };
+
+    fn jump(&mut self, state: &mut State, left: u64) -> Option<u64>
+        requires left { left ≤ 2 ^ 40 }
+        requires asked { self.old.tally.asked < 2 ^ 62 }
+        requires given { self.old.tally.given < 2 ^ 62 }
+
+        // What every finder's jump is.
+        ensures jump { IsJump result left state.old state.new }
+        ensures tally { self.new.tally ≡ tally_after self.old.tally result }
+        ensures replies { Tells (result ∷ []) (replies_of self.old) (replies_of self.new) }
+        ensures plan { plan_of self.new ≡ plan_of self.old }
+        ensures machine { machine_of self.new ≡ machine_of self.old }
+        ensures longest { (m : Serial) → machine_of self.old ≡ Some m → result ≡ serial_reply m state.old left }
+
+        // Each shard is asked at its turn, and sees no less than before. The first that finds a jump gives it.
+        ensures later { AreLater self.old.readers self.new.readers }
+        ensures first { result ≡ first_found state.old left self.new.readers }
+    {
+        let found = jump_first(&self.rt, &mut self.readers, state, left);
+        self.asked += 1;
+        if let Some(steps) = found {
+            self.given += steps;
+            self.hits += 1;
+        }
+        found
+    }
+
+    fn asked(&self) -> u64 {
+        self.asked
+    }
+
+    fn given(&self) -> u64 {
+        self.given
+    }
+
+    fn hits(&self) -> u64 {
+        self.hits
+    }
+}

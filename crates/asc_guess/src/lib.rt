@@ -1,0 +1,14 @@
+//! At which address a run is visited, and what is guessed of later visits.
+#![tactic(auto)]
+
+mod choosing;
+mod guessing;
+mod kind;
+#[cfg(test)]
+mod tests;
+mod visits;
+
+pub use choosing::choose;
+pub use guessing::guess;
+pub use kind::Kind;
+pub use visits::targets;

@@ -1,0 +1,151 @@
+-- The marks of a run by what is recognised, and the steps of which an address is chosen.
+use Rattle.std.proofs.Common.{◌≡◌, ◌≤◌, ◌<◌, ◌+◌, ◌-◌, ℕ, Bool, true, false, ◌&&◌, nat_le, List, [], ◌∷◌, ◌++◌, length, length-append, slice_index_or, Option, Some, None, refl, sym, ap, ◌∙◌, subst, arith, add-one, inl, inr}
+use Rattle.std.proofs.lemmas.Bool.{cases_lt}
+use Rattle.std.proofs.lemmas.Bool.Decides.{nat_tests}
+use Rattle.std.proofs.lemmas.List.{get_or_append_left, get_or-append-add}
+use Rattle.asc_model.specs.State.{State}
+use Rattle.asc_model.specs.Machine.{view_of}
+use Rattle.asc_model.specs.Step.{At}
+use Rattle.asc_model.specs.Plain.{plain}
+use Rattle.asc_calls.specs.GuestCall.{Device}
+use Rattle.asc_calls.specs.World.{CallState, Faults, World, world}
+use Rattle.asc_outside.specs.Outside.{Given}
+use Rattle.asc_guess.specs.Choice.{CountsRise, chosen_address}
+use Rattle.asc_run.specs.declared.recognised.Recognised.{Recognised}
+use Rattle.asc_run.specs.declared.recognised.Recognised.TheVariants as recognised
+use Rattle.asc_run.specs.declared.walk.Ended.{Ended}
+use Rattle.asc_run.specs.Execution.{Progress, Position, On, Off, device_of}
+use Rattle.asc_run.specs.Turn.{Turns, TurnFails}
+use Rattle.asc_run.specs.Visits.{Course, IsMarkedFrom, HasNoMark, goes_on_at, is_mark, pair_at, profile_of}
+use Rattle.asc_run.specs.Helped.{Aid, HasVisits}
+use Rattle.asc_run.specs.Way.{Reaches, ComesUnmarked}
+use Rattle.asc_run.specs.Walk.{GoesHelped, StopsAt}
+use Rattle.asc_run.proofs.Reach.{IsOff, Leads, Reaches-first_position, Reaches-says, Reaches-steps, Follows-turn, StopsAt-fails}
+use Rattle.asc_run.proofs.Marks.{goes_on_at-off}
+use Rattle.asc_run.proofs.Landings.{Helped-none}
+
+-- no count is below 0
+none_below : (n : ℕ) → n ≡ 0 → (mark : ℕ → Bool) → HasNoMark mark 0 n
+none_below n none mark count _ below = absurd (let no : ⊥ = omega (arith, below, none) in no)
+
+no_address : (p : Progress) → goes_on_at None p ≡ false
+no_address (On position) = refl
+no_address (Off count ended last) = refl
+
+-- a program that has not begun has come nowhere, where no address is recognised, and where this one is
+pub comes-nowhere : (limit : ℕ) (r : Recognised) (w : World) (n : ℕ) → r ≡ recognised.Nowhere → w.calls.ended ≡ false → w.calls.brk ≡ w.calls.low → n ≡ 0 → ComesUnmarked limit (is_mark r) None w w n
+comes-nowhere limit r w n is going brk none = rw is
+    (Reaches-first_position (λ run. IsMarkedFrom limit n None (is_mark recognised.Nowhere run) run) w n (λ run. record { none = none_below n none _; later = λ count _ _. sym (no_address (run count)) }) going brk none)
+
+pub comes-at : (limit address : ℕ) (r : Recognised) (w : World) (n : ℕ) → r ≡ recognised.At address → w.calls.ended ≡ false → w.calls.brk ≡ w.calls.low → n ≡ 0 → ComesUnmarked limit (is_mark r) (Some address) w w n
+comes-at limit address r w n is going brk none = rw is
+    (Reaches-first_position (λ run. IsMarkedFrom limit n (Some address) (is_mark (recognised.At address) run) run) w n (λ run. record { none = none_below n none _; later = λ _ _ _. refl }) going brk none)
+
+-- a count of which the address is noted is no mark
+first_count : (profile least : ℕ) (run : Course) (count : ℕ) → count < profile → is_mark (recognised.Chosen profile least) run count ≡ false
+first_count profile least run count below =
+    let early : nat_le profile count ≡ false = grind (arith, nat_tests) in
+    ap (λ b. b && goes_on_at (chosen_address (profile_of run profile) least) (run count)) early
+
+no_and : (b c : Bool) → c ≡ false → (b && c) ≡ false
+no_and true c is = is
+no_and false c is = refl
+
+-- where a run has ended there is no mark
+ended_count : (profile least : ℕ) (run : Course) (count : ℕ) → IsOff (run count) → is_mark (recognised.Chosen profile least) run count ≡ false
+ended_count profile least run count off = no_and (nat_le profile count) _ (goes_on_at-off (chosen_address (profile_of run profile) least) (run count) off)
+
+-- one address more
+profile_of-more : (run : Course) (n : ℕ) (r : Position) (s : State) → r.state ≡ s → run n ≡ On r → profile_of run (n + 1) ≡ profile_of run n ++ ((view_of s).pc, n) ∷ []
+unfolding profile_of
+profile_of-more run n r s is at =
+    ap (profile_of run) (add-one n) ∙ ap (λ p. profile_of run n ++ pair_at n p) at ∙ ap (λ (t : State). profile_of run n ++ ((view_of t).pc, n) ∷ []) is
+
+pub noted-more : (notes after : List (ℕ × ℕ)) (n pc : ℕ) (s : State) → after ≡ notes ++ (pc, n) ∷ [] → pc ≡ (view_of s).pc → Leads (λ run. notes ≡ profile_of run n) (λ run. after ≡ profile_of run (n + 1)) s n
+noted-more notes after n pc s is pc_is run r same at so_far =
+    is ∙ ap (λ l. l ++ (pc, n) ∷ []) so_far ∙ ap (λ p. profile_of run n ++ (p, n) ∷ []) pc_is ∙ sym (profile_of-more run n r s same at)
+
+-- one address more is noted, and plain steps are taken that are counted
+pub noted-plain : (notes after : List (ℕ × ℕ)) (pc : ℕ) (low high : ℕ) (start : State) (old : World) (s t : State) (calls calls' : CallState) (left : Option (List ℕ)) (out err : Given) (steps steps' : ℕ) (faults : Faults) (n n' : ℕ)
+    → after ≡ notes ++ (pc, n) ∷ [] → pc ≡ (view_of s).pc → calls' ≡ calls → steps' ≡ steps + (n' - n) → n ≤ n' → plain (n' - n) s ≡ At t
+    → Reaches (λ run. notes ≡ profile_of run n) low high start old (world s calls left out err steps faults) n 0
+    → Reaches (λ run. after ≡ profile_of run (n + 1)) low high start old (world t calls' left out err steps' faults) n' 0
+noted-plain notes after pc low high start old s t calls calls' left out err steps steps' faults n n' is pc_is same counted grows goes way =
+    let sum : n + (n' - n) ≡ n' = omega arith in
+    let more = Reaches-says _ _ low high start old (world s calls left out err steps faults) n 0 way (noted-more notes after n pc s is pc_is) in
+    rw (same, counted) (subst (λ m. Reaches (λ run. after ≡ profile_of run (n + 1)) low high start old (world t calls left out err (steps + (n' - n)) faults) m 0) sum
+    (Reaches-steps _ low high start old s t calls left out err steps faults n (n' - n) 0 more goes))
+
+-- so much is noted of as many counts
+pub noted-counts : (after : List (ℕ × ℕ)) (low high : ℕ) (start : State) (old now : World) (m d : ℕ) → m ≡ d → Reaches (λ run. after ≡ profile_of run m) low high start old now d 0
+    → Reaches (λ run. after ≡ profile_of run d) low high start old now d 0
+noted-counts after low high start old now m d same way = subst (λ k. Reaches (λ run. after ≡ profile_of run k) low high start old now d 0) same way
+
+-- nothing is noted of no count
+pub noted-none : (w : World) (n : ℕ) (notes : List (ℕ × ℕ)) → notes ≡ [] → w.calls.ended ≡ false → w.calls.brk ≡ w.calls.low → n ≡ 0
+    → Reaches (λ run. notes ≡ profile_of run n) w.calls.low w.calls.high w.state w w n 0
+unfolding profile_of
+noted-none w n notes is going brk none =
+    Reaches-first_position (λ run. notes ≡ profile_of run n) w n (λ run. is ∙ ap (profile_of run) (sym none)) going brk none
+
+-- each note has its count
+abbrev pub AreNumbered : List (ℕ × ℕ) → Type 0
+AreNumbered notes = (k : ℕ) (d : ℕ × ℕ) → k < length notes → (slice_index_or notes k d).1 ≡ k
+
+pub numbered-none : (notes : List (ℕ × ℕ)) → notes ≡ [] → AreNumbered notes
+numbered-none notes is k d below = absurd (let no : ⊥ = omega (arith, below, ap length is) in no)
+
+pub numbered-more : (notes after : List (ℕ × ℕ)) (pc n : ℕ) → after ≡ notes ++ (pc, n) ∷ [] → length notes ≡ n → AreNumbered notes → AreNumbered after
+numbered-more notes after pc n is long so_far = subst AreNumbered (sym is) (λ k d below. elim (cases_lt k (length notes)) [
+  | inl x ↦ ap (λ p. p.1) (get_or_append_left notes ((pc, n) ∷ []) d k x) ∙ so_far k d x
+  | inr x ↦
+      let last : k ≡ length notes + 0 = omega (arith, length-more notes (pc, n), below) in
+      ap (λ i. (slice_index_or (notes ++ (pc, n) ∷ []) i d).1) last ∙ ap (λ p. p.1) (get_or-append-add notes ((pc, n) ∷ []) 0 d) ∙ omega (arith, long, last)
+])
+  where
+    length-more : (xs : List (ℕ × ℕ)) (x : ℕ × ℕ) → length (xs ++ x ∷ []) ≡ length xs + 1
+    length-more xs x = length-append xs (x ∷ [])
+
+pub long-more : (notes after : List (ℕ × ℕ)) (pair : ℕ × ℕ) (n m : ℕ) → after ≡ notes ++ pair ∷ [] → length notes ≡ n → m ≡ n + 1 → length after ≡ m
+long-more notes after pair n m is long one = omega (arith, ap length is, length-append notes (pair ∷ []), long, one)
+
+pub counts_rise : (notes : List (ℕ × ℕ)) → AreNumbered notes → CountsRise notes
+counts_rise notes numbered k d below =
+    let here = numbered k d (omega arith) in let next = numbered (k + 1) d below in omega (arith, here, next)
+
+-- what is chosen once the first counts are past
+pub comes-chosen : (limit profile least : ℕ) (address : Option ℕ) (notes : List (ℕ × ℕ)) (old now : World) (n : ℕ) → n ≤ profile → (n < limit → n ≡ profile) → address ≡ chosen_address notes least
+    → Reaches (λ run. notes ≡ profile_of run n) old.calls.low old.calls.high old.state old now n 0
+    → ComesUnmarked limit (is_mark (recognised.Chosen profile least)) address old now n
+comes-chosen limit profile least address notes old now n within whole chosen way =
+    Reaches-says _ _ old.calls.low old.calls.high old.state old now n 0 way (λ run _ _ _ noted. record {
+      none = λ count _ below. first_count profile least run count (omega arith);
+      later = λ count from below.
+          let all : n ≡ profile = whole (omega arith) in
+          let past : nat_le profile count ≡ true = grind (arith, nat_tests) in
+          let same : chosen_address (profile_of run profile) least ≡ address =
+          ap (λ m. chosen_address (profile_of run m) least) (sym all) ∙ ap (λ l. chosen_address l least) (sym noted) ∙ sym chosen in
+          ap (λ b. b && goes_on_at (chosen_address (profile_of run profile) least) (run count)) past ∙ ap (λ a. goes_on_at a (run count)) same;
+    })
+
+-- a turn that ends a program in its first counts
+pub ends-early : (limit profile least : ℕ) (Q : Course → Type 0) (old now new : World) (n d k : ℕ) (ended : Ended) (a : Aid) → n < limit → n < profile → k ≡ 0
+    → Reaches Q old.calls.low old.calls.high old.state old now n 0
+    → (device_of ended ≡ None → Turns now new n d (Some ended)) → ((device : Device) → device_of ended ≡ Some device → TurnFails now new device) → ((device : Device) → device_of ended ≡ Some device → d ≡ n)
+    → GoesHelped limit (is_mark (recognised.Chosen profile least)) old new a a d k ended
+ends-early limit profile least Q old now new n d k ended a below early none way turn fails count = record {
+  visits = [];
+  helped = Helped-none a;
+  goes = rw none (record {
+    follows = λ h. Follows-turn Q _ limit old now new n d 0 ended way below (turn h) (λ run r e at off q. visits_none limit run (λ m _ l. elim (cases_lt m profile) [
+      | inl x ↦ first_count profile least run m x
+      | inr x ↦ ended_count profile least run m (off m (omega arith))
+    ]));
+    stops = λ device h.
+        subst (λ x. StopsAt limit (HasVisits limit (is_mark (recognised.Chosen profile least)) old.state [] a a (x + 1)) old new x 0 device) (sym (count device h))
+        (StopsAt-fails Q _ limit old now new n 0 device way below (fails device h) (λ run _ _ _ q. visits_none (n + 1) run (λ m _ l. first_count profile least run m (omega arith))));
+  });
+}
+  where
+    visits_none : (to : ℕ) (run : Course) → HasNoMark (is_mark (recognised.Chosen profile least) run) 0 to → HasVisits limit (is_mark (recognised.Chosen profile least)) old.state [] a a to run
+    visits_none to run marks = record { are = marks; serial = λ m told shape memory. (m, 0, told, refl, ((refl, refl), omega arith)) }

@@ -1,0 +1,78 @@
+-- A helper that is the machine of a run without workers.
+use Rattle.std.specs.Prelude.{◌≡◌, ◌≢◌, ◌⊎◌, ℕ, ◌+◌, ◌-◌, ◌^◌, nat_lt, List, [], length, Option, Some, None, if◌then◌else◌}
+use Rattle.std.specs.Arc.{arc_value}
+use Rattle.asc_model.specs.Shape.{Shape}
+use Rattle.asc_model.specs.State.{State}
+use Rattle.asc_outside.specs.Outside.{one_more}
+use Rattle.asc_traj.specs.declared.guessing.Guessing.{Guessing}
+use Rattle.asc_traj.specs.Finder.{Tally, Plan}
+use Rattle.asc_traj.specs.Serial.{Serial}
+use Rattle.asc_shard.specs.Content.{add}
+use Rattle.asc_run.specs.declared.made.Made.{Made}
+use Rattle.asc_run.specs.declared.made.Made.TheVariants.{One, Empty, Refused}
+use Rattle.asc_run.specs.Walk.{tally}
+use Rattle.asc_run.specs.SerialRun.{serial_of}
+use Rattle.asc_run.specs.Serial.{Task, tasks_of, serial_capacity}
+
+-- the machine, the guesses that were planned at the last visit, and what was counted
+pub record SerialHelper : Type 0 where
+  pub machine : Serial
+  pub jobs : List Task
+  pub tally : Tally
+  pub made : ℕ
+  pub refused : ℕ
+
+-- one that was not visited yet
+abbrev pub first_helper : Shape → Guessing → SerialHelper
+first_helper shape guessing =
+    record { machine = serial_of shape guessing []; jobs = []; tally = tally 0 0 0; made = 0; refused = 0 }
+
+-- what was made for it, as a finder tells it
+abbrev pub plan_of : SerialHelper → Plan
+plan_of h = record { made = h.made; refused = h.refused; full = 0; seen = None }
+
+-- The machine, as a finder tells it. It is told until the count of refusals stands at its last value.
+abbrev pub told_machine : SerialHelper → Option Serial
+told_machine h = if nat_lt h.refused (2 ^ 64 - 1) then Some h.machine else None
+
+-- the guesses of a visit, where there was one before
+abbrev pub jobs_at : (number : ℕ) → Serial → List Task
+jobs_at number m = elim m.last [ Some last ↦ tasks_of m.guessing m.issued number | None ↦ [] ]
+
+-- the last visit that is guessed once those guesses are made
+abbrev pub issued_at : (number : ℕ) → Serial → ℕ
+issued_at number m = elim m.last [ Some last ↦ number + m.guessing.ahead | None ↦ m.issued ]
+
+-- a visit was planned: the state is kept, and its guesses are to be made
+abbrev pub planned : (number : ℕ) → State → SerialHelper → SerialHelper
+planned number now h = record h {
+  machine = record h.machine { prev = h.machine.last; last = Some now; issued = issued_at number h.machine };
+  jobs = jobs_at number h.machine;
+  made = h.made + length (jobs_at number h.machine);
+}
+
+-- memory was wanting for the state: both states are given up, and nothing is to be made
+abbrev pub refused_visit : SerialHelper → SerialHelper
+refused_visit h = record h {
+  machine = record h.machine { prev = None; last = None };
+  jobs = [];
+  refused = one_more h.refused;
+}
+
+-- a visit at a state of another shape: nothing is to be made
+abbrev pub passed_over : SerialHelper → SerialHelper
+passed_over h = record h { jobs = [] }
+
+-- The visit of a state of the machine's shape was planned, or memory was wanting. One of another shape is passed over.
+abbrev pub IsPlanned : (number : ℕ) → State → (old new : SerialHelper) → Type 0
+IsPlanned number now old new =
+    ((now.shape ≡ old.machine.shape) × ((new ≡ planned number now old) ⊎ (new ≡ refused_visit old)))
+    ⊎ ((now.shape ≢ old.machine.shape) × (new ≡ passed_over old))
+
+-- what became of a guess is noted: an entry is added
+abbrev pub settled : SerialHelper → Made → SerialHelper
+settled h (One entry) = record h {
+  machine = record h.machine { content = add serial_capacity h.machine.content (arc_value entry) };
+}
+settled h Empty = h
+settled h Refused = record h { refused = one_more h.refused }

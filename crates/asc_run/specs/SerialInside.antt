@@ -1,0 +1,75 @@
+-- Words of private contracts: what a serial helper holds.
+use Rattle.std.specs.Prelude.{◌≡◌, ℕ, ◌+◌, ◌≤◌, ◌<◌, ◌^◌, ◌-◌, List, map, slice_index_or, vec_capacity, vec_len, Option, Some, None}
+use Rattle.std.specs.List.{flat_map, range_with_len}
+use Rattle.asc_model.specs.Shape.{Shape}
+use Rattle.asc_model.specs.State.{State}
+use Rattle.asc_guess.specs.declared.kind.Kind.{Kind}
+use Rattle.asc_guess.specs.Guess.{guess_of}
+use Rattle.asc_traj.specs.declared.guessing.Guessing.{Guessing}
+use Rattle.asc_run.specs.declared.seen.Seen.{Seen}
+use Rattle.asc_run.specs.declared.seen.Seen.TheVariants as seen
+use Rattle.asc_run.specs.declared.serial.Serial.TheInside.{Inside}
+use Rattle.asc_run.specs.Walk.{tally}
+use Rattle.asc_run.specs.declared.made.Made.{Made}
+use Rattle.asc_run.specs.Made.{IsMade}
+use Rattle.asc_run.specs.Serial.{Task, kinds_of, bounds_at, serial_capacity}
+use Rattle.asc_run.specs.SerialHelper.{SerialHelper}
+
+-- the state of the last visit, and that of the one before
+abbrev pub last_of : Seen → Option State
+last_of seen.Nothing = None
+last_of (seen.One last) = Some last.value
+last_of (seen.Two pair) = Some pair.last
+
+abbrev pub prev_of : Seen → Option State
+prev_of seen.Nothing = None
+prev_of (seen.One last) = None
+prev_of (seen.Two pair) = Some pair.prev
+
+-- what was seen is of this shape
+abbrev pub AreOfShape : Shape → Seen → Type 0
+AreOfShape shape seen.Nothing = Unit {0}
+AreOfShape shape (seen.One last) = last.value.shape ≡ shape
+AreOfShape shape (seen.Two pair) = (pair.prev.shape ≡ shape) × (pair.last.shape ≡ shape)
+
+-- the guesses of these targets
+abbrev pub tasks_for : Guessing → (number start n : ℕ) → List Task
+tasks_for g number start n = flat_map (λ target. map (λ kind. (kind, target - number)) (kinds_of g)) (range_with_len start n)
+
+-- what contracts see of a helper's fields
+abbrev pub helper_of : Inside → SerialHelper
+helper_of s = record {
+  machine = record {
+    shape = s.shape;
+    guessing = s.guessing;
+    prev = prev_of s.seen;
+    last = last_of s.seen;
+    issued = s.issued;
+    content = s.shard.held;
+  };
+  jobs = s.jobs.items;
+  tally = tally s.asked s.given s.hits;
+  made = s.made;
+  refused = s.refused;
+}
+
+-- what holds of them
+pub record IsHelper (s : Inside) : Type 0 where
+  pub seen : AreOfShape s.shape s.seen
+  pub tracer_shape : s.tracer.shape ≡ s.shape
+  pub state_shape : s.tracer.state.shape ≡ s.shape
+  pub cap : s.tracer.cap ≡ 4096
+  pub capacity : s.shard.capacity ≡ serial_capacity
+  pub laps : 1 ≤ s.guessing.laps
+  pub span : 1 ≤ s.guessing.span
+  pub ahead : s.guessing.ahead ≤ 64
+  pub issued : s.issued ≤ 2 ^ 41
+  pub room : 128 ≤ vec_capacity s.jobs
+  pub few : vec_len s.jobs ≤ 128
+  pub hits : s.hits ≤ s.asked
+
+-- this became of a job of a helper
+abbrev pub MakesJob : SerialHelper → (i : ℕ) → Made → Type 0
+MakesJob h i made = (prev last : State) → h.machine.prev ≡ Some prev → h.machine.last ≡ Some last
+    → (kind : Kind) (ahead : ℕ) → slice_index_or h.jobs i (kind, ahead) ≡ (kind, ahead)
+    → IsMade (bounds_at h.machine.guessing last) (guess_of kind ahead prev last) made

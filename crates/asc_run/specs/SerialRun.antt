@@ -1,0 +1,38 @@
+-- A run without workers: its machine at first, and its numbers.
+use Rattle.std.specs.Prelude.{◌≡◌, ℕ, ◌+◌, Bool, List, [], None}
+use Rattle.asc_model.specs.Shape.{Shape}
+use Rattle.asc_model.specs.Entry.{Entry}
+use Rattle.asc_traj.specs.declared.guessing.Guessing.{Guessing}
+use Rattle.asc_traj.specs.Serial.{Serial}
+use Rattle.asc_run.specs.Execution.{Run, run_of}
+use Rattle.asc_run.specs.Visits.{Course, Visit, AreVisits, tally_of}
+use Rattle.asc_run.specs.Helped.{IsSerial}
+use Rattle.asc_run.specs.Walk.{tally}
+
+-- the machine before its first visit, with this content
+abbrev pub serial_of : Shape → Guessing → (content : List Entry) → Serial
+serial_of shape guessing content =
+    record { shape = shape; guessing = guessing; prev = None; last = None; issued = 0; content = content }
+
+-- What is told of a run: the steps that were executed and those that were jumped over, the visits, the jumps, and the
+-- guesses that were made.
+pub record Numbers : Type 0 where
+  pub executed : ℕ
+  pub skipped : ℕ
+  pub asked : ℕ
+  pub hits : ℕ
+  pub made : ℕ
+
+-- These are the numbers of a run without workers, with guesses of this kind, from no entry on.
+pub record IsSerialRun (limit : ℕ) (mark : ℕ → Bool) (run : Course) (shape : Shape) (guessing : Guessing)
+    (numbers : Numbers) : Type 0 where
+  -- its visits up to the limit: at each the machine learns of the state, and then gives the reply
+  pub visits : List Visit
+  pub are : AreVisits limit run mark visits limit
+  -- the machine at its end, and the guesses that it made
+  pub now : Serial
+  pub serial : IsSerial limit run (serial_of shape guessing []) visits now numbers.made
+  -- how many visits there were, how many steps their jumps gave, and how many jumps there were
+  pub tally : tally_of visits (tally 0 0 0) ≡ tally numbers.asked numbers.skipped numbers.hits
+  -- the other steps of the run were executed
+  pub executed : numbers.executed + numbers.skipped ≡ (run_of limit (run limit)).count

@@ -1,0 +1,160 @@
+ghost use Rattle.std.specs.Prelude.{◌≤◌};
+
+use crate::serial::MOST_AHEAD;
+use crate::tests::{COUNTING, run};
+use crate::{Counts, Ended, Helper, MOST_STEPS, Made, Recognised, Serial, Settings};
+use asc_guess::Kind;
+use asc_shape::{Shape, State};
+use asc_traj::{Finder, Guessing};
+use std::marker::Brand;
+use std::process::Abort;
+use std::sync::ledger::Blank;
+
+/// The kinds that are on, two visits ahead.
+fn two_ahead(last: bool, stride: bool) -> Guessing
+    ensures laps { 1 ≤ result.laps }
+    ensures span { 1 ≤ result.span }
+    ensures ahead { result.ahead ≤ MOST_AHEAD }
+{
+    Guessing {
+        last,
+        stride,
+        laps: 1,
+        span: 1_000_000,
+        ahead: 2,
+    }
+}
+
+/// Of the loop that counts: which kinds are on, and the limit, and then how the run ends, its numbers, and how many
+/// guesses were made.
+static RUNS: [(bool, bool, u64, Ended, Counts, u64); 5] = [
+    (
+        false,
+        true,
+        MOST_STEPS,
+        Ended::Exit(0),
+        Counts {
+            count: 13,
+            executed: 7,
+            skipped: 6,
+            asked: 4,
+            hits: 2,
+        },
+        4,
+    ),
+    (
+        true,
+        true,
+        MOST_STEPS,
+        Ended::Exit(0),
+        Counts {
+            count: 13,
+            executed: 5,
+            skipped: 8,
+            asked: 4,
+            hits: 3,
+        },
+        8,
+    ),
+    (
+        false,
+        true,
+        12,
+        Ended::Limit,
+        Counts {
+            count: 12,
+            executed: 6,
+            skipped: 6,
+            asked: 4,
+            hits: 2,
+        },
+        4,
+    ),
+    (
+        false,
+        true,
+        11,
+        Ended::Limit,
+        Counts {
+            count: 11,
+            executed: 9,
+            skipped: 2,
+            asked: 4,
+            hits: 1,
+        },
+        4,
+    ),
+    (
+        false,
+        false,
+        MOST_STEPS,
+        Ended::Exit(0),
+        Counts {
+            count: 13,
+            executed: 13,
+            skipped: 0,
+            asked: 4,
+            hits: 0,
+        },
+        0,
+    ),
+];
+
+/// Where an allocation fails in a visit, the answer is the same, and the refusal is counted.
+#[test]
+fn runs_alone(rt: HostRuntime) {
+    let alloc = rt.alloc();
+    let shape = Shape::new(0x10000, 65_536).expect(&rt, "a shape");
+    for (last, stride, limit, ended, counts, made) in RUNS {
+        let mut serial = Serial::new(alloc, shape, two_ahead(last, stride)).expect(&rt, "memory");
+        let settings = Settings {
+            limit,
+            recognised: Recognised::At(0x10008),
+        };
+        let got = run::<_, Brand, _>(&rt, alloc, Blank::new(1), &COUNTING, settings, &mut serial);
+        assert_eq!(rt;
+            (got.0, got.1.count, got.1.asked),
+            (ended, counts.count, counts.asked)
+        );
+        if serial.refused() == 0 {
+            assert_eq!(rt;
+                (got.1, serial.made()),
+                (counts, made),
+                "with limit {limit}"
+            );
+        }
+        assert_eq!(rt; serial.full(), 0);
+    }
+}
+
+/// A visit's calls, as another runner makes them, which can do none of the jobs.
+#[test]
+fn plans(rt: HostRuntime) {
+    let alloc = rt.alloc();
+    let shape = Shape::new(0x10000, 65_536).expect(&rt, "a shape");
+    let mut serial = Serial::new(alloc, shape, two_ahead(true, true)).expect(&rt, "memory");
+    let state = State::new(alloc, shape).expect(&rt, "memory");
+    assert_eq!(rt; serial.plan(&state, 1), 0);
+    assert!(rt; serial.pair().is_none());
+    assert_eq!(rt; serial.plan(&state, 2), 4);
+    assert!(rt; serial.pair().is_some());
+    // The jobs' kinds, and how far ahead they are.
+    for (i, job) in [
+        (Kind::Last, 1),
+        (Kind::Stride, 1),
+        (Kind::Last, 2),
+        (Kind::Stride, 2),
+    ]
+    .into_iter()
+    .enumerate()
+    {
+        assert_eq!(rt; serial.job(i), job);
+    }
+    serial.settle(Made::Empty);
+    serial.settle(Made::Refused);
+    assert_eq!(rt;
+        (serial.made(), serial.refused(), serial.asked()),
+        (4, 1, 0)
+    );
+    assert_eq!(rt; serial.content().len(), 0);
+}

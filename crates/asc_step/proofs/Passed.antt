@@ -1,0 +1,49 @@
+-- Steps one after another: one more, and what they pass.
+use Rattle.std.proofs.Common.{◌≡◌, ◌+◌, ◌<◌, ◌≤◌, ℕ, sym, ap, ◌∙◌, arith, subst, inl, inr}
+use Rattle.std.proofs.lemmas.Bool.{cases_lt}
+use Rattle.std.specs.Prelude.{◌≢◌}
+use Rattle.asc_model.specs.State.{State}
+use Rattle.asc_model.specs.Machine.{view_of}
+use Rattle.asc_model.specs.Plain.{plain}
+use Rattle.asc_model.specs.Step.{Next, At, Call, Bad, next}
+use Rattle.asc_model.proofs.PlainSteps.{plain-zero, plain_steps_join, plain-suc_next}
+use Rattle.asc_step.specs.Step.{PassesBy, stepped_of, state_after_step}
+use Rattle.asc_step.specs.declared.stepped.Stepped.{Stepped}
+use Rattle.asc_step.specs.declared.stepped.Stepped.TheVariants.{Went}
+
+-- where a step went on, it led to the state that it left
+led : (x : Next) (before after : State) → Went ≡ stepped_of x → after ≡ state_after_step x before
+    → x ≡ At after
+led (At now) before after answer left = ap At (sym left)
+led Call before after answer left = absurd (cc)
+led (Bad fault) before after answer left = absurd (cc)
+
+-- one step more
+pub plain-more : (count : ℕ) (start before after : State) (answer : Stepped) → plain count start ≡ At before → answer ≡ Went → answer ≡ stepped_of (next before)
+    → after ≡ state_after_step (next before) before → plain (count + 1) start ≡ At after
+plain-more count start before after answer so_far went answered left =
+    plain_steps_join count 1 start before so_far
+    ∙ plain-suc_next 0 before (At after) (led (next before) before after (sym went ∙ answered) left)
+    ∙ plain-zero after
+
+same_state : (s t : State) → At s ≡ At t → s ≡ t
+same_state s t e = cc
+
+-- no step, and one, pass nothing
+pub PassesBy-one : (start : State) (pc : ℕ) → PassesBy start pc 1
+PassesBy-one start pc k least below after goes at = omega arith
+
+-- one step more that does not lead to the pc
+pub PassesBy-more : (start after : State) (pc count : ℕ) → PassesBy start pc (count + 1) → plain (count + 1) start ≡ At after → (view_of after).pc ≢ pc
+    → PassesBy start pc (count + 1 + 1)
+PassesBy-more start after pc count so_far goes past k least below last went at = elim (cases_lt k (count + 1)) [
+  | inl x ↦ so_far k least x last went at
+  | inr x ↦
+      let e : k ≡ count + 1 = omega arith in
+      let same : last ≡ after = same_state last after (sym went ∙ ap (λ n. plain n start) e ∙ goes) in
+      past (ap (λ (s : State). (view_of s).pc) (sym same) ∙ at)
+]
+
+-- fewer steps pass no more
+pub PassesBy-fewer : (start : State) (pc count : ℕ) → PassesBy start pc (count + 1) → PassesBy start pc count
+PassesBy-fewer start pc count so_far k least below = so_far k least (omega arith)

@@ -1,0 +1,179 @@
+-- The numbers of a run, and what a trial tells of its own.
+use Rattle.std.specs.Prelude.{◌≡◌, ℕ, zero, suc, Bool, IsTrue, ◌+◌, ◌&&◌, ◌||◌, List, [], length, Option, Some, None, MatchOption, Result, Ok, Err, if◌then◌else◌}
+use Rattle.asc_elf.specs.declared.fault.ElfFault.{ElfFault}
+use Rattle.asc_elf.specs.Image as loader
+use Rattle.asc_calls.specs.GuestCall.{nothing, io_of, Out}
+use Rattle.asc_calls.specs.World.{Outside, Agrees}
+use Rattle.asc_make.specs.File.{image_of}
+use Rattle.asc_traj.specs.Finder.{Plan}
+use Rattle.asc_traj.specs.declared.guessing.Guessing.{Guessing}
+use Rattle.asc_run.specs.declared.walk.Counts.{Counts as WalkCounts}
+use Rattle.asc_run.specs.declared.walk.Ended.{Ended}
+use Rattle.asc_run.specs.declared.walk.Ended.TheVariants as ends
+use Rattle.asc_run.specs.declared.walk.Settings.{Settings}
+use Rattle.asc_run.specs.declared.recognised.Recognised.{Recognised}
+use Rattle.asc_run.specs.declared.recognised.Recognised.TheVariants.{At, Chosen, Nowhere}
+use Rattle.asc_run.specs.Execution.{progress, first_position}
+use Rattle.asc_run.specs.Visits.{Course, is_mark}
+use Rattle.asc_run.specs.SerialRun.{Numbers, IsSerialRun}
+use Rattle.asc_words.specs.declared.line.RunLine.{RunLine}
+use Rattle.asc_words.specs.declared.answer.Answer.{Answer}
+use Rattle.asc_words.specs.declared.answer.Answer.TheVariants as answers
+use Rattle.asc_words.specs.declared.answer.Counts.{Counts}
+use Rattle.asc_words.specs.declared.answer.Outcome.{Outcome}
+use Rattle.asc_words.specs.declared.answer.TrialOutcome.{TrialOutcome}
+use Rattle.asc_words.specs.Report.{trial_text}
+use Rattle.asc_top.specs.Program.{ProgramResult, Gives, GivesPart, load_of, run_of_image, meaning, trial_run}
+
+-- ---- how a line is run
+
+-- what a line asks to be guessed
+abbrev pub guessing_of : RunLine → Guessing
+guessing_of line = record {
+  last = line.last;
+  stride = line.stride;
+  laps = line.laps;
+  span = line.span;
+  ahead = line.ahead;
+}
+
+-- what nobody sees is not guessed: only where the numbers are reported, and a kind of guess is on
+abbrev pub makes_guesses : RunLine → Bool
+makes_guesses line = line.report && (line.last || line.stride)
+
+-- the recognised address: the line's own, or, where a kind of guess is on, one that is chosen of the first steps
+abbrev pub recognised_by : RunLine → Recognised
+recognised_by line =
+    elim line.pc [
+    | Some address ↦ At address
+    | None ↦ if line.last || line.stride then Chosen line.profile line.least else Nowhere
+    ]
+
+-- nor is the address of a run visited whose numbers are not reported
+abbrev pub settings_of : RunLine → Settings
+settings_of line = record { limit = line.limit; recognised = if line.report then recognised_by line else Nowhere }
+
+-- the numbers of a walk, and of what its helper planned
+abbrev pub counts_of : WalkCounts → Plan → Counts
+counts_of walk plan = record {
+  executed = walk.executed;
+  skipped = walk.skipped;
+  asked = walk.asked;
+  hits = walk.hits;
+  made = plan.made;
+  refused = plan.refused;
+}
+
+-- the numbers that a run reports which ended so: none where they are not asked for, or a device stopped it
+abbrev pub reported_counts : (is_asked : Bool) → Ended → Counts → Option Counts
+reported_counts is_asked (ends.Exit code) counts = if is_asked then Some counts else None
+reported_counts is_asked (ends.Fault fault) counts = if is_asked then Some counts else None
+reported_counts is_asked ends.Limit counts = if is_asked then Some counts else None
+reported_counts is_asked ends.ReadFault counts = None
+reported_counts is_asked ends.WriteFault counts = None
+reported_counts is_asked ends.ErrFault counts = None
+
+-- ---- what the numbers are
+
+-- how far the plain run of an image over an input comes in n steps
+abbrev pub course_of_image : loader.Image → (left : List ℕ) → Course
+course_of_image image left = progress image.low (loader.high_of image) (first_position image.start image.low left)
+
+-- the numbers without that of refusals
+abbrev pub numbers_of : Counts → Numbers
+numbers_of counts = record {
+  executed = counts.executed;
+  skipped = counts.skipped;
+  asked = counts.asked;
+  hits = counts.hits;
+  made = counts.made;
+}
+
+-- these are the numbers of a run of an image over an input
+pub record AreNumbersOf (line : RunLine) (image : loader.Image) (left : List ℕ) (counts : Counts) : Type 0 where
+  -- the steps executed and the steps jumped over are all its steps
+  pub total : counts.executed + counts.skipped ≡ (run_of_image line image left).count
+  -- where there are no workers and memory was never wanting, they are those of a serial run, by its definition
+  pub serial : line.workers ≡ 0 → counts.refused ≡ 0
+      → IsSerialRun line.limit (is_mark (recognised_by line) (course_of_image image left)) (course_of_image image left)
+      image.start.shape (guessing_of line) (numbers_of counts)
+
+-- these are the numbers of a loaded file, where it is an image
+abbrev pub AreNumbers : RunLine → Result loader.Image ElfFault → (left : List ℕ) → Counts → Type 0
+AreNumbers line (Ok image) left counts = AreNumbersOf line image left counts
+AreNumbers line (Err fault) left counts = Unit {0}
+
+-- What is told of the numbers of a run that executed so many steps of its count: they are its numbers. Where none are
+-- told and there are no workers, it was run plainly.
+abbrev pub AreTold : RunLine → Result loader.Image ElfFault → (left : List ℕ) → (executed count : ℕ) → Option Counts
+    → Type 0
+AreTold line load left executed count None = line.workers ≡ 0 → executed ≡ count
+AreTold line load left executed count (Some counts) =
+    (counts.executed ≡ executed) × AreNumbers line load left counts
+
+-- Over some input that agrees with what is told, the file means what was answered, taken, put and counted, and the
+-- numbers that are told are its run's.
+pub record Means (old new : Outside) (outcome : Outcome) (line : RunLine) (content : List ℕ) : Type 0 where
+  pub left : List ℕ
+  pub agrees : Agrees old.left left
+  pub executed : ℕ
+  pub gives : Gives old new executed outcome.answer (meaning line content left)
+  pub told : AreTold line (load_of line content) left executed (meaning line content left).count outcome.counts
+
+-- ---- trials
+
+-- the code with which the guest of a run ended, and the run's numbers, where it ended
+abbrev pub exit_at : Answer → Option Counts → Option (ℕ × Counts)
+exit_at (answers.Exit status) (Some counts) = Some (status, counts)
+exit_at answered counts = None
+
+abbrev pub exit_of : Outcome → Option (ℕ × Counts)
+exit_of outcome = exit_at outcome.answer outcome.counts
+
+-- the numbers that a trial tells: none where there were workers
+abbrev pub told_by_trial : (workers : ℕ) → Counts → Option Counts
+told_by_trial zero counts = Some counts
+told_by_trial (suc n) counts = None
+
+-- what a trial tells, whose guest ended with a status, of what its run came to
+abbrev pub trial_of : (n workers status : ℕ) → ProgramResult → Counts → TrialOutcome
+trial_of n workers status run counts = record {
+  n = n;
+  status = status;
+  steps = run.count;
+  output = length run.io.out;
+  counts = told_by_trial workers counts;
+}
+
+-- what a trial comes to, by the answer of its run: where its guest ended, the trial's text is put to out
+abbrev pub result_of_trial : (n workers : ℕ) → Counts → ProgramResult → Answer → ProgramResult
+result_of_trial n workers counts run (answers.Exit status) = record {
+  answer = answers.Done counts.refused;
+  io = io_of Out (trial_text (trial_of n workers status run counts));
+  count = run.count;
+}
+result_of_trial n workers counts run answered = record { answer = answered; io = nothing; count = run.count }
+
+-- what the run of a trial means, which has no input
+abbrev pub trial_meaning : (n workers : ℕ) → ProgramResult
+trial_meaning n workers = meaning (trial_run workers) (image_of n) []
+
+abbrev pub trial_result : (n workers : ℕ) → Counts → ProgramResult
+trial_result n workers counts =
+    let run = trial_meaning n workers in result_of_trial n workers counts run run.answer
+
+-- these are the numbers of a trial's run
+abbrev pub AreTrialNumbers : (n workers : ℕ) → Counts → Type 0
+AreTrialNumbers n workers counts = AreNumbers (trial_run workers) (load_of (trial_run workers) (image_of n)) [] counts
+
+-- a trial came to its result, with its run's numbers
+pub record Tries (n workers : ℕ) (old new : Outside) (answered : Answer) : Type 0 where
+  pub counts : Counts
+  pub numbers : AreTrialNumbers n workers counts
+  pub gives : Gives old new counts.executed answered (trial_result n workers counts)
+
+-- out failed while it took the text of a trial with its run's numbers
+pub record TriesPart (n workers : ℕ) (old new : Outside) : Type 0 where
+  pub counts : Counts
+  pub numbers : AreTrialNumbers n workers counts
+  pub gives : GivesPart old new counts.executed (trial_result n workers counts)

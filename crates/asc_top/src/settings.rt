@@ -1,0 +1,61 @@
+//! How a line is run.
+ghost use Rattle.std.specs.Prelude.{◌≡◌};
+ghost use Rattle.asc_run.specs.Visits.{HasBounds};
+ghost use Rattle.asc_words.specs.Line.{IsRunWithin};
+ghost use Rattle.asc_top.specs.Numbers.{guessing_of, makes_guesses, recognised_by, settings_of};
+
+use asc_run::{Recognised, Settings};
+use asc_traj::Guessing;
+use asc_words::RunLine;
+
+/// Whether a line has guesses made.
+pub(crate) fn makes_guesses(line: &RunLine) -> bool
+    ensures { result ≡ makes_guesses line.now }
+{
+    line.report && (line.last || line.stride)
+}
+
+/// What a line asks to be guessed.
+pub(crate) fn guessing_of(line: &RunLine) -> Guessing
+    ensures { result ≡ guessing_of line.now }
+{
+    Guessing {
+        last: line.last,
+        stride: line.stride,
+        laps: line.laps,
+        span: line.span,
+        ahead: line.ahead,
+    }
+}
+
+/// How a line asks for a walk.
+pub(crate) fn settings_of(line: &RunLine) -> Settings
+    requires { IsRunWithin line.now }
+    ensures settings { result ≡ settings_of line.now }
+    ensures bounds { HasBounds result.recognised }
+{
+    Settings {
+        limit: line.limit,
+        recognised: if line.report {
+            recognised_by(line)
+        } else {
+            Recognised::Nowhere
+        },
+    }
+}
+
+/// Which address a line has recognised.
+fn recognised_by(line: &RunLine) -> Recognised
+    requires { IsRunWithin line.now }
+    ensures recognised { result ≡ recognised_by line.now }
+    ensures bounds { HasBounds result }
+{
+    match line.pc {
+        Some(address) => Recognised::At(address),
+        None if line.last || line.stride => Recognised::Chosen {
+            profile: line.profile,
+            least: line.least,
+        },
+        None => Recognised::Nowhere,
+    }
+}
