@@ -50,16 +50,30 @@ pub(crate) const QUIET: Want = Want {
 
 /// What came of them.
 #[derive(Drop)]
-struct Got {
-    answer: Answer,
+pub(crate) struct Got {
+    pub(crate) answer: Answer,
     store: ListStore,
-    out: ListSink,
+    pub(crate) out: ListSink,
     err: ListSink,
     report: ListSink,
 }
 
-/// Runs the words of a command line, with one space between two words, where the store has one file, `image`, and
-/// compares what came of them with what must.
+/// Runs the words of a command line, with one space between two words, where the store has one file, `image`.
+pub(crate) fn run_line<R: Abort>(
+    rt: &R,
+    alloc: Global,
+    line: &str,
+    file: Vec<u8>,
+    devices: &Devices,
+) -> Result<Got, AllocError> {
+    let mut words = Vec::new(alloc);
+    for word in line.split(' ') {
+        words.push(String::from_str(alloc, word)?)?;
+    }
+    run_over::<Brand, _>(rt, alloc, &words, file, devices, Blank::new(1))
+}
+
+/// Runs the words of a command line in the same way, and compares what came of them with what must.
 pub(crate) fn check<R: Abort>(
     rt: &R,
     alloc: Global,
@@ -68,11 +82,7 @@ pub(crate) fn check<R: Abort>(
     devices: &Devices,
     want: &Want,
 ) -> Result<(), AllocError> {
-    let mut words = Vec::new(alloc);
-    for word in line.split(' ') {
-        words.push(String::from_str(alloc, word)?)?;
-    }
-    let got = run_over::<Brand, _>(rt, alloc, &words, file, devices, Blank::new(1))?;
+    let got = run_line(rt, alloc, line, file, devices)?;
     let put = (got.out.bytes(), got.err.bytes(), got.report.bytes());
     let wanted = (
         want.out.as_bytes(),

@@ -486,11 +486,11 @@ const NO_ADDRESS: Want = Want {
     ..USAGE
 };
 
-static NUMBERED: [Row; 26] = [
+static NUMBERED: [Row; 33] = [
     COUNTING,
     // The recognised address: a jump is asked for at each visit.
     Row {
-        line: "asc run image --pc 10008 --report",
+        line: "asc run image --pc 10008 --guess none --report",
         want: VISITED,
         ..COUNTING
     },
@@ -500,12 +500,12 @@ static NUMBERED: [Row; 26] = [
         ..COUNTING
     },
     Row {
-        line: "asc run --report --pc=0001000c image",
+        line: "asc run --report --guess none --pc=0001000c image",
         want: VISITED,
         ..COUNTING
     },
     Row {
-        line: "asc run image --report --pc 1000C",
+        line: "asc run image --report --pc 1000C --guess=none",
         want: VISITED,
         ..COUNTING
     },
@@ -523,7 +523,7 @@ static NUMBERED: [Row; 26] = [
     },
     // Where the limit is reached the address is not visited.
     Row {
-        line: "asc run image --pc 10008 --report --steps 6",
+        line: "asc run image --pc 10008 --guess none --report --steps 6",
         want: Want {
             answer: Answer::Limit(6),
             report: "asc: limit after 6\nasc: executed 6 skipped 0 asked 2 hits 0 made 0 refused 0\n",
@@ -538,6 +538,59 @@ static NUMBERED: [Row; 26] = [
             report: "asc: limit after 0\nasc: executed 0 skipped 0 asked 0 hits 0 made 0 refused 0\n",
             ..QUIET
         },
+        ..COUNTING
+    },
+    // Guesses, with a recognised address and with one that is chosen. Their numbers are worked out from the definitions.
+    Row {
+        line: "asc run image --pc 10008 --guess stride --ahead 2 --report",
+        want: Want {
+            report: "asc: executed 7 skipped 6 asked 4 hits 2 made 4 refused 0\n",
+            ..QUIET
+        },
+        ..COUNTING
+    },
+    Row {
+        line: "asc run image --pc 10008 --guess both --ahead 2 --report",
+        want: Want {
+            report: "asc: executed 5 skipped 8 asked 4 hits 3 made 8 refused 0\n",
+            ..QUIET
+        },
+        ..COUNTING
+    },
+    Row {
+        line: "asc run image --pc 10008 --guess stride --ahead 2 --report --steps 12",
+        want: Want {
+            answer: Answer::Limit(12),
+            report: "asc: limit after 12\nasc: executed 6 skipped 6 asked 4 hits 2 made 4 refused 0\n",
+            ..QUIET
+        },
+        ..COUNTING
+    },
+    Row {
+        line: "asc run image --pc 10008 --guess stride --ahead 2 --report --steps 11",
+        want: Want {
+            answer: Answer::Limit(11),
+            report: "asc: limit after 11\nasc: executed 9 skipped 2 asked 4 hits 1 made 4 refused 0\n",
+            ..QUIET
+        },
+        ..COUNTING
+    },
+    Row {
+        line: "asc run image --profile 6 --min 2 --ahead 2 --report",
+        want: Want {
+            report: "asc: executed 13 skipped 0 asked 2 hits 0 made 2 refused 0\n",
+            ..QUIET
+        },
+        ..COUNTING
+    },
+    Row {
+        line: "asc run image --profile 6 --min 3 --ahead 2 --report",
+        ..COUNTING
+    },
+    // What nobody sees is not guessed.
+    Row {
+        line: "asc run image --pc 10008 --guess both --ahead 2",
+        want: QUIET,
         ..COUNTING
     },
     // an instruction that meets a fault
@@ -827,7 +880,7 @@ static ECHOES: [(&str, [u64; 5], Answer, &str, &str); 22] = [
         "",
     ),
     (
-        "asc run image --report --pc 10000",
+        "asc run image --report --pc 10000 --guess none",
         [0; 5],
         Answer::Exit(0),
         "abcdefg",

@@ -92,4 +92,3 @@ all_told is_asked ends.Limit counts going = refl
 all_told is_asked ends.ReadFault counts going = absurd (cc)
 all_told is_asked ends.WriteFault counts going = absurd (cc)
 all_told is_asked ends.ErrFault counts going = absurd (cc)
-

@@ -1,16 +1,16 @@
 -- How much a program may put to out.
-use Rattle.std.proofs.Common.{◌≡◌, ◌∙◌, ℕ, zero, suc, ◌+◌, ◌*◌, ◌-◌, ◌≤◌, ◌==◌, ◌||◌, Bool, true, false, List, [], ◌++◌, length, take, drop, Option, Some, None, refl, sym, ap, subst, arith, length-append}
+use Rattle.std.proofs.Common.{◌≡◌, ◌∙◌, ℕ, zero, suc, ◌+◌, ◌*◌, ◌-◌, ◌≤◌, ◌==◌, Bool, true, false, List, length, take, drop, Option, Some, None, refl, ap, arith, length-append}
 use Rattle.std.proofs.lemmas.List.{length-take}
 use Rattle.std.proofs.lemmas.Bool.Decides.{nat_tests}
 use Rattle.std.specs.Prelude.{if◌then◌else◌}
-use Rattle.asc_model.specs.Shape.{Shape, holds}
+use Rattle.asc_model.specs.Shape.{Shape}
 use Rattle.asc_model.specs.State.{State}
-use Rattle.asc_model.specs.Machine.{view_of, Register, Pc, Memory}
+use Rattle.asc_model.specs.Machine.{view_of, Register}
 use Rattle.asc_model.specs.Step.{Next, At, Call, Bad, next}
 use Rattle.asc_shape.specs.State.{memory_at, state_after}
 use Rattle.asc_shape.proofs.States.{shape-state_after}
-use Rattle.asc_calls.specs.GuestCall.{CallResult, Went, Exit, Device, Input, Out, Err, Request, Read, Write, End, Break, Unknown, early_answer, io_of, guest_call, result_of, result_of_read, result_of_write, answered, answered_early_or, request_of, state_after_answer}
-use Rattle.asc_run.specs.Execution.{Position, Progress, Run, On, Off, exec, first_position, next_progress, progress, progress_after_call, progress_after_step, run_of}
+use Rattle.asc_calls.specs.GuestCall.{CallResult, Went, Exit, Out, Err, Request, Read, Write, End, Break, Unknown, early_answer, io_of, guest_call, result_of, result_of_read, result_of_write, answered_early_or, request_of, state_after_answer}
+use Rattle.asc_run.specs.Execution.{Position, Progress, On, Off, exec, first_position, next_progress, progress, progress_after_call, progress_after_step, run_of}
 use Rattle.asc_run.proofs.Shapes.{next-shape}
 
 -- a call keeps the shape, and puts at most so many bytes to out

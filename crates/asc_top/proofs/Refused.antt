@@ -1,5 +1,5 @@
 -- Files that are not run.
-use Rattle.std.proofs.Common.{◌≡◌, ◌∙◌, ◌↔◌, ℕ, ◌≤◌, ◌<◌, Option, Some, None, List, [], length, IsSome, IsTrue, Ok, Err, true, false, refl, sym, ap, subst, arith}
+use Rattle.std.proofs.Common.{◌≡◌, ◌∙◌, ℕ, ◌≤◌, ◌<◌, Option, Some, None, List, [], length, Err, true, false, refl, sym, ap, subst, arith}
 use Rattle.asc_elf.specs.declared.fault.ElfFault.{ElfFault}
 use Rattle.asc_calls.specs.World.{Outside, Agrees}
 use Rattle.asc_run.proofs.Reach.{DoesIo-nothing}
@@ -8,7 +8,7 @@ use Rattle.asc_words.specs.declared.answer.Answer.{Answer}
 use Rattle.asc_words.specs.declared.answer.Answer.TheVariants as answers
 use Rattle.asc_words.specs.Answer.{outcome_of}
 use Rattle.asc_top.specs.Program.{Gives, ProgramResult, file_limit, load_of, meaning, refusal, result_of_load}
-use Rattle.asc_top.specs.Numbers.{AreTold, Means}
+use Rattle.asc_top.specs.Numbers.{Means}
 use Rattle.asc_top.specs.Ran.{Ran}
 use Rattle.asc_top.proofs.Causes.{meaning-within, meaning-long}
 

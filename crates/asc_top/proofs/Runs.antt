@@ -1,9 +1,8 @@
 -- What holds of the answer to a run.
-use Rattle.std.proofs.Common.{◌≡◌, ◌∙◌, ◌↔◌, ◌≢◌, ℕ, ◌+◌, ◌<◌, ◌≤◌, Option, Some, None, IsSome, IsTrue, true, false, List, length, replicate, Result, Ok, Err, refl, sym, ap, subst, arith, inl, inr}
+use Rattle.std.proofs.Common.{◌≡◌, ◌∙◌, ◌≢◌, ℕ, ◌+◌, ◌<◌, ◌≤◌, Option, Some, None, true, false, List, length, replicate, Ok, refl, sym, ap, subst, arith, inl, inr}
 use Rattle.std.proofs.lemmas.List.{length-replicate}
 use Rattle.asc_outside.specs.Outside.{File, MayHold, MayHoldLonger, AsksFor}
-use Rattle.asc_calls.specs.GuestCall.{Device}
-use Rattle.asc_calls.specs.World.{Agrees, BlamesOnly}
+use Rattle.asc_calls.specs.World.{Agrees}
 use Rattle.asc_words.specs.declared.line.RunLine.{RunLine}
 use Rattle.asc_words.specs.declared.line.Line.TheVariants as lines
 use Rattle.asc_words.specs.declared.answer.Answer.{Answer}
@@ -49,9 +48,11 @@ gives_told : (old new : Devices) (line : RunLine) (file content left : List ℕ)
     → IsHeld old.files line.image content → old.guest.left ≡ Some left → (executed : ℕ) × Gives old.guest new.guest executed outcome.answer (meaning line content left)
 gives_told old new line file content left outcome held m told input =
     let file_is : file ≡ content = one_content old.files line.image file content held told in
-    let left_is : m.left ≡ left = one_left old.guest.left m.left left m.agrees input in
-    (m.executed, subst (λ (i : List ℕ). Gives old.guest new.guest m.executed outcome.answer (meaning line content i)) left_is
-    (subst (λ (c : List ℕ). Gives old.guest new.guest m.executed outcome.answer (meaning line c m.left)) file_is m.gives))
+    let left_is : m.left ≡ left = one_left old.guest.left m.left left m.agrees input in (
+      m.executed,
+      subst (λ (i : List ℕ). Gives old.guest new.guest m.executed outcome.answer (meaning line content i)) left_is
+          (subst (λ (c : List ℕ). Gives old.guest new.guest m.executed outcome.answer (meaning line c m.left)) file_is m.gives),
+    )
 
 -- a file was read whole, and run
 module _ (line : RunLine) (content : List ℕ) (old new : Devices) (outcome : Outcome) (held : MayHold old.files line.image content) (within : length content ≤ file_limit)

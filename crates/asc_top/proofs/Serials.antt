@@ -1,5 +1,5 @@
 -- The numbers of a walk with a new helper are those of a serial run.
-use Rattle.std.proofs.Common.{◌≡◌, ◌∙◌, ℕ, ◌+◌, ◌≤◌, ◌&&◌, ◌||◌, Bool, true, false, Option, Some, None, List, [], ◌++◌, length, Ok, refl, sym, ap, subst, arith}
+use Rattle.std.proofs.Common.{◌≡◌, ◌∙◌, ℕ, ◌+◌, ◌≤◌, ◌&&◌, ◌||◌, Bool, true, false, Some, List, [], length, Ok, refl, sym, ap, subst, arith}
 use Rattle.std.specs.Prelude.{if◌then◌else◌}
 use Rattle.asc_model.specs.Shape.{IsShape}
 use Rattle.asc_elf.specs.Image as loader
@@ -8,15 +8,15 @@ use Rattle.asc_traj.specs.Finder.{Tally}
 use Rattle.asc_run.specs.declared.recognised.Recognised.{Recognised}
 use Rattle.asc_run.specs.declared.recognised.Recognised.TheVariants.{Nowhere}
 use Rattle.asc_run.specs.Execution.{exec}
-use Rattle.asc_run.specs.Helped.{Aid, HasVisits, IsSerial}
+use Rattle.asc_run.specs.Helped.{Aid, IsSerial}
 use Rattle.asc_run.specs.Visits.{AreVisits, Visit, is_mark, tally_of}
 use Rattle.asc_run.specs.Serial.{kinds_of}
-use Rattle.asc_run.specs.SerialRun.{IsSerialRun, serial_of}
+use Rattle.asc_run.specs.SerialRun.{serial_of}
 use Rattle.asc_run.specs.Walk.{Walk, new_walk, tally}
 use Rattle.asc_words.specs.declared.line.RunLine.{RunLine}
 use Rattle.asc_words.specs.declared.answer.Outcome.{Outcome}
 use Rattle.asc_top.specs.Program.{file_limit, load_of}
-use Rattle.asc_top.specs.Numbers.{counts_of, course_of_image, guessing_of, makes_guesses, recognised_by, settings_of}
+use Rattle.asc_top.specs.Numbers.{course_of_image, guessing_of, makes_guesses, recognised_by, settings_of}
 use Rattle.asc_top.specs.Ran.{Walked}
 use Rattle.asc_top.proofs.Unguessed.{idles, none_given}
 use Rattle.asc_top.proofs.Walks.{AreSerial, IsPlain, goes}

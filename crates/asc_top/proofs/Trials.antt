@@ -1,13 +1,12 @@
 -- What holds of the answer to a trial.
-use Rattle.std.proofs.Common.{◌≡◌, ◌∙◌, ◌↔◌, ◌≢◌, ◌⊎◌, ℕ, zero, suc, ◌+◌, ◌-◌, ◌*◌, ◌^◌, ◌<◌, ◌≤◌, min, Option, Some, None, IsSome, IfSome, IsTrue, true, false, List, [], length, Result, Ok, Err, refl, sym, ap, subst, arith, inl, inr}
-use Rattle.asc_model.specs.Shape.{Shape}
+use Rattle.std.proofs.Common.{◌≡◌, ◌∙◌, ◌≢◌, ℕ, ◌+◌, ◌-◌, ◌*◌, ◌^◌, ◌<◌, ◌≤◌, min, Option, Some, None, IsSome, true, false, List, [], length, Result, Ok, Err, refl, sym, ap, subst, arith, inl, inr}
 use Rattle.asc_outside.specs.Outside.{File, Given, PutsPart, given_after, one_more}
 use Rattle.asc_outside.specs.Lists.{given_number}
 use Rattle.asc_outside.proofs.Streams.{Takes-nil, given_after-nil}
 use Rattle.asc_elf.specs.declared.fault.ElfFault.{ElfFault}
 use Rattle.asc_elf.specs.Image as loader
 use Rattle.asc_calls.specs.GuestCall.{Device, Input, Out, Err as Errors, io_of, nothing}
-use Rattle.asc_calls.specs.World.{BlamesOnly, DoesIo, Faults, Outside, faults, outside}
+use Rattle.asc_calls.specs.World.{BlamesOnly, Faults, Outside, faults, outside}
 use Rattle.asc_make.specs.File.{image_of}
 use Rattle.asc_run.specs.declared.walk.Ended.{Ended}
 use Rattle.asc_run.specs.declared.walk.Ended.TheVariants as ends
@@ -21,12 +20,12 @@ use Rattle.asc_words.specs.declared.answer.TrialOutcome.{TrialOutcome}
 use Rattle.asc_words.specs.Answer.{outcome_of}
 use Rattle.asc_words.specs.Report.{trial_text}
 use Rattle.asc_top.specs.Program.{Gives, GivesPart, ProgramResult, answer_at, file_limit, load_of, meaning, result_of_load, run_of_image, trial_run}
-use Rattle.asc_top.specs.Numbers.{AreNumbers, AreTold, AreTrialNumbers, Means, Tries, TriesPart, exit_at, exit_of, result_of_trial, told_by_trial, trial_meaning, trial_of, trial_result}
+use Rattle.asc_top.specs.Numbers.{AreNumbers, AreTold, AreTrialNumbers, Means, Tries, exit_at, exit_of, result_of_trial, told_by_trial, trial_meaning, trial_of, trial_result}
 use Rattle.asc_top.specs.Ran.{Ran}
-use Rattle.asc_top.specs.Kinds.{Finished, BadFile, Kind, kind_of, device_of_answer, device_of_kind, Completes, IsRefusal}
-use Rattle.asc_top.specs.Answered.{Devices, IsAnswerFor, devices}
+use Rattle.asc_top.specs.Kinds.{Finished, kind_of, device_of_answer, Completes, IsRefusal}
+use Rattle.asc_top.specs.Answered.{IsAnswerFor, devices}
 use Rattle.asc_top.specs.Reported.{IsPut}
-use Rattle.asc_top.proofs.Causes.{meaning-within, runs-exit, runs-limit, runs-fault, image-is, done-never, usage-never, too_long-never, store_fault-never, report_fault-never}
+use Rattle.asc_top.proofs.Causes.{meaning-within, runs-limit, runs-fault, image-is, done-never, usage-never, too_long-never, store_fault-never, report_fault-never}
 use Rattle.asc_top.proofs.Outputs.{out-exec}
 use Rattle.asc_top.proofs.Runs.{completed}
 
@@ -316,17 +315,20 @@ module _ (n workers : ℕ) (remains : Option (List ℕ)) (put complained before 
         record {
           headline = λ completes. absurd (incomplete completes);
           untold = λ completes. absurd (incomplete completes);
-          stopped = λ device failed. (one_device device failed, record {
-            counts = own;
-            numbers = e.numbers;
-            gives = subst (λ (x : ProgramResult). GivesPart first last own.executed x) (sym e.result) (record {
-              left = refl;
-              out = subst (λ (t : TrialOutcome). PutsPart out later (trial_text t)) (sym e.told) part;
-              err = refl;
-              most = e.most;
-              steps = e.steps;
-            });
-          });
+          stopped = λ device failed. (
+            one_device device failed,
+            record {
+              counts = own;
+              numbers = e.numbers;
+              gives = subst (λ (x : ProgramResult). GivesPart first last own.executed x) (sym e.result) (record {
+                left = refl;
+                out = subst (λ (t : TrialOutcome). PutsPart out later (trial_text t)) (sym e.told) part;
+                err = refl;
+                most = e.most;
+                steps = e.steps;
+              });
+            },
+          );
           exit = λ code is. cc;
           done = λ refused is. absurd (cc);
           limit = λ count is. absurd (cc);
@@ -346,6 +348,7 @@ module _ (n workers : ℕ) (remains : Option (List ℕ)) (put complained before 
       where
         one_device : (device : Device) → Some Out ≡ Some device → device ≡ Out
         one_device device is = cc
+
         not_refusal : IsRefusal answers.WriteFault → ⊥
         not_refusal (inl is) = cc
         not_refusal (inr (inl is)) = cc

@@ -37,8 +37,10 @@ no_tasks g issued number none = go _
   where
     tasks : ℕ → List Task
     tasks target = map (λ kind. (kind, target - number)) (kinds_of g)
+
     no : (target : ℕ) → tasks target ≡ []
     no target = ap (map (λ kind. (kind, target - number))) none
+
     go : (targets : List ℕ) → flat_map tasks targets ≡ []
     go [] = refl
     go (target ∷ targets) = (λ i. no target i ++ flat_map tasks targets) ∙ go targets

@@ -1,5 +1,5 @@
 -- What a walk did, as what its file means.
-use Rattle.std.proofs.Common.{◌≡◌, ◌∙◌, ℕ, ◌+◌, ◌≤◌, Bool, true, false, Option, Some, None, List, [], ◌++◌, length, IsTrue, MatchBool, Ok, Err, refl, sym, ap, subst, arith, append_assoc}
+use Rattle.std.proofs.Common.{◌≡◌, ◌∙◌, ℕ, ◌+◌, ◌≤◌, Bool, true, false, Option, Some, None, List, [], ◌++◌, length, IsTrue, MatchBool, Ok, refl, sym, ap, subst, arith, append_assoc}
 use Rattle.std.specs.Prelude.{if◌then◌else◌}
 use Rattle.asc_model.specs.Shape.{IsShape}
 use Rattle.asc_outside.specs.Outside.{IsAtEnd}
@@ -89,8 +89,8 @@ module _ (line : RunLine) (content : List ℕ) (image : loader.Image) (within : 
       record { answer = refl; does = f.does; most = omega (arith, w.executed); steps = omega (arith, w.executed, w.skipped, f.steps) } in
       let shown : (report : Bool) → line.report ≡ report → AreTold line (Ok image) left told.executed now.count (if report then Some told else None) =
       λ report. elim report as (λ b. line.report ≡ b → AreTold line (Ok image) left told.executed now.count (if b then Some told else None)) [
-      | true ↦ λ asked. (refl, record { total = w.executed ∙ sym count_is; serial = λ _ refused. serial asked left count_is (f.says r.rest r.may) refused })
-      | false ↦ λ unasked. λ _. omega (arith, w.executed, w.skipped, plain unasked)
+        | true ↦ λ asked. (refl, record { total = w.executed ∙ sym count_is; serial = λ _ refused. serial asked left count_is (f.says r.rest r.may) refused })
+        | false ↦ λ unasked. λ _. omega (arith, w.executed, w.skipped, plain unasked)
       ] in
       let own_told : AreTold line (Ok image) left told.executed now.count own.counts =
       subst (λ (c : Option Counts). AreTold line (Ok image) left told.executed now.count c) (sym (all_told line.report w.ended told going)) (shown line.report refl) in

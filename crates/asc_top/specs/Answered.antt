@@ -7,7 +7,6 @@ use Rattle.asc_calls.specs.GuestCall.{Device, Out}
 use Rattle.asc_calls.specs.World.{Outside, BlamesOnly}
 use Rattle.asc_make.specs.File.{image_of}
 use Rattle.asc_run.specs.declared.walk.Ended.TheVariants as ends
-use Rattle.asc_run.specs.Execution.{Run}
 use Rattle.asc_words.specs.Line.{line_of}
 use Rattle.asc_words.specs.Report.{trial_text}
 use Rattle.asc_words.specs.declared.line.RunLine.{RunLine}

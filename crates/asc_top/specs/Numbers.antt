@@ -1,5 +1,5 @@
 -- The numbers of a run, and what a trial tells of its own.
-use Rattle.std.specs.Prelude.{◌≡◌, ℕ, zero, suc, Bool, IsTrue, ◌+◌, ◌&&◌, ◌||◌, List, [], length, Option, Some, None, MatchOption, Result, Ok, Err, if◌then◌else◌}
+use Rattle.std.specs.Prelude.{◌≡◌, ℕ, zero, suc, Bool, ◌+◌, ◌&&◌, ◌||◌, List, [], length, Option, Some, None, Result, Ok, Err, if◌then◌else◌}
 use Rattle.asc_elf.specs.declared.fault.ElfFault.{ElfFault}
 use Rattle.asc_elf.specs.Image as loader
 use Rattle.asc_calls.specs.GuestCall.{nothing, io_of, Out}
@@ -45,8 +45,8 @@ makes_guesses line = line.report && (line.last || line.stride)
 abbrev pub recognised_by : RunLine → Recognised
 recognised_by line =
     elim line.pc [
-    | Some address ↦ At address
-    | None ↦ if line.last || line.stride then Chosen line.profile line.least else Nowhere
+      | Some address ↦ At address
+      | None ↦ if line.last || line.stride then Chosen line.profile line.least else Nowhere
     ]
 
 -- nor is the address of a run visited whose numbers are not reported

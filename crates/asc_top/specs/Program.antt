@@ -1,5 +1,5 @@
 -- What a file means as a program, and what a command line comes to.
-use Rattle.std.specs.Prelude.{◌≡◌, ℕ, Bool, true, false, ◌+◌, ◌*◌, ◌<◌, ◌≤◌, List, [], length, take, Option, Some, None, Result, Ok, Err, nat_lt, if◌then◌else◌}
+use Rattle.std.specs.Prelude.{◌≡◌, ℕ, true, false, ◌+◌, ◌*◌, ◌<◌, ◌≤◌, List, [], length, Option, Some, Result, Ok, Err, nat_lt, if◌then◌else◌}
 use Rattle.asc_model.specs.declared.version.Version.TheVariants.{Two}
 use Rattle.asc_outside.specs.Outside.{PutsPart}
 use Rattle.asc_elf.specs.declared.fault.ElfFault.{ElfFault}

@@ -1,10 +1,9 @@
 -- What the functions of this crate promise that run a program.
-use Rattle.std.specs.Prelude.{◌≡◌, ◌≢◌, ◌↔◌, ℕ, Bool, IsTrue, ◌+◌, ◌≤◌, List, Option, Some, None, Ok, IsSome, IfSome}
+use Rattle.std.specs.Prelude.{◌≡◌, ◌≢◌, ◌↔◌, ℕ, Bool, IsTrue, ◌+◌, ◌≤◌, List, Some, None, Ok, IsSome, IfSome}
 use Rattle.asc_model.specs.Shape.{IsShape}
 use Rattle.asc_elf.specs.Image as loader
 use Rattle.asc_calls.specs.GuestCall.{Device}
 use Rattle.asc_calls.specs.World.{Outside, BlamesOnly}
-use Rattle.asc_traj.specs.Finder.{Tally}
 use Rattle.asc_run.specs.declared.walk.Ended.{Ended}
 use Rattle.asc_run.specs.declared.walk.Counts.{Counts as WalkCounts}
 use Rattle.asc_run.specs.Execution.{device_of}

@@ -39,7 +39,15 @@ pub(crate) fn trial<O: Sink, L: Ledger>(
     let mut input = SureSource::new(Vec::new(alloc));
     let mut output = CountSink::new();
     let mut errors = CountSink::new();
-    let outcome = run_file(alloc, &line, &image, &mut input, &mut output, &mut errors, steps);
+    let outcome = run_file(
+        alloc,
+        &line,
+        &image,
+        &mut input,
+        &mut output,
+        &mut errors,
+        steps,
+    );
     let Some((status, counts)) = exit_of(&outcome) else {
         return Outcome::of(outcome.answer);
     };

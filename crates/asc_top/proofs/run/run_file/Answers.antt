@@ -1,5 +1,5 @@
 -- What a file that is not too long was run as.
-use Rattle.std.proofs.Common.{◌≡◌, ◌∙◌, ◌&&◌, ◌||◌, ℕ, Bool, List, [], length, Option, Some, None, Ok, Err, true, false, refl, sym, ap, subst}
+use Rattle.std.proofs.Common.{◌≡◌, ◌∙◌, ◌&&◌, ◌||◌, ℕ, Bool, [], Some, None, true, false, refl, sym, ap, subst}
 use Rattle.asc_calls.specs.World.{faults, outside}
 use Rattle.asc_run.specs.Helped.{aid}
 use Rattle.asc_run.specs.declared.walk.Settings.{Settings}

@@ -1,8 +1,7 @@
 -- What holds of the answer to a trial.
-use Rattle.std.proofs.Common.{◌≡◌, ◌∙◌, ◌+◌, ℕ, List, [], length, Option, Some, None, Ok, ap, subst, sym, refl, arith}
+use Rattle.std.proofs.Common.{◌≡◌, ◌∙◌, ◌+◌, Ok, subst, sym}
 use Rattle.asc_make.specs.File.{image_of}
 use Rattle.asc_calls.specs.World.{faults, outside}
-use Rattle.asc_words.specs.declared.answer.Answer.{Answer}
 use Rattle.asc_words.specs.declared.answer.Outcome.{Outcome}
 use Rattle.asc_words.specs.declared.answer.TrialOutcome.{TrialOutcome}
 use Rattle.asc_words.specs.declared.line.Line.TheVariants as lines
