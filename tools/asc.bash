@@ -11,16 +11,29 @@ _asc() {
         before=${COMP_WORDS[COMP_CWORD - 2]}
     fi
     if [ "$COMP_CWORD" -eq 1 ]; then
-        offered=run
+        offered="run make trial"
+    elif [ "${COMP_WORDS[1]}" != run ] && [ "$before" != --workers ]; then
+        [ "${COMP_WORDS[1]}" = trial ] && offered=--workers
     else
         case $before in
             --memory) offered="64 1024 65536" ;;
             --steps) offered="0 1099511627776" ;;
             --machine) offered="1 2" ;;
+            --guess) offered="none last stride both" ;;
+            --profile) offered="2 4096 65536" ;;
+            --min) offered="2 4 65536" ;;
+            --laps) offered="1 1000000" ;;
+            --span) offered="1 1000000 1000000000" ;;
+            --ahead) offered="1 4 64" ;;
+            --workers) offered="0 64" ;;
+            --queue) offered="1 256 1024" ;;
             --pc) ;;
             *)
                 case $word in
-                    -*) offered="--memory --steps --machine --pc --report" ;;
+                    -*)
+                        offered="--memory --steps --machine --guess --pc --profile --min --laps --span --ahead \
+                            --workers --queue --report"
+                        ;;
                     *)
                         mapfile -t COMPREPLY < <(compgen -f -- "$word")
                         compopt -o filenames 2>/dev/null

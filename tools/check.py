@@ -53,15 +53,21 @@ def module(path):
 # ---- the options of asc, which the man page, asc-why and the completion repeat
 
 def options():
-    """Each option of `asc run`, from its definition: its range and its default, or what it takes."""
+    """Each option of `asc run`, from its definition: its range or its words and its default, or what it takes."""
     text = (ROOT / "crates/asc_words/specs/Command.antt").read_text()
+    lines = (ROOT / "crates/asc_words/specs/Line.antt").read_text()
     rows = re.search(r"^run_arguments =\n(.*?)^ *∷ \[\]", text, re.M | re.S)[1]
+    rows = rows.replace("workers_option", re.search(r"^workers_option = (.*)$", text, re.M)[1])
     found = {}
     for kind, name, rest in re.findall(r"(\w+) \(codes \"(\w+)\"\)(.*)", rows):
         numbers = re.fullmatch(r" (\d+|\(2 \^ \d+\)) (\d+|\(2 \^ \d+\)) \(codes \"(\w+)\"\)", rest)
         if kind == "number_option" and numbers:
             least, most = (eval(number.replace("^", "**")) for number in numbers.groups()[:2])
             found[f"--{name}"] = (least, most), int(numbers[3])
+        elif kind == "text_with_default":
+            guesses = re.search(r"^guesses_of text =\n(.*?)\n\n", lines, re.M | re.S)[1]
+            found[f"--{name}"] = (tuple(re.findall(r"codes \"(\w+)\"", guesses)),
+                                  re.search(r'codes "(\w+)"', rest)[1])
         elif kind in ("text_option", "flag"):
             found[f"--{name}"] = {"text_option": "an address", "flag": "nothing"}[kind], None
         else:
@@ -76,36 +82,45 @@ def check_options(why):
     page = (ROOT / "docs/asc.1").read_text()
     plain = page.replace("\\-", "-")
     same("options of the man page", re.findall(r"^\.BI? (--\w+)", plain, re.M), list(known))
-    same("options of its synopsis", re.findall(r"\[ (--\w+)", plain), list(known))
+    same("options of its synopsis", re.findall(r"\[ (--\w+)", plain), [*known, "--workers"])
     for name, (taken, default) in known.items():
         if default is None:
             continue
         described = re.search(rf"^\.BI {name} .*?(?=^\.TP|^\.SH)", plain, re.M | re.S)
-        wanted = f"from {taken[0]} to {taken[1]}", f"\n{default} where it is not given."
+        range_of = [f"from {taken[0]} to {taken[1]}"] if isinstance(default, int) else list(taken)
+        wanted = [*range_of, f"\n{default} where it is not given."]
         same(f"the man page's range and default of {name}",
-             [text in described[0] for text in wanted] if described else None, [True, True])
+             [text for text in wanted if not described or text not in described[0]], [])
     if has("groff", "the layout of the man page"):
         run = subprocess.run(["groff", "-man", "-ww", "-z", ROOT / "docs/asc.1"], capture_output=True, text=True)
         same("groff's warnings of the man page", (run.returncode, run.stderr), (0, ""))
     return known
 
 
-def check_words(why):
+def meaning(command, behind, values, known):
+    """A command line as the tests of asc_words write it: what differs from its default stands behind the first four."""
+    if command != "run":
+        return f"{command} {behind}" + (f" workers {values.get('--workers', 0)}" if command == "trial" else "")
+    told = [str(values.get(name, known[name][1])) for name in ("--memory", "--steps", "--machine")]
+    for name, (_, default) in list(known.items())[3:]:
+        value = values.get(name, default)
+        if value != default:
+            told.append({"--guess": value, "--report": "report"}.get(name, f"{name[2:]} {value}"))
+    return " ".join([behind, *told])
+
+
+def check_words(why, known):
     """asc-why finds what is wrong in just the command lines that asc refuses, as its own tests list them."""
     text = (ROOT / "crates/asc_words/src/tests.rt").read_text()
     table = re.search(r"static LINES.*?\[\n(.*?)\n\];", text, re.S)[1]
     lines = re.findall(r"\(\s*\"(.*?)\",\s*\"(.*?)\",?\s*\)", table)
     same("rows of command lines", len(lines), int(re.search(r"static LINES: .*; (\d+)\]", text)[1]))
-    for line, meaning in lines:
+    for line, wanted in lines:
         try:
-            image, values = why.line_of(line.split(" ")[1:])
-            found = [image] + [str(values.get(f"--{name}", default)) for name, default in
-                               (("memory", 1024), ("steps", 2**40), ("machine", 2))]
-            found += [f"pc {values['--pc']}"] if "--pc" in values else []
-            found = " ".join(found + (["report"] if "--report" in values else []))
+            found = meaning(*why.line_of(line.split(" ")[1:]), known)
         except why.Wrong:
             found = "refused"
-        same(f"what asc-why makes of `{line}`", found, "refused" if meaning == "no address" else meaning)
+        same(f"what asc-why makes of `{line}`", found, "refused" if wanted == "no address" else wanted)
 
 
 # ---- images
@@ -178,7 +193,8 @@ LINES = [
     (f'"$@" {HELLO}', None),
     (f'echo 0 | "$@" {MATRIX}', None),
     (f'"$@" {HELLO} --mem 64',
-     "there is no option --mem: there are --memory, --steps, --machine, --pc, --report, and none is abbreviated"),
+     "there is no option --mem: there are --memory, --steps, --machine, --guess, --pc, --profile, "
+     "--min, --laps, --span, --ahead, --workers, --queue, --report, and none is abbreviated"),
     (f'"$@" {HELLO} --memory 63', "--memory 63 is out of range, which is 64 to 65536"),
     (f'"$@" {HELLO} --memory 1M', "--memory wants a number in decimal digits, from 64 to 65536, and '1M' is none"),
     (f'"$@" {HELLO} --pc 0x10054',
@@ -428,17 +444,21 @@ def check_completion(known):
         script = 'source "$1"; shift; COMP_WORDS=("$@"); COMP_CWORD=$(($# - 1)); _asc; printf "%s\\n" "${COMPREPLY[@]}"'
         return outcome(["bash", "-c", script, "bash", TOOLS / "asc.bash", *words], cwd=ROOT)[0].decode().split()
 
-    same("the first word", offered("asc", ""), ["run"])
+    same("the first word", offered("asc", ""), ["run", "make", "trial"])
+    same("options of trial", offered("asc", "trial", "7", "--"), ["--workers"])
+    same("numbers of trial's workers", offered("asc", "trial", "--workers", ""), ["0", "64"])
+    same("options of make", offered("asc", "make", ""), [])
     same("options", offered("asc", "run", "--"), list(known))
     same("a part of one", offered("asc", "run", "--st"), ["--steps"])
     same("files", offered("asc", "run", "examples/images/h"), ["examples/images/hello"])
     for name, (taken, default) in known.items():
         if default is None:
             continue
-        wanted = {str(number) for number in (*taken, default)}
+        wanted = {str(value) for value in (*taken, default)}
         same(f"numbers of {name}", set(offered("asc", "run", name, "")), wanted)
         same(f"numbers of {name}=", set(offered("asc", "run", name, "=")), wanted)
-        same(f"numbers of {name}={default}", offered("asc", "run", name, "=", str(default)), [str(default)])
+        same(f"numbers of {name}={default}", set(offered("asc", "run", name, "=", str(default))),
+             {word for word in wanted if word.startswith(str(default))})
 
 
 def main():
@@ -447,7 +467,7 @@ def main():
         sys.exit(f"tools/check.py: no program {program}; rt run in crates/asc_cli builds it")
     why = module(TOOLS / "asc-why")
     known = check_options(why)
-    check_words(why)
+    check_words(why, known)
     for tool, lines in (("asc-why", 1), ("asc-steps", 1), ("asc-pc", 1), ("asc-plot", 3)):
         told = outcome([TOOLS / tool, "--help"])
         same(f"{tool} --help", (told[0].decode().count(f"    {tool} "), told[1:]), (lines, (b"", 0)))
