@@ -1,5 +1,5 @@
 -- Posts before and after workers have served, and the last of several.
-use Rattle.std.proofs.Common.{◌≡◌, ℕ, ◌+◌, ◌*◌, ◌^◌, ◌<◌, ◌≤◌, List, [], ◌∷◌, ◌++◌, false, true, Option, Some, All, length, get_or, refl, sym, ap, ◌∙◌, subst, arith, length-append, add_assoc, add-zero, zero-add, add_comm}
+use Rattle.std.proofs.Common.{◌≡◌, ℕ, ◌+◌, ◌*◌, ◌^◌, ◌<◌, ◌≤◌, List, [], ◌∷◌, ◌++◌, false, true, Option, Some, All, length, get_or, take, drop, refl, sym, ap, ◌∙◌, subst, arith, length-append, append-nil, drop_of_length-le, take_all, add_assoc, add-zero, zero-add, add_comm}
 use Rattle.std.specs.Option.{option_to_list}
 use Rattle.std.proofs.lemmas.List.Elements.{All-nil, All-cons, All-head, All-tail, All-push}
 use Rattle.atomic_table.specs.Seated.{TableId}
@@ -10,7 +10,7 @@ use Rattle.asc_jobs.specs.declared.hand.Hand.{Hand}
 use Rattle.asc_jobs.specs.declared.job.Job.{Job}
 use Rattle.asc_jobs.proofs.Lists.{length_merge}
 use Rattle.asc_work.specs.Worker.{Worker}
-use Rattle.asc_work.specs.Posts.{HasServed, IsManned, all_tallies}
+use Rattle.asc_work.specs.Posts.{HasServed, IsManned, IsTeam, queue_of, all_tallies}
 use Rattle.asc_work.specs.declared.post.Post.{Post}
 
 -- ---- the last of a list
@@ -164,8 +164,8 @@ few_jobs queue all left rest q v c is small taken =
     let n = one_less left rest q is in
     omega (arith, taken.few, m.1.most)
 
-pub queue_of : {W H : Type 0} (queue : TableId) (all left rest : List (Post W H)) (q : Post W H) → left ≡ rest ++ q ∷ [] → All (IsManned queue) left → q.taker.queue ≡ queue
-queue_of queue all left rest q is manned = (all_popped (IsManned queue) left rest q is manned).1.queue_is
+pub queue_at : {W H : Type 0} (queue : TableId) (all left rest : List (Post W H)) (q : Post W H) → left ≡ rest ++ q ∷ [] → All (IsManned queue) left → q.taker.queue ≡ queue
+queue_at queue all left rest q is manned = (all_popped (IsManned queue) left rest q is manned).1.queue_is
 
 -- ---- new posts
 
@@ -206,3 +206,60 @@ man_counts takers rest_takers workers rest_workers posts more p e f pushed same 
     let a = one_less takers rest_takers p.taker e in let b = one_less workers rest_workers p.worker f in
     let d = one_less more posts p pushed in
     (omega arith, omega arith, d)
+
+-- ---- teams
+
+pub queue_known : {W H : Type 0} (queue : TableId) (posts : List (Post W H)) → 0 < length posts → All (IsManned queue) posts → queue_of posts ≡ Some queue
+queue_known queue [] some manned = absurd (omega arith)
+queue_known queue (p ∷ posts) some manned = ap Some (All-head (IsManned queue) p posts manned).queue_is
+
+one_queue : (found : Option TableId) (a b : TableId) → found ≡ Some a → found ≡ Some b → a ≡ b
+one_queue found a b e f = let g : Some a ≡ Some b = sym e ∙ f in cc
+
+-- posts of one queue are a team's
+pub team_made : {W H : Type 0} (queue : TableId) (posts : List (Post W H)) → 0 < length posts → length posts ≤ 64 → All (IsManned queue) posts → IsTeam posts
+team_made queue posts some few manned = record {
+  some = some;
+  few = few;
+  manned = λ other e. subst (λ (q : TableId). All (IsManned q) posts) (one_queue (queue_of posts) queue other (queue_known queue posts some manned) e) manned;
+}
+
+pub team_most : {W H : Type 0} (posts : List (Post W H)) → IsTeam posts → All (λ (p : Post W H). p.worker.tally.ran ≤ 2 ^ 57) posts
+team_most [] team = absurd (let s = team.some in omega arith)
+team_most (p ∷ posts) team = λ k d l. (team.manned p.taker.queue refl k d l).most
+
+-- a team that has served is one still, and of the same queue
+pub team_served : {W H : Type 0} (count : H → ℕ) (old new : List (Post W H)) → IsTeam old → length new ≡ length old
+    → ((i : ℕ) (d : Post W H) → i < length old → HasServed count (get_or old i d) (get_or new i d)) → IsTeam new × (queue_of new ≡ queue_of old)
+team_served count [] new team size served = absurd (let s = team.some in omega arith)
+team_served count (p ∷ old) new team size served =
+    let queue = p.taker.queue in
+    let manned = all_manned count queue (p ∷ old) new size served (team.manned queue refl) in
+    let s = team.some in let f = team.few in
+    (team_made queue new (omega arith) (omega arith) manned, queue_known queue new (omega arith) manned)
+
+-- what a vector has once all of it was written as a slice
+pub written : {X : Type 0} (n : ℕ) (now old new : List X) → now ≡ old → length now ≡ n → length new ≡ length now → take n (new ++ drop (length new) old) ≡ new
+written n now old new same size count =
+    let e : length old ≡ length new = ap (λ l. length l) (sym same) ∙ sym count in
+    let nothing : drop (length new) old ≡ [] = drop_of_length-le old (omega arith) in
+    ap (λ l. take n (new ++ l)) nothing ∙ ap (take n) (append-nil new) ∙ take_all n new (omega arith)
+
+-- a team whose posts were written so
+pub team_written : {W H : Type 0} (count : H → ℕ) (n : ℕ) (now old new : List (Post W H)) → now ≡ old → length now ≡ n → length new ≡ length now → IsTeam old
+    → ((i : ℕ) (d : Post W H) → i < length now → HasServed count (get_or now i d) (get_or new i d))
+    → IsTeam (take n (new ++ drop (length new) old)) × (queue_of (take n (new ++ drop (length new) old)) ≡ queue_of old)
+    × ((i : ℕ) (d : Post W H) → i < length old → HasServed count (get_or old i d) (get_or (take n (new ++ drop (length new) old)) i d))
+team_written {W} {H} count n now old new same size counted team served =
+    let e = written n now old new same size counted in
+    let there : (i : ℕ) (d : Post W H) → i < length old → HasServed count (get_or old i d) (get_or new i d) =
+    subst (λ (ps : List (Post W H)). (i : ℕ) (d : Post W H) → i < length ps → HasServed count (get_or ps i d) (get_or new i d)) same served in
+    let all = team_served count old new team (counted ∙ ap (λ l. length l) same) there in (
+      subst IsTeam (sym e) all.0,
+      ap queue_of e ∙ all.1,
+      λ i d l. served_at count old new (take n (new ++ drop (length new) old)) i d e (there i d l),
+    )
+
+pub served_as : {W H : Type 0} (count : H → ℕ) (old shown new : List (Post W H)) → old ≡ shown → ((i : ℕ) (d : Post W H) → i < length old → HasServed count (get_or old i d) (get_or new i d))
+    → (i : ℕ) (d : Post W H) → i < length shown → HasServed count (get_or shown i d) (get_or new i d)
+served_as {W} {H} count old shown new e h = subst (λ (ps : List (Post W H)). (i : ℕ) (d : Post W H) → i < length ps → HasServed count (get_or ps i d) (get_or new i d)) e h

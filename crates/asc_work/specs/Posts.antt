@@ -1,5 +1,5 @@
 -- What workers at their posts have done.
-use Rattle.std.specs.Prelude.{◌≡◌, ℕ, ◌+◌, ◌^◌, ◌≤◌, List, [], ◌∷◌, false, length}
+use Rattle.std.specs.Prelude.{◌≡◌, ℕ, ◌+◌, ◌^◌, ◌<◌, ◌≤◌, Option, Some, None, List, [], ◌∷◌, false, All, length}
 use Rattle.atomic_table.specs.Seated.{TableId}
 use Rattle.asc_outside.specs.Outside.{one_more}
 use Rattle.asc_jobs.specs.Hands.{hand}
@@ -38,3 +38,18 @@ pub record IsManned {W H : Type 0} (queue : TableId) (p : Post W H) : Type 0 whe
 abbrev pub all_tallies : {W H : Type 0} → List (Post W H) → Counts
 all_tallies [] = no_jobs
 all_tallies (p ∷ posts) = added p.worker.tally (all_tallies posts)
+
+-- a team of workers: their queue, where there is a worker, and their posts
+pub record Team (W H : Type 0) : Type 0 where
+  pub queue : Option TableId
+  pub posts : List (Post W H)
+
+abbrev pub queue_of : {W H : Type 0} → List (Post W H) → Option TableId
+queue_of [] = None
+queue_of (p ∷ posts) = Some p.taker.queue
+
+-- 1 to 64 workers of one queue, in whose tallies are the jobs that they took
+pub record IsTeam {W H : Type 0} (posts : List (Post W H)) : Type 0 where
+  pub some : 0 < length posts
+  pub few : length posts ≤ 64
+  pub manned : (queue : TableId) → queue_of posts ≡ Some queue → All (IsManned queue) posts

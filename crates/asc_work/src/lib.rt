@@ -4,6 +4,7 @@
 mod hold;
 mod post;
 mod scope;
+mod team;
 #[cfg(test)]
 mod tests;
 mod work;
@@ -11,7 +12,7 @@ mod worker;
 
 pub use asc_jobs::Column as Ran;
 pub use hold::{Hold, HoldGate};
-pub use post::{Post, TakenIn, man, take_in};
-pub use scope::beside;
+pub use post::TakenIn;
+pub use team::Team;
 pub use work::work_loop;
 pub use worker::Worker;

@@ -15,12 +15,9 @@ use std::sync::Wait;
 
 /// A worker, with what it takes jobs from and where it parks.
 #[derive(Drop)]
-pub struct Post<W: Insert + Drop, H: Halt + Drop> {
-    /// The worker.
+pub(crate) struct Post<W: Insert + Drop, H: Halt + Drop> {
     pub worker: Worker<W, H>,
-    /// It takes the worker's jobs.
     pub taker: Taker,
-    /// The worker parks on it.
     pub parker: Parker,
 }
 
@@ -44,7 +41,7 @@ impl<W: Insert + Drop, H: Halt + Drop> Post<W, H> {
 }
 
 /// Posts of workers that have run no job, and what wakes them. There are as many takers as workers.
-pub fn man<W: Insert + Drop, H: Halt + Drop>(
+pub(crate) fn man<W: Insert + Drop, H: Halt + Drop>(
     alloc: Global,
     mut workers: Vec<Worker<W, H>>,
     mut takers: Vec<Taker>,
@@ -73,7 +70,7 @@ pub fn man<W: Insert + Drop, H: Halt + Drop>(
 }
 
 /// Takes workers in, once all jobs were pushed and the workers have ended. It pops the jobs that are left.
-pub fn take_in<R: Wait, W: Insert + Drop, H: Halt + Drop>(
+pub(crate) fn take_in<R: Wait, W: Insert + Drop, H: Halt + Drop>(
     rt: &R,
     giver: Giver,
     mut posts: Vec<Post<W, H>>,

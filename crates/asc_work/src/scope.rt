@@ -4,7 +4,7 @@ ghost use Rattle.atomic_table.specs.Seated.{TableId};
 ghost use Rattle.asc_work.specs.Posts.{HasServed, IsManned};
 ghost use Rattle.asc_work.specs.declared.post.Post.{Post};
 
-use crate::Post;
+use crate::post::Post;
 use asc_cache::Insert;
 use asc_outside::Gate;
 use asc_traj::Halt;
@@ -16,7 +16,7 @@ use std::thread::{Threads, for_each_mut, join_mut};
 ///
 /// Each worker runs in a thread of its own where one can be made. Where none can, the workers run once the walk has
 /// ended, and then stop at once.
-pub fn beside<
+pub(crate) fn beside<
     R: Threads + Wait + Sync,
     W: Insert + Drop + Send,
     H: Halt + Drop + Send,

@@ -1,6 +1,7 @@
-ghost use Rattle.std.specs.Prelude.{◌≡◌};
+ghost use Rattle.std.specs.Prelude.{◌≡◌, All, length};
+ghost use Rattle.asc_jobs.specs.Tally.{no_jobs};
 
-use crate::{Hold, HoldGate, Ran, Worker, beside, man, take_in};
+use crate::{Hold, HoldGate, Ran, Team, Worker};
 use asc_cache::{Cache, ListWriter, ShardWriter};
 use asc_jobs::{Giver, Job, Jobs, Kind, Tally};
 use asc_outside::{Gate, Open, Point};
@@ -29,10 +30,11 @@ const COUNTING: [u32; 7] = [
 fn counting<R: Abort>(rt: &R, alloc: Global, pc: u32, x5: u32) -> Arc<Snapshot> {
     let shape = Shape::new(0x10000, 65_536).expect(rt, "a good shape");
     let mut state = State::new(alloc, shape).expect(rt, "memory");
-    for (word, at) in COUNTING.iter().zip(0u32..7) {
-        let at = 0x10000 + 4 * at;
+    let mut at = 0x10000;
+    for word in COUNTING {
         assert!(rt; state.holds(at, 4));
         state.write(at, &word.to_le_bytes());
+        at = at.wrapping_add(4);
     }
     state.set_pc(pc);
     state.set_reg(5, x5);
@@ -104,6 +106,17 @@ fn one_job(rt: HostRuntime) {
     }
 }
 
+/// Pushes a job that guesses the last state as it is.
+fn push<R: Abort + Wait>(rt: &R, giver: &mut Giver, last: &Arc<Snapshot>)
+    ensures queue { giver.new.queue ≡ giver.old.queue }
+    ensures opened { giver.new.opened ≡ giver.old.opened }
+{
+    assert!(rt; giver.pushed() < 1 << 60);
+    let prev = Arc::try_clone(last).expect(rt, "memory");
+    let last = Arc::try_clone(last).expect(rt, "memory");
+    assert!(rt; giver.push(rt, prev, last, 1, Kind::Last).is_ok());
+}
+
 /// Pushes two jobs, waits until both are done, and stops the workers.
 fn walk<R: Abort + Wait, G: Gate>(
     rt: &R,
@@ -116,17 +129,8 @@ fn walk<R: Abort + Wait, G: Gate>(
     ensures queue { giver.new.queue ≡ giver.old.queue }
     ensures opened { giver.new.opened ≡ giver.old.opened }
 {
-    for _ in 0..2 {
-        assert!(rt; giver.pushed() < 1 << 60);
-        let Job {
-            prev,
-            last,
-            ahead,
-            kind,
-            ..
-        } = last_job(rt, Arc::try_clone(last).expect(rt, "memory"));
-        assert!(rt; giver.push(rt, prev, last, ahead, kind).is_ok());
-    }
+    push(rt, giver, last);
+    push(rt, giver, last);
     wake(wakers);
     gate.pass(Point::Ended, giver.pushed());
     halter.halt();
@@ -155,23 +159,51 @@ fn holds() -> [Hold; 3] {
     ]
 }
 
+/// The next of these writers and flags, as a worker.
+fn next_worker<R: Abort + Wait + Drop>(
+    rt: &R,
+    alloc: Global,
+    shape: Shape,
+    writers: &mut Vec<ShardWriter<R>>,
+    flags: &mut Vec<Flag>,
+) -> Worker<ShardWriter<R>, Flag>
+    ensures { result.tally ≡ no_jobs }
+{
+    let writer = writers.pop().expect(rt, "a writer");
+    let flag = flags.pop().expect(rt, "a flag");
+    match Worker::new(alloc, shape, 1, 100, writer, flag) {
+        Ok(worker) => worker,
+        Err(_) => panic!(rt; "no memory"),
+    }
+}
+
+/// Two workers.
+fn two_workers_of<R: Abort + Wait + Copy + Drop>(
+    rt: &R,
+    alloc: Global,
+    shape: Shape,
+    mut flags: Vec<Flag>,
+) -> Vec<Worker<ShardWriter<R>, Flag>>
+    ensures count { length result.items ≡ 2 }
+    ensures new { All (λ w. w.tally ≡ no_jobs) result.items }
+{
+    let cache = Cache::open(alloc, *rt, 2, 16).expect(rt, "memory");
+    let (mut writers, _readers) = cache.split();
+    let mut workers = Vec::new(alloc);
+    let first = next_worker(rt, alloc, shape, &mut writers, &mut flags);
+    workers.push(first).expect(rt, "memory");
+    let second = next_worker(rt, alloc, shape, &mut writers, &mut flags);
+    workers.push(second).expect(rt, "memory");
+    workers
+}
+
 /// Two workers beside a walk that pushes two jobs of one state: each runs one of them.
 fn run_two<R: Abort + Threads + Wait + Sync + Copy + Drop + Send>(rt: &R, alloc: Global) {
     let last = counting(rt, alloc, 0x10008, 0);
-    let (mut halter, mut flags) = Halter::open(alloc, 2).expect(rt, "memory");
+    let (mut halter, flags) = Halter::open(alloc, 2).expect(rt, "memory");
     let (mut giver, takers) = Jobs::open(alloc, 4, 2).expect(rt, "memory");
-    let cache = Cache::open(alloc, *rt, 2, 16).expect(rt, "memory");
-    let (mut writers, _readers) = cache.split();
-    let mut workers: Vec<Worker<ShardWriter<R>, Flag>> = Vec::new(alloc);
-    for _ in 0..2 {
-        let writer = writers.pop().expect(rt, "two writers");
-        let flag = flags.pop().expect(rt, "two flags");
-        match Worker::new(alloc, last.shape(), 1, 100, writer, flag) {
-            Ok(worker) => workers.push(worker).expect(rt, "memory"),
-            Err(_) => panic!(rt; "no memory"),
-        }
-    }
-    let (mut posts, wakers) = man(alloc, workers, takers).expect(rt, "memory");
+    let workers = two_workers_of(rt, alloc, last.shape(), flags);
+    let (mut team, wakers) = Team::new(alloc, &giver, workers, takers).expect(rt, "memory");
     let gate = HoldGate::new(alloc, &holds(), 1_000_000).expect(rt, "memory");
     beside(
         rt,
@@ -181,7 +213,7 @@ fn run_two<R: Abort + Threads + Wait + Sync + Copy + Drop + Send>(rt: &R, alloc:
             walk(rt, &mut giver, &mut halter, &wakers, &gate, &last);
         },
     );
-    let taken = take_in(rt, giver, posts);
+    let taken = team.take_in(rt, giver);
     assert!(rt; !gate.ran_out());
     assert_eq!(rt;
         (taken.tally.ran, taken.tally.stored, taken.left),
