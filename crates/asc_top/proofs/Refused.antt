@@ -47,6 +47,7 @@ ran_image line content fault o within loads = record {
   stopped = λ device failed. absurd (cc);
   refused = λ _. refl;
   counts = ((λ told. let no : false ≡ true = told in absurd (cc)), (λ h. let no = h.1 in absurd (cc)));
+  workers = refl;
   shape = λ image loaded. absurd (cc (loads, loaded));
   limit = tt;
   faults = refl;

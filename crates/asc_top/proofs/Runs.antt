@@ -91,6 +91,7 @@ module _ (line : RunLine) (content : List ℕ) (old new : Devices) (outcome : Ou
     faults = r.faults;
     no_report_fault = no_report_fault;
     counts = r.counts;
+    workers = r.workers;
     refused = r.refused;
     files = files;
     names = inl names;
@@ -120,6 +121,7 @@ answer_of_long old files after faults line longer files_stay names stays =
       faults = refl;
       no_report_fault = λ is. cc;
       counts = ((λ told. let no : false ≡ true = told in absurd (cc)), (λ h. let no = h.1 in absurd (cc)));
+      workers = refl;
       refused = λ _. refl;
       files = files_stay;
       names = inl names;

@@ -210,6 +210,7 @@ module _ (n workers : ℕ) (remains : Option (List ℕ)) (put complained before 
         faults = subst (λ (d : Option Device). BlamesOnly d fs fs) (sym undisturbed) refl;
         no_report_fault = λ is. report_fault-never line content within _ _ outcome (means_at _ is (λ memory. cc)) is;
         counts = ((λ told. let no : false ≡ true = told in absurd (cc)), (λ h. absurd h.0));
+        workers = refl;
         refused = λ refused. let same = r.refused refused in λ i. outside left out err (same i).steps fs;
         files = refl;
         names = refl;
@@ -297,6 +298,7 @@ module _ (n workers : ℕ) (remains : Option (List ℕ)) (put complained before 
           faults = λ i. faults input_faults (stays i) err_faults;
           no_report_fault = λ is. cc;
           counts = ((λ told. let no : false ≡ true = told in absurd (cc)), (λ h. absurd h.0));
+          workers = refl;
           refused = λ refused. absurd (not_refusal refused);
           files = refl;
           names = refl;
@@ -341,6 +343,7 @@ module _ (n workers : ℕ) (remains : Option (List ℕ)) (put complained before 
           faults = λ i. faults input_faults (rose i) err_faults;
           no_report_fault = λ is. cc;
           counts = ((λ told. let no : false ≡ true = told in absurd (cc)), (λ h. absurd h.0));
+          workers = refl;
           refused = λ refused. absurd (not_refusal refused);
           files = refl;
           names = refl;

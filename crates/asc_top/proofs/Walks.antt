@@ -138,6 +138,7 @@ module _ (line : RunLine) (content : List ℕ) (image : loader.Image) (within : 
         refused = λ refused. absurd (run-not_refused w.ended now.count refused);
         counts = counts-told line.report w.ended now.count told;
         limit = told_have (λ c. c.executed + c.skipped ≤ line.limit) line.report w.ended told (omega (arith, w.executed, w.limit, limit));
+        workers = refl;
         shape = λ other loaded. let same : image ≡ other = cc (loads, loaded) in subst (λ (i : loader.Image). IsShape i.start.shape) same good;
         faults = subst (λ d. BlamesOnly d old.faults new.faults) (sym device) w.faults;
       })

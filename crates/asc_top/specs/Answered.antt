@@ -156,6 +156,8 @@ pub record IsAnswerFor (asked : Asked) (old new : Devices) (outcome : Outcome) :
   pub no_report_fault : outcome.answer ≢ answers.ReportFault
   -- the numbers of a run are told where the words ask for them and the guest came to an end, and else none are
   pub counts : IsSome outcome.counts ↔ (AskForCounts asked × (kind_of outcome.answer ≡ Finished))
+  -- as yet there are no workers, and nothing is told of them
+  pub workers : outcome.workers ≡ None
   -- where the guest was not run, nothing was taken, put or counted
   pub refused : IsRefusal outcome.answer → new.guest ≡ old.guest
   pub files : new.files ≡ old.files

@@ -25,6 +25,7 @@ pub record Ran (old new : Outside) (line : RunLine) (content : List ℕ) (outcom
       → IsStopped old new device line content
   pub refused : IsRefusal outcome.answer → new ≡ old
   pub counts : IsSome outcome.counts ↔ (IsTrue line.report × (kind_of outcome.answer ≡ Finished))
+  pub workers : outcome.workers ≡ None
   pub shape : (image : loader.Image) → load_of line content ≡ Ok image → IsShape image.start.shape
   pub limit : IfSome outcome.counts (λ counts. counts.executed + counts.skipped ≤ line.limit)
   pub faults : BlamesOnly (device_of_answer outcome.answer) old.faults new.faults
