@@ -61,7 +61,7 @@ Done (Ok (lines.Trial n workers)) old new answered = Tries n workers old.guest n
 Done (Err bad) old new answered = (answered ≡ answers.Usage bad) × (new.guest ≡ old.guest)
 
 -- The headline. Where no device failed and no memory was wanting, the answer, what was taken and put, and the rise of
--- the counter are the definition's.
+-- the counter are the definition's. What is told of a run's numbers is said by `untold`, which holds of told runs too.
 abbrev pub Headline : Asked → (old new : Devices) → Answer → Type 0
 Headline asked old new answered = Completes answered → Done asked old new answered
 

@@ -50,8 +50,8 @@ header_text fault = []
 abbrev pub word_text : ℕ → List ℕ
 word_text word = encode_lower (to_be_bytes w32 word)
 
--- The line of an answer. A guest that ends by itself has none, and no more has a text that was written. Where the report itself fails, it has a prefix of the
--- text of the outcome that this answer replaces, and gets no more.
+-- The line of an answer. A guest that ends by itself has none, nor has a text that was written. Where the report itself
+-- fails, it has a prefix of the text of the outcome that this answer replaces, and gets no more.
 unfoldable pub answer_text : Answer → List ℕ
 answer_text (Exit code) = []
 answer_text (Done refused) = []
