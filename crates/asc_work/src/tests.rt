@@ -205,9 +205,8 @@ fn run_two<R: Abort + Threads + Wait + Sync + Copy + Drop + Send>(rt: &R, alloc:
     let workers = two_workers_of(rt, alloc, last.shape(), flags);
     let (mut team, wakers) = Team::new(alloc, &giver, workers, takers).expect(rt, "memory");
     let gate = HoldGate::new(alloc, &holds(), 1_000_000).expect(rt, "memory");
-    beside(
+    team.beside(
         rt,
-        posts.as_mut_slice(),
         &gate,
         &mut || {
             walk(rt, &mut giver, &mut halter, &wakers, &gate, &last);
