@@ -33,12 +33,16 @@ MAIN = """\
 #![tactic(auto)]
 
 use asc_run::{Helper, Serial};
-use asc_shape::{Shape, State};
-use asc_step::{Stepped, try_step};
+ghost use Rattle.std.specs.Prelude.{◌≡◌, ◌<◌};
+
+use asc_shape::{Shape, State, Steps};
+use asc_step::{Stepped, step_many};
 use asc_traj::Guessing;
 use std::alloc::Global;
 use std::env;
+use std::marker::Brand;
 use std::process::ExitCode;
+use std::sync::ledger::{Blank, Ledger};
 
 /// Whether laps are visited, the size of memory in KiB, half the steps of a lap but four, and how many laps.
 fn main(rt: HostRuntime) -> ExitCode {
@@ -77,7 +81,7 @@ fn measured(alloc: Global, visits: u64, size: u64, turns: u64, laps: u64) -> Opt
     for lap in 0..laps {
         run(&mut state, steps)?;
         if visits > 0 {
-            visit(&mut serial, &state, lap.checked_add(1)?)?;
+            visit(&mut serial, &mut state, lap.checked_add(1)?)?;
         }
     }
     if serial.refused() > 0 {
@@ -115,15 +119,22 @@ fn loaded(alloc: Global, shape: Shape, turns: u64) -> Option<State> {
 }
 
 fn run(state: &mut State, steps: u64) -> Option<()> {
-    for _ in 0..steps {
-        if try_step(state) != Stepped::Went {
-            return None;
-        }
+    if run_counted::<Brand>(state, steps, Blank::new(1)) {
+        return Some(());
     }
-    Some(())
+    None
 }
 
-fn visit(serial: &mut Serial, state: &State, number: u64) -> Option<()> {
+fn run_counted<L: Ledger>(state: &mut State, steps: u64, blank: Blank) -> bool
+    requires name { blank.name ≡ L.name }
+    requires parts { blank.parts ≡ L.parts }
+    requires some { 0 < L.parts }
+{
+    let mut counted = Steps::<L>::new(blank);
+    step_many(state, steps, &mut counted).1 == Stepped::Went
+}
+
+fn visit(serial: &mut Serial, state: &mut State, number: u64) -> Option<()> {
     if number > 1_000_000_000 || serial.made() > 1_000_000_000 {
         return None;
     }
