@@ -143,6 +143,14 @@ fn visit(serial: &mut Serial, state: &mut State, number: u64) -> Option<()> {
 }
 """
 
+# The ledger by which the steps of a lap are counted.
+GHOSTS = """\
+use Rattle.asc_visiting.proofs.run.Given as goal
+
+abbrev pub ghosts-run_counted : goal.ghosts-run_counted
+ghosts-run_counted a = record { name = a.blank.name; parts = a.blank.parts }
+"""
+
 
 def build(folder):
     """Builds the program in a copy of the crates that it stands on, and answers its path."""
@@ -153,8 +161,9 @@ def build(folder):
     for crate in NEEDED.split():
         shutil.copytree(ROOT / "crates" / crate, Path(folder, "crates", crate))
     crate = Path(folder, "crates", "asc_visiting")
-    (crate / "src").mkdir(parents=True)
-    (crate / "src/main.rt").write_text(MAIN)
+    for path, content in [("src/main.rt", MAIN), ("proofs/run/Invariants.antt", GHOSTS)]:
+        (crate / path).parent.mkdir(parents=True, exist_ok=True)
+        (crate / path).write_text(content)
     command = ["rt", "run", "--", "1", "64", "10", "2"]
     done = subprocess.run(command, cwd=crate, stdout=subprocess.PIPE, stderr=subprocess.STDOUT, text=True)
     if done.returncode != 0:
