@@ -1,7 +1,7 @@
 -- One more shard that was just opened.
 use Rattle.std.proofs.Common.{◌≡◌, ℕ, zero, suc, ◌+◌, ◌<◌, ◌≤◌, List, [], ◌∷◌, ◌++◌, length, get_or, refl, ap, sym, ◌∙◌, subst, arith, ⊎_elim, length-append}
 use Rattle.std.proofs.lemmas.Bool.{cases_lt}
-use Rattle.asc_cache.specs.Cache.{ShardWriter, ShardReader, IsOpened, AreOpened}
+use Rattle.asc_cache.specs.Cache.{Cache, ShardWriter, ShardReader, ShardReaders, AreLater, AreOpened, IsOpened, IsOwnReader}
 
 -- a list with one element more, at its old places and at the new one
 old-place : {X : Type 0} (xs : List X) (x d : X) (k : ℕ) → k < length xs → get_or (xs ++ x ∷ []) k d ≡ get_or xs k d
@@ -29,4 +29,30 @@ opened-more n capacity ws rs w r all one = record {
       subst (λ v. IsOpened capacity i v (get_or (rs ++ r ∷ []) i dr)) (sym x)
       (subst (λ v. IsOpened capacity i w v) (sym y) (subst (λ k. IsOpened capacity k w r) (sym e) one)))
       (cases_lt i n);
+}
+
+-- each writer's own reader is at its number
+pub own-reader : (shards capacity : ℕ) (ws : List ShardWriter) (rs : List ShardReader) → AreOpened shards capacity ws rs
+    → (i : ℕ) → i < shards → (w : ShardWriter) → IsOwnReader (get_or ws i w) rs
+own-reader shards capacity ws rs all i small w =
+    let at = all.each i w in
+    let there : (get_or ws i w).index ≡ i = ap (λ (x : ShardWriter). x.index) (at (record { shard = w.shard; capacity = 0; seen = [] }) small).writer in
+    record {
+      there = omega (arith, there, small, all.reader_count);
+      shard = λ d. ap (λ k. (get_or rs k d).shard) there ∙ ap (λ (r : ShardReader). r.shard) (at d small).reader;
+    }
+
+-- so it is in a cache that was opened and split
+pub own-of-split : (shards capacity : ℕ) (cache : Cache) (ws : List ShardWriter) (rs : ShardReaders) → AreOpened shards capacity cache.writers cache.readers.readers
+    → ws ≡ cache.writers → rs ≡ cache.readers → (i : ℕ) → i < shards → (w : ShardWriter) → get_or ws i w ≡ w → IsOwnReader w rs.readers
+own-of-split shards capacity cache ws rs all writers readers i small w here =
+    subst (λ (r : ShardReaders). IsOwnReader w r.readers) (sym readers)
+    (subst (λ (x : ShardWriter). IsOwnReader x cache.readers.readers) (ap (λ l. get_or l i w) (sym writers) ∙ here)
+    (own-reader shards capacity cache.writers cache.readers.readers all i small w))
+
+-- and it stays there, whatever the writer does and the readers see
+pub own-stays : (v w : ShardWriter) (rs qs : List ShardReader) → w.shard ≡ v.shard → w.index ≡ v.index → AreLater rs qs → IsOwnReader v rs → IsOwnReader w qs
+own-stays v w rs qs shard index later own = record {
+  there = omega (arith, index, own.there, later.count);
+  shard = λ d. ap (λ k. (get_or qs k d).shard) index ∙ (later.each v.index d own.there).shard ∙ own.shard d ∙ sym shard;
 }

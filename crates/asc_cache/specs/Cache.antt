@@ -104,7 +104,8 @@ pub record IsOpened (capacity index : ℕ) (w : ShardWriter) (r : ShardReader) :
 pub record AreOpened (shards capacity : ℕ) (writers : List ShardWriter) (readers : List ShardReader) : Type 0 where
   pub writer_count : length writers ≡ shards
   pub reader_count : length readers ≡ shards
-  pub each : (i : ℕ) (w : ShardWriter) (r : ShardReader) → i < shards → IsOpened capacity i (slice_index_or writers i w) (slice_index_or readers i r)
+  pub each : (i : ℕ) (w : ShardWriter) (r : ShardReader) → i < shards
+      → IsOpened capacity i (slice_index_or writers i w) (slice_index_or readers i r)
 
 -- readers tell no replies, have no plan, and are no machine
 abbrev pub replies_of : ShardReaders → Option (List (Option ℕ))

@@ -23,7 +23,8 @@ sight capacity front = record { capacity = capacity; front = front }
 
 -- that of one that has not looked
 abbrev pub first_sight : Sight
-first_sight = sight 0 (record { marker = record {}; book = record { number = 0; log_name = 0; cells_name = 0 }; names = []; log = [] })
+first_sight =
+    sight 0 (record { marker = record {}; book = record { number = 0; log_name = 0; cells_name = 0 }; names = []; log = [] })
 
 -- the shard is what its list of insertions leaves
 abbrev pub IsFolded : Instance → Type 0
@@ -31,7 +32,8 @@ IsFolded x = x.shard.held ≡ content_of x.shard.capacity x.front.log
 
 -- What a seat knows is so of the shard that is shown: its list begins with the one that was seen.
 abbrev pub IsSighted : Instance → Sight → Type 0
-IsSighted x v = 0 < v.capacity → (v.capacity ≡ x.shard.capacity) × (v.front.book ≡ x.front.book) × IsPrefix v.front.log x.front.log
+IsSighted x v = 0 < v.capacity
+    → (v.capacity ≡ x.shard.capacity) × (v.front.book ≡ x.front.book) × IsPrefix v.front.log x.front.log
 
 -- the rule, with what all seats know
 abbrev pub ShardRule : Instance → List Sight → Type 0
@@ -56,7 +58,8 @@ IsNext x i = (i.front.book ≡ x.front.book) × (i.front.log ≡ x.front.log ++ 
 
 -- the shard y is x with an insertion more
 abbrev pub Published : Instance → Insertion → Instance → Type 0
-Published x i y = (y.shard.held ≡ add x.shard.capacity x.shard.held (arc_value i.entry)) × (y.shard.capacity ≡ x.shard.capacity) × (y.front.book ≡ i.front.book) × (y.front.log ≡ i.front.log)
+Published x i y = (y.shard.held ≡ add x.shard.capacity x.shard.held (arc_value i.entry)) × (y.shard.capacity ≡ x.shard.capacity)
+    × (y.front.book ≡ i.front.book) × (y.front.log ≡ i.front.log)
 
 -- two shards that readers cannot tell apart
 abbrev pub IsAlike : Instance → Instance → Type 0

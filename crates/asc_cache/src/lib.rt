@@ -1,5 +1,4 @@
-//! A cache of entries that threads share: shards of one writer and one reader each, which look-ups enter without waiting
-//! for a writer.
+//! A cache of entries that threads share: shards of one writer and one reader each, where look-ups wait for no writer.
 //!
 //! Each shard is doubled by the kit's `left_right`. The list of its insertions lies in a `logbook` beside it: in proofs
 //! alone, since what lies in memory is its length.
@@ -12,6 +11,8 @@ mod log;
 mod reader;
 mod readers;
 mod sight;
+#[cfg(test)]
+mod tests;
 mod writer;
 
 pub use cache::Cache;

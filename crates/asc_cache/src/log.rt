@@ -85,17 +85,14 @@ impl Log {
             return false;
         }
         let mut whole = self.whole.again();
-        let mut offer: Offer<Entry, (), Counted, NoGain> =
-            whole.plain::<NoGain, Entry, Append>(entry);
+        let mut offer: Offer<Entry, (), Counted, NoGain> = whole.plain::<NoGain, Entry, Append>(
+            entry,
+        );
         let mut pen = whole.no_pen();
         let count = self.count;
-        let found = self.head.compare_exchange::<Append, NoGain>(
-            count,
-            count + 1,
-            &mut whole,
-            &mut offer,
-            &mut pen,
-        );
+        let found = self
+            .head
+            .compare_exchange::<Append, NoGain>(count, count + 1, &mut whole, &mut offer, &mut pen);
         if found != count {
             return false;
         }

@@ -95,12 +95,7 @@ struct Looked {
 }
 
 /// Enters, as often as it takes, and jumps by what is shown there.
-fn look<R: Wait>(
-    handle: ReadHandle,
-    rt: &R,
-    state: &mut State,
-    left: u64,
-) -> (Looked, Option<u64>)
+fn look<R: Wait>(handle: ReadHandle, rt: &R, state: &mut State, left: u64) -> (Looked, Option<u64>)
     requires { 0 < (view handle.place).capacity }
     ensures looked { HasLooked (view handle.place) (view result.0.handle.place) result.0.front result.0.stored }
     ensures longest { result.1

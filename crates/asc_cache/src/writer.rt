@@ -1,7 +1,7 @@
-ghost use Rattle.std.specs.Prelude.{◌≡◌, ◌<◌, ◌≤◌, true, false, [], ◌∷◌, ◌++◌, length, drop, IfOk, OnOk, OnErr};
+ghost use Rattle.std.specs.Prelude.{◌≡◌, ◌<◌, ◌≤◌, true, false, [], ◌∷◌, length, drop, IfOk, OnOk, OnErr};
 ghost use Rattle.std.specs.Arc.{arc_value};
 ghost use Rattle.left_right.specs.Sides.{view};
-ghost use Rattle.asc_shard.specs.Content.{content_of, outcome_of, IsContent};
+ghost use Rattle.asc_shard.specs.Content.{outcome_of, IsContent};
 ghost use Rattle.asc_cache.specs.ShardRule.{sight, IsAlike, IsFolded, IsNext, Published};
 ghost use Rattle.asc_cache.specs.Cache.{IsOpened, shard_of, told_by, writer_after};
 ghost use Rattle.asc_cache.specs.declared.instance.Insertion.{Insertion};
@@ -58,20 +58,18 @@ impl<R: Wait + Drop> Model for ShardWriter<R> {
 // Publishes one insertion, which was appended.
 fn publish<R: Wait>(handle: WriteHandle, rt: &R) -> (WriteHandle, Result<(), AllocError>)
     requires folded { IsFolded handle.desk.shown.value }
-    requires next { (i : Insertion) × (drop handle.behind handle.log.items ≡ i ∷ []) × IsNext handle.desk.shown.value i }
+    requires next { (i : Insertion) × (drop handle.behind handle.log.items ≡ i ∷ [])
+        × IsNext handle.desk.shown.value i }
     ensures ok { OnOk result.1 ((drop result.0.behind result.0.log.items ≡ [])
-        × ((i : Insertion) → drop handle.behind handle.log.items ≡ i ∷ [] → Published handle.desk.shown.value i result.0.desk.shown.value)) }
+        × ((i : Insertion) → drop handle.behind handle.log.items ≡ i ∷ []
+        → Published handle.desk.shown.value i result.0.desk.shown.value)) }
     ensures err { OnErr result.1 (result.0.desk.shown.value ≡ handle.desk.shown.value) }
 {
     handle.publish_as::<Publishes, R>(rt)
 }
 
 // Appends an insertion, and publishes it. Where memory is wanting what is shown stays.
-fn store<R: Wait>(
-    rt: &R,
-    handle: &mut WriteHandle,
-    insertion: Insertion,
-) -> Result<(), AllocError>
+fn store<R: Wait>(rt: &R, handle: &mut WriteHandle, insertion: Insertion) -> Result<(), AllocError>
     requires folded { IsFolded handle.old.desk.shown.value }
     requires next { (drop handle.old.behind handle.old.log.items ≡ []) × IsNext handle.old.desk.shown.value insertion }
     ensures ok { OnOk result ((drop handle.new.behind handle.new.log.items ≡ [])
@@ -119,6 +117,13 @@ impl<R: Wait + Drop> ShardWriter<R> {
         ensures { result ≡ told_by self.now }
     {
         Told::of(self.handle.published(), self.index)
+    }
+
+    /// The number of its shard in the cache.
+    pub fn index(&self) -> usize
+        ensures { result ≡ self.now.index }
+    {
+        self.index
     }
 
     /// How many insertions were stored.

@@ -1,4 +1,4 @@
-use Rattle.std.proofs.Common.{◌≡◌, refl, sym, subst, arith}
+use Rattle.std.proofs.Common.{◌≡◌, sym, subst, arith}
 use Rattle.asc_cache.specs.Cache.{ShardReaders, AreOpened}
 use Rattle.asc_cache.proofs.Opened.{opened-more}
 use Rattle.asc_cache.proofs.cache.Cache.open.Goals as goal

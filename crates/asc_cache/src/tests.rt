@@ -1,0 +1,312 @@
+ghost use Rattle.std.specs.Prelude.{IfOk};
+ghost use Rattle.asc_traj.specs.Trace.{StandsFor};
+ghost use Rattle.asc_cache.specs.Cache.{AreLater, IsOwnReader};
+
+use crate::{Cache, Insert, ListWriter, ShardReaders, ShardWriter};
+use asc_depvec::Tracer;
+use asc_shape::{Memory, Shape, State};
+use asc_shard::{Inserted, Shard};
+use asc_traj::{Entry, Finder, Never, Stop, trace};
+use std::alloc::Global;
+use std::process::Abort;
+use std::sync::{Arc, Wait};
+use std::test::Fail;
+use std::thread::{Threads, join_mut};
+
+/// A loop from 0x10008 on that counts x5, two steps a lap.
+fn counting(alloc: Global, x5: u32) -> Result<State, Memory> {
+    let Ok(shape) = Shape::new(0x10000, 65_536) else {
+        return Err(Memory);
+    };
+    let mut state = State::new(alloc, shape)?;
+    let mut at: u32 = 0x10008;
+    for word in [0x0012_8293u32, 0xFE62_9EE3] {
+        if state.holds(at, 4) {
+            state.write(at, &word.to_le_bytes());
+        }
+        at = at.wrapping_add(4);
+    }
+    state.set_pc(0x10008);
+    state.set_reg(5, x5);
+    state.set_reg(6, 100);
+    Ok(state)
+}
+
+/// A trace of one lap.
+fn traced(alloc: Global, from: &State) -> Result<(u64, Tracer), Memory>
+    ensures { IfOk result (λ t. StandsFor t.0 t.1) }
+{
+    let mut tracer = Tracer::new(alloc, from.shape(), 96)?;
+    tracer.start(from);
+    let stop = Stop {
+        pc: 0x10008,
+        laps: 1,
+        span: 100,
+    };
+    let traced = trace(&mut tracer, &stop, &mut Never);
+    Ok((traced.steps, tracer))
+}
+
+/// The entry of one lap.
+fn lap_from(alloc: Global, x5: u32) -> Result<Arc<Entry>, Memory> {
+    let (steps, tracer) = traced(alloc, &counting(alloc, x5)?)?;
+    if steps == 0 {
+        return Err(Memory);
+    }
+    Entry::of(alloc, &tracer, steps)
+}
+
+/// What the readers find where x5 is such, and x5 then.
+fn found<R: Wait + Drop>(
+    alloc: Global,
+    readers: &mut ShardReaders<R>,
+    x5: u32,
+    left: u64,
+) -> Result<(Option<u64>, u32), Memory>
+    ensures { AreLater readers.old.readers readers.new.readers }
+{
+    let mut state = counting(alloc, x5)?;
+    if left > 100 || readers.asked() > 1_000_000 || readers.given() > 1_000_000 {
+        return Err(Memory);
+    }
+    let found = readers.jump(&mut state, left);
+    Ok((found, state.reg(5)))
+}
+
+/// A row: the lap that is inserted, what becomes of it, how many insertions the reader has then seen, and which of the
+/// laps from 0, 1 and 2 it finds.
+#[derive(Clone, Copy)]
+struct Row {
+    x5: u32,
+    became: Inserted,
+    seen: u64,
+    finds: [bool; 3],
+}
+
+/// In a shard of capacity 2.
+static ROWS: [Row; 5] = [
+    Row {
+        x5: 0,
+        became: Inserted::Stored,
+        seen: 1,
+        finds: [true, false, false],
+    },
+    Row {
+        x5: 1,
+        became: Inserted::Stored,
+        seen: 2,
+        finds: [true, true, false],
+    },
+    Row {
+        x5: 2,
+        became: Inserted::Stored,
+        seen: 3,
+        finds: [false, true, true],
+    },
+    Row {
+        x5: 2,
+        became: Inserted::Known,
+        seen: 3,
+        finds: [false, true, true],
+    },
+    Row {
+        x5: 0,
+        became: Inserted::Stored,
+        seen: 4,
+        finds: [true, false, true],
+    },
+];
+
+/// Where an insertion was refused, nothing more is stored, and what is seen stays.
+fn refused<R: Wait + Drop, Q: Abort>(
+    rt: &Q,
+    alloc: Global,
+    writer: &mut ShardWriter<R>,
+) -> Result<(), Memory> {
+    let stored = writer.stored();
+    assert!(rt; writer.insert(lap_from(alloc, 9)?).is_err());
+    assert_eq!(rt; writer.stored(), stored);
+    Ok(())
+}
+
+/// Inserts, meets, and looks up.
+fn play_row<R: Wait + Drop, Q: Abort>(
+    rt: &Q,
+    alloc: Global,
+    writer: &mut ShardWriter<R>,
+    readers: &mut ShardReaders<R>,
+    row: &Row,
+) -> Result<(), Memory>
+    requires { IsOwnReader writer.old readers.old.readers }
+    ensures { IfOk result (λ _. IsOwnReader writer.new readers.new.readers) }
+{
+    let Ok(became) = writer.insert(lap_from(alloc, row.x5)?) else {
+        refused(rt, alloc, writer)?;
+        return Err(Memory);
+    };
+    assert_eq!(rt; became, row.became);
+    readers.meet(writer);
+    assert_eq!(rt;
+        (writer.stored(), readers.seen(writer.index())),
+        (row.seen, row.seen)
+    );
+    for x5 in 0..3u32 {
+        find_row(rt, alloc, readers, x5, row.finds[x5 as usize])?;
+    }
+    Ok(())
+}
+
+/// Looks up at a place where an entry of two steps is found, or is not.
+fn find_row<R: Wait + Drop, Q: Abort>(
+    rt: &Q,
+    alloc: Global,
+    readers: &mut ShardReaders<R>,
+    x5: u32,
+    finds: bool,
+) -> Result<(), Memory>
+    ensures { AreLater readers.old.readers readers.new.readers }
+{
+    let expected = if finds {
+        (Some(2), x5.wrapping_add(1))
+    } else {
+        (None, x5)
+    };
+    assert_eq!(rt; found(alloc, readers, x5, 2)?, expected);
+    Ok(())
+}
+
+/// Plays all rows with one of the shards of a cache.
+fn play<R: Wait + Copy, Q: Abort>(
+    rt: &Q,
+    handle: R,
+    alloc: Global,
+    shards: usize,
+    at: usize,
+) -> Result<(), Memory> {
+    assert!(rt; at < shards && shards <= 64);
+    let (mut writers, mut readers) = Cache::open(alloc, handle, shards, 2)?.split();
+    play_rows(rt, alloc, &mut writers[at], &mut readers)
+}
+
+fn play_rows<R: Wait + Drop, Q: Abort>(
+    rt: &Q,
+    alloc: Global,
+    writer: &mut ShardWriter<R>,
+    readers: &mut ShardReaders<R>,
+) -> Result<(), Memory>
+    requires { IsOwnReader writer.old readers.old.readers }
+{
+    for row in &ROWS {
+        play_row(rt, alloc, writer, readers, row)?;
+    }
+    assert_eq!(rt;
+        (readers.asked(), readers.given(), readers.hits()),
+        (15, 18, 9)
+    );
+    Ok(())
+}
+
+#[test]
+fn bounded(rt: HostRuntime) {
+    for (shards, at) in [(1, 0), (3, 2)] {
+        assert!(rt; play(&rt, &rt, rt.alloc(), shards, at).is_ok());
+    }
+}
+
+/// What becomes of the entries of the rows.
+fn put_rows<W: Insert, Q: Abort>(rt: &Q, alloc: Global, writer: &mut W) -> Result<(), Memory> {
+    for row in &ROWS {
+        assert_eq!(rt; writer.insert(lap_from(alloc, row.x5)?)?, row.became);
+    }
+    Ok(())
+}
+
+#[test]
+fn lent(rt: HostRuntime) -> Result<(), Fail> {
+    let alloc = rt.alloc();
+    let mut shard = Shard::new(alloc, 2)?;
+    put_rows(&rt, alloc, &mut ListWriter::new(&mut shard))?;
+    assert_eq!(rt; shard.len(), 2);
+    let (mut writers, _readers) = Cache::open(alloc, &rt, 1, 2)?.split();
+    put_rows(&rt, alloc, &mut writers[0])?;
+    Ok(())
+}
+
+/// Stores these entries one after another, over and over.
+fn store_many<R: Wait + Drop>(
+    writer: &mut ShardWriter<R>,
+    entries: &[Arc<Entry>],
+    times: usize,
+) -> Result<(), Memory> {
+    for _ in 0..times {
+        for entry in entries {
+            writer.insert(Arc::try_clone(entry)?)?;
+        }
+    }
+    Ok(())
+}
+
+/// Looks up at most so many times, until so many insertions were seen. It answers whether what is seen never got
+/// shorter.
+fn watch<R: Wait + Drop>(
+    readers: &mut ShardReaders<R>,
+    state: &mut State,
+    times: u32,
+    until: u64,
+) -> bool {
+    let mut least = 0;
+    for _ in 0..times {
+        if readers.shards() == 0 || readers.asked() >= 1 << 60 || readers.given() >= 1 << 60 {
+            return false;
+        }
+        readers.jump(state, 1);
+        let seen = readers.seen(0);
+        if seen < least {
+            return false;
+        }
+        if seen == until {
+            return true;
+        }
+        least = seen;
+    }
+    true
+}
+
+/// A writer and a reader in threads of their own.
+fn run_both<T: Threads + Wait + Sync, R: Wait + Drop + Send, Q: Wait + Drop + Send>(
+    rt: &T,
+    writer: &mut ShardWriter<R>,
+    readers: &mut ShardReaders<Q>,
+    entries: &[Arc<Entry>],
+    state: &mut State,
+) -> (Result<(), Memory>, bool) {
+    join_mut(
+        rt,
+        &mut || store_many(writer, entries, 25_000),
+        &mut || watch(readers, state, 1_000_000, 100_000),
+    )
+}
+
+/// A writer that has stored 100,000 insertions, beside a reader.
+fn play_beside<Q: Abort + Threads + Wait + Sync + Send>(
+    rt: &Q,
+    alloc: Global,
+) -> Result<u64, Memory> {
+    let mut entries = Vec::new(alloc);
+    for x5 in 0..4 {
+        entries.push(lap_from(alloc, x5)?)?;
+    }
+    let mut state = counting(alloc, 1)?;
+    let (mut writers, mut readers) = Cache::open(alloc, rt, 1, 2)?.split();
+    let writer = &mut writers[0];
+    let (stored, grew) = run_both(rt, writer, &mut readers, &entries, &mut state);
+    stored?;
+    assert!(rt; grew);
+    Ok(writer.stored())
+}
+
+#[test]
+fn beside(rt: HostRuntime) -> Result<(), Fail> {
+    assert_eq!(rt; play_beside(&rt, rt.alloc())?, 100_000);
+    Ok(())
+}
