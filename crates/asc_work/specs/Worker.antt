@@ -66,6 +66,15 @@ HasInserted Stopped w job old new = new ≡ old
 abbrev pub RisesAtMostOnce : (before now : ℕ) → Type 0
 RisesAtMostOnce before now = (now ≡ before) ⊎ (now ≡ one_more before)
 
+-- What a job that was noted in a column did to the count of yes answers of the worker's halt. A job that gives no entry may
+-- have been asked to stop before that was known.
+abbrev pub HasAsked : Column → (before now : ℕ) → Type 0
+HasAsked Stored before now = now ≡ before
+HasAsked Known before now = now ≡ before
+HasAsked Empty before now = RisesAtMostOnce before now
+HasAsked Dropped before now = now ≡ before
+HasAsked Stopped before now = now ≡ one_more before
+
 -- ---- words of private contracts
 
 -- why no entry is made of a trace that was stopped or not, of a guess of which a trace takes so many steps

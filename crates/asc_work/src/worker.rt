@@ -1,11 +1,10 @@
 ghost use Rattle.std.specs.Prelude.{◌≡◌, ◌⊎◌, ◌+◌, ◌<◌, ◌≤◌, ◌^◌, [], true, false, IfOk, IfErr, OnErr, MatchBool};
 ghost use Rattle.asc_model.specs.Reach.{IsReach, reach_of};
 ghost use Rattle.asc_model.specs.Entry.{entry_of};
-ghost use Rattle.asc_outside.specs.Outside.{one_more};
 ghost use Rattle.asc_jobs.specs.declared.tally.Column.TheVariants as ran;
 ghost use Rattle.asc_traj.specs.Trace.{CountsAnswer, StandsFor, MayStop, bounds_of, is_stopped, origin_of};
 ghost use Rattle.asc_jobs.specs.Tally.{no_jobs, noted, counts_of};
-ghost use Rattle.asc_work.specs.Worker.{IsOfShape, IsEmpty, HasInserted, RisesAtMostOnce, Misses, Missed, Ends, guess_for, steps_for};
+ghost use Rattle.asc_work.specs.Worker.{IsOfShape, IsEmpty, HasInserted, HasAsked, Misses, Missed, Ends, guess_for, steps_for};
 
 use crate::Ran;
 use asc_cache::Insert;
@@ -99,8 +98,7 @@ impl<W: Insert + Drop, H: Halt + Drop> Worker<W, H> {
         ensures empty { result ≡ ran.Empty → IsEmpty self.old job.now }
         ensures other { (IsOfShape self.old.shape job.now → ⊥) → result ≡ ran.Empty }
         ensures steps { IsEmpty self.old job.now → (result ≡ ran.Empty) ⊎ (result ≡ ran.Dropped) }
-        ensures stopped { result ≡ ran.Stopped → H.count self.new.halt ≡ one_more (H.count self.old.halt) }
-        ensures halt { RisesAtMostOnce (H.count self.old.halt) (H.count self.new.halt) }
+        ensures halt { HasAsked result (H.count self.old.halt) (H.count self.new.halt) }
         ensures inserted { HasInserted result self.old job.now (W.content self.old.writer) (W.content self.new.writer) }
         ensures tally { self.new.tally ≡ noted result self.old.tally }
         ensures shape { self.new.shape ≡ self.old.shape }
@@ -159,8 +157,7 @@ impl<W: Insert + Drop, H: Halt + Drop> Worker<W, H> {
         ensures empty { result ≡ ran.Empty → IsEmpty self.old job.now }
         ensures other { (IsOfShape self.old.shape job.now → ⊥) → result ≡ ran.Empty }
         ensures steps { IsEmpty self.old job.now → (result ≡ ran.Empty) ⊎ (result ≡ ran.Dropped) }
-        ensures stopped { result ≡ ran.Stopped → H.count self.new.halt ≡ one_more (H.count self.old.halt) }
-        ensures halt { RisesAtMostOnce (H.count self.old.halt) (H.count self.new.halt) }
+        ensures halt { HasAsked result (H.count self.old.halt) (H.count self.new.halt) }
         ensures inserted { HasInserted result self.old job.now (W.content self.old.writer) (W.content self.new.writer) }
         ensures tally { self.new.tally ≡ self.old.tally }
         ensures shape { self.new.shape ≡ self.old.shape }
