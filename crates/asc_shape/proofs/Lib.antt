@@ -1,9 +1,11 @@
 pub mod Faces
 pub mod States
 pub mod Made
+pub mod Covers
 pub mod Pages
 pub mod Copies
 pub mod Restores
 pub mod Snapshots
 pub mod Strides
+pub mod Eights
 pub mod Differences

@@ -87,9 +87,9 @@ pub kept_first : (marks : List Bool) (base bytes : List ℕ) → KeepsBase marks
 kept_first marks base bytes kept i free = kept i (unmarked marks 0 (i / 4096) free).0
 
 -- the fields of a state after a write of n bytes whose pages were marked
-pub inside_after : (shape : Shape) (base : Option (Arc State Global)) (bytes new : Vec ℕ) (changed marks : Vec Bool) (from n : ℕ)
+pub inside_after : (shape : Shape) (base : Option (Arc State Global)) (bytes new : Vec ℕ) (changed marks : List Bool) (from n : ℕ)
     → IsInside (record { shape = shape; bytes = bytes; base = base; changed = changed })
-    → IsMarked from n changed.items marks.items
+    → IsMarked from n changed marks
     → length new.items ≡ length bytes.items
     → ((i : ℕ) → (i < from) ⊎ (from + n ≤ i) → slice_index new.items i ≡ slice_index bytes.items i)
     → IsInside (record { shape = shape; bytes = new; base = base; changed = marks })
@@ -97,15 +97,15 @@ inside_after shape base bytes new changed marks from n inside marked same beside
   shape = inside.shape;
   size = same ∙ inside.size;
   marks = marked.length ∙ inside.marks;
-  first = marked_first from n changed.items marks.items marked inside.first;
+  first = marked_first from n changed marks marked inside.first;
   base = inside.base;
-  kept = kept_after changed.items marks.items (base_bytes base) bytes.items new.items from n inside.kept marked beside;
+  kept = kept_after changed marks (base_bytes base) bytes.items new.items from n inside.kept marked beside;
 }
 
 -- the same where the bytes are a part that was written over
-pub inside_written : (shape : Shape) (base : Option (Arc State Global)) (bytes : Vec ℕ) (changed marks : Vec Bool) (from n k : ℕ) (xs ys : List ℕ)
+pub inside_written : (shape : Shape) (base : Option (Arc State Global)) (bytes : Vec ℕ) (changed marks : List Bool) (from n k : ℕ) (xs ys : List ℕ)
     → IsInside (record { shape = shape; bytes = bytes; base = base; changed = changed })
-    → IsMarked from n changed.items marks.items
+    → IsMarked from n changed marks
     → xs ≡ bytes.items → length ys ≡ k → k ≡ n → from + n ≤ length bytes.items
     → IsInside (record { shape = shape; bytes = with_items bytes (put_mid from k xs ys); base = base; changed = marks })
 inside_written shape base bytes changed marks from n k xs ys inside marked e size count within =
@@ -117,9 +117,9 @@ inside_written shape base bytes changed marks from n k xs ys inside marked e siz
     (λ i outside. ap (λ (l : List ℕ). slice_index l i) spliced ∙ splice_beside bytes.items ys from i (omega arith) (rw whole outside))
 
 -- the fields of a state while memory from a place on is lent, whatever is left there; all pages from there on are marked
-pub inside_lent : (shape : Shape) (base : Option (Arc State Global)) (bytes : Vec ℕ) (changed marks : Vec Bool) (from n : ℕ) (new : List ℕ)
+pub inside_lent : (shape : Shape) (base : Option (Arc State Global)) (bytes : Vec ℕ) (changed marks : List Bool) (from n : ℕ) (new : List ℕ)
     → IsInside (record { shape = shape; bytes = bytes; base = base; changed = changed })
-    → IsMarked from n changed.items marks.items
+    → IsMarked from n changed marks
     → from + n ≡ length bytes.items
     → IsInside (record { shape = shape; bytes = with_items_from bytes from new; base = base; changed = marks })
 inside_lent shape base bytes changed marks from n new inside marked whole =

@@ -64,19 +64,19 @@ restored_zeros base bytes marks n p so size all =
     ext_get_or 0 bytes (replicate n 0) (size ∙ sym (length-replicate n 0)) (λ i within. so.done i (omega arith) ∙ sym (get_or-replicate n i 0 0 (omega arith)))
 
 -- and the fields are those of a state with no base
-pub inside_restored : (shape : Shape) (bytes : Vec ℕ) (changed marked : Vec Bool) (target base : List ℕ) (p : ℕ) → IsRestored target p base bytes.items changed.items → IsShape shape
-    → length bytes.items ≡ length_of shape → length changed.items ≡ length_of shape / 4096 + 1 → length_of shape / 4096 + 1 ≤ p
-    → marked.items ≡ slice_set changed.items 0 true
+pub inside_restored : (shape : Shape) (bytes : Vec ℕ) (changed marked : List Bool) (target base : List ℕ) (p : ℕ) → IsRestored target p base bytes.items changed → IsShape shape
+    → length bytes.items ≡ length_of shape → length changed ≡ length_of shape / 4096 + 1 → length_of shape / 4096 + 1 ≤ p
+    → marked ≡ slice_set changed 0 true
     → IsInside (record { shape = shape; bytes = bytes; base = None; changed = marked })
 inside_restored shape bytes changed marked target base p so good size marks all one = record {
   shape = good;
   size = size;
-  marks = ap (λ (l : List Bool). length l) one ∙ length-set changed.items 0 true ∙ marks;
-  first = ap (λ (l : List Bool). slice_index_or l 0 true) one ∙ get_or-set_same changed.items 0 true true (omega arith);
+  marks = ap (λ (l : List Bool). length l) one ∙ length-set changed 0 true ∙ marks;
+  first = ap (λ (l : List Bool). slice_index_or l 0 true) one ∙ get_or-set_same changed 0 true true (omega arith);
   base = tt;
-  kept = λ i unfree. let free = (unmarked changed.items 0 (i / 4096) (ap (λ (l : List Bool). slice_index_or l (i / 4096) true) (sym one) ∙ unfree)).0 in elim (cases_lt (i / 4096) p) [
+  kept = λ i unfree. let free = (unmarked changed 0 (i / 4096) (ap (λ (l : List Bool). slice_index_or l (i / 4096) true) (sym one) ∙ unfree)).0 in elim (cases_lt (i / 4096) p) [
     | inl below ↦ so.blank i below free
-    | inr above ↦ absurd (false≢true (sym free ∙ get_or_past changed.items (i / 4096) true (omega arith)))
+    | inr above ↦ absurd (false≢true (sym free ∙ get_or_past changed (i / 4096) true (omega arith)))
   ];
 }
 
@@ -99,11 +99,9 @@ pub marks_over : (v : Vec Bool) (new : List Bool) → length new ≡ length v.it
 marks_over v new same = with_items_is v new (same ∙ sym v.ok.0)
 
 -- a group that was put, in the fields of a state
-pub restored_put : (target base : List ℕ) (bytes : Vec ℕ) (changed : Vec Bool) (new : List ℕ) (before marks : List Bool) (g : ℕ)
-    → IsRestored target (min (64 * g + 64) (length before)) base new marks → length new ≡ length bytes.items → before ≡ changed.items → length marks ≡ length changed.items
-    → IsRestored target (min (64 * (g + 1)) (length (with_items changed marks).items)) base (with_items bytes new).items (with_items changed marks).items
-restored_put target base bytes changed new before marks g so size same count =
-    let long : length before ≡ length changed.items = ap (λ (l : List Bool). length l) same in
-    subst (λ (l : List Bool). IsRestored target (min (64 * (g + 1)) (length l)) base (with_items bytes new).items l) (sym (marks_over changed marks count))
-    (subst (λ (l : List ℕ). IsRestored target (min (64 * (g + 1)) (length marks)) base l marks) (sym (items_over bytes new size))
-    (subst (λ p. IsRestored target p base new marks) (let e : min (64 * g + 64) (length before) ≡ min (64 * (g + 1)) (length marks) = omega arith in e) so))
+pub restored_put : (target base : List ℕ) (bytes : Vec ℕ) (new : List ℕ) (before marks : List Bool) (g : ℕ)
+    → IsRestored target (min (64 * g + 64) (length before)) base new marks → length new ≡ length bytes.items → length marks ≡ length before
+    → IsRestored target (min (64 * (g + 1)) (length marks)) base (with_items bytes new).items marks
+restored_put target base bytes new before marks g so size count =
+    subst (λ (l : List ℕ). IsRestored target (min (64 * (g + 1)) (length marks)) base l marks) (sym (items_over bytes new size))
+    (subst (λ p. IsRestored target p base new marks) (let e : min (64 * g + 64) (length before) ≡ min (64 * (g + 1)) (length marks) = omega arith in e) so)

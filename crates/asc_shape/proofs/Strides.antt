@@ -27,22 +27,23 @@ pub byte-strided : (ahead : ℕ) (last prev : List ℕ) (i : ℕ) → i < length
 unfolding strided
 byte-strided ahead last prev i within = get_or-map-range_with_len (strided_byte ahead last prev) 0 (length last) i i 0 within (omega arith)
 
--- a word more of a list that is strided in place: words so far is `new`, and from place 4k on they are as they were
-pub stride_more : (ahead : ℕ) (last prev words new : List ℕ) (k from to word : ℕ)
-    → length words ≡ length last
-    → ((i : ℕ) → i < 4 * k → slice_index words i ≡ strided_byte ahead last prev i)
-    → ((i : ℕ) → 4 * k ≤ i → slice_index words i ≡ slice_index last i)
+-- a word more of a list that is strided in place from a place on: words so far is `new`, and from place 4k on they are
+-- as they were
+pub stride_more : (ahead : ℕ) (last prev words new : List ℕ) (first k from to word : ℕ)
+    → length words ≡ length last → first ≤ 4 * k
+    → ((i : ℕ) → first ≤ i → i < 4 * k → slice_index words i ≡ strided_byte ahead last prev i)
+    → ((i : ℕ) → (i < first) ⊎ (4 * k ≤ i) → slice_index words i ≡ slice_index last i)
     → from ≡ 4 * k → to ≡ 4 * k + 4 → to ≤ length words → length new ≡ to - from
     → word ≡ strided_word ahead (word_at words from) (word_at prev from) → new ≡ bytes_of 4 word
-    → ((i : ℕ) → i < 4 * (k + 1) → slice_index (put_mid from (to - from) words new) i ≡ strided_byte ahead last prev i)
-    × ((i : ℕ) → 4 * (k + 1) ≤ i → slice_index (put_mid from (to - from) words new) i ≡ slice_index last i)
-stride_more ahead last prev words new k from to word same done left start end within size value spelled =
+    → ((i : ℕ) → first ≤ i → i < 4 * (k + 1) → slice_index (put_mid from (to - from) words new) i ≡ strided_byte ahead last prev i)
+    × ((i : ℕ) → (i < first) ⊎ (4 * (k + 1) ≤ i) → slice_index (put_mid from (to - from) words new) i ≡ slice_index last i)
+stride_more ahead last prev words new first k from to word same low done left start end within size value spelled =
     let beside : (i : ℕ) → (i < from) ⊎ (to ≤ i) → slice_index (put_mid from (to - from) words new) i ≡ slice_index words i =
     λ i outside. ap (λ (l : List ℕ). slice_index l i) (put_mid-splice from (to - from) words new size)
     ∙ splice_beside words new from i (omega arith) (elim outside [ inl below ↦ inl below | inr above ↦ inr (omega arith) ]) in
-    let read : word_at words from ≡ word_at last from = word_same words last from from (left from (omega arith)) (left (from + 1) (omega arith)) (left (from + 2) (omega arith)) (left (from + 3) (omega arith)) in (
-      (λ i below. elim (cases_lt i from) [
-        | inl before ↦ beside i (inl before) ∙ done i (omega arith)
+    let read : word_at words from ≡ word_at last from = word_same words last from from (left from (inr (omega arith))) (left (from + 1) (inr (omega arith))) (left (from + 2) (inr (omega arith))) (left (from + 3) (inr (omega arith))) in (
+      (λ i least below. elim (cases_lt i from) [
+        | inl before ↦ beside i (inl before) ∙ done i least (omega arith)
         | inr here ↦
             let aligned : i / 4 * 4 ≡ from = omega arith in
             put_within words new from (to - from) i size (omega arith) here (omega arith)
@@ -50,7 +51,10 @@ stride_more ahead last prev words new k from to word same done left start end wi
             ∙ ap (λ j. slice_index (bytes_of 4 (strided_word ahead (word_at last from) (word_at prev from))) j) (let e : i - from ≡ i % 4 = omega arith in e)
             ∙ ap (λ w. slice_index (bytes_of 4 (strided_word ahead (word_at last w) (word_at prev w))) (i % 4)) (sym aligned)
       ]),
-      (λ i above. beside i (inr (omega arith)) ∙ left i (omega arith)),
+      (λ i outside. elim outside [
+        | inl below ↦ beside i (inl (omega arith)) ∙ left i (inl below)
+        | inr above ↦ beside i (inr (omega arith)) ∙ left i (inr (omega arith))
+      ]),
     )
 
 -- a byte of a page that was strided, by its words there

@@ -88,6 +88,13 @@ KeepsBase changed base bytes =
 abbrev pub IsUnmarked : List Bool → ℕ → Type 0
 IsUnmarked changed g = (p : ℕ) → p / 64 ≡ g → p < length changed → slice_index_or changed p true ≡ false
 
+-- marks of groups cover the marks of pages, of which there are some: where a group is not marked, no page of it is
+pub record Cover (groups pages : List Bool) : Type 0 where
+  pub some : 0 < length pages
+  pub least : length pages ≤ 64 * length groups
+  pub most : 64 * length groups < length pages + 64
+  pub free : (g : ℕ) → slice_index_or groups g true ≡ false → IsUnmarked pages g
+
 -- the pages of the n places from a place on are marked, and no mark is taken away
 pub record IsMarked (from n : ℕ) (before after : List Bool) : Type 0 where
   pub length : length after ≡ length before

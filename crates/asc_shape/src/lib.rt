@@ -2,7 +2,9 @@
 #![tactic(auto)]
 
 mod bytes;
+mod lanes;
 mod laws;
+mod marks;
 mod page;
 mod pair;
 mod shape;

@@ -2,8 +2,9 @@
 ghost use Rattle.std.specs.Prelude.{◌≡◌, ◌≢◌, ◌+◌, ◌*◌, ◌-◌, ◌/◌, ◌^◌, ◌%◌, ◌<◌, ◌≤◌, ℕ, List, [], min, true, length, slice_index};
 ghost use Rattle.asc_model.specs.Number.{AreBytes, word_at};
 ghost use Rattle.asc_shape.specs.Stride.{strided_byte, strided_word};
-ghost use Rattle.asc_shape.specs.Pages.{Fits, IsUnmarked};
+ghost use Rattle.asc_shape.specs.Pages.{Fits};
 
+use crate::lanes::{EIGHT, stride_eight};
 use crate::shape::PAGE_SIZE;
 
 /// How many places a page has.
@@ -11,6 +12,9 @@ pub(crate) const PAGE: usize = PAGE_SIZE as usize;
 
 /// How many pages a group has.
 pub(crate) const GROUP: usize = 64;
+
+// A page of zeros.
+static BLANK: [u8; PAGE] = [0; PAGE];
 
 /// The first place of page p, and the place behind its last one.
 #[inline]
@@ -34,17 +38,6 @@ pub(crate) fn group_ends(g: usize, pages: usize) -> (usize, usize)
 {
     let from = g * GROUP;
     (from, pages.min(from + GROUP))
-}
-
-/// Whether no page of group g is marked.
-#[inline]
-pub(crate) fn is_unmarked(changed: &[bool], g: usize) -> bool
-    requires pages { length changed.now < 2 ^ 32 }
-    requires group { 64 * g < length changed.now }
-    ensures { result ≡ true → IsUnmarked changed.now g }
-{
-    let (from, to) = group_ends(g, changed.len());
-    !changed[from..to].contains(&true)
 }
 
 /// Writes a page over page p. It does nothing where both are known to be blank.
@@ -91,7 +84,33 @@ fn stride(words: &mut [u8], prev: &[u8], ahead: u32)
     requires most { length words.old ≤ 4096 }
     ensures { (i : ℕ) → i < length words.old → slice_index words.new i ≡ strided_byte ahead words.old prev.now i }
 {
-    for k in 0..words.len() / 4 {
+    stride_by_eights(words, prev, ahead);
+    stride_rest(words, prev, ahead);
+}
+
+// Strides words by those of another list, eight at a time, and leaves those that make no eight.
+fn stride_by_eights(words: &mut [u8], prev: &[u8], ahead: u32)
+    requires size { length prev.now ≡ length words.old }
+    requires most { length words.old ≤ 4096 }
+    ensures done { (i : ℕ) → i < length words.old / 32 * 32
+        → slice_index words.new i ≡ strided_byte ahead words.old prev.now i }
+    ensures left { (i : ℕ) → length words.old / 32 * 32 ≤ i → slice_index words.new i ≡ slice_index words.old i }
+{
+    for k in 0..words.len() / EIGHT {
+        stride_eight(words, prev, EIGHT * k, ahead);
+    }
+}
+
+// Strides the words that make no eight.
+fn stride_rest(words: &mut [u8], prev: &[u8], ahead: u32)
+    requires size { length prev.now ≡ length words.old }
+    requires whole { length words.old % 4 ≡ 0 }
+    requires most { length words.old ≤ 4096 }
+    ensures done { (i : ℕ) → i < length words.old / 32 * 32 → slice_index words.new i ≡ slice_index words.old i }
+    ensures rest { (i : ℕ) → length words.old / 32 * 32 ≤ i → i < length words.old
+        → slice_index words.new i ≡ strided_byte ahead words.old prev.now i }
+{
+    for k in words.len() / EIGHT * 8..words.len() / 4 {
         let word = strided(word_in(words, 4 * k), word_in(prev, 4 * k), ahead);
         words[4 * k..4 * k + 4].copy_from_slice(&word.to_le_bytes());
     }
@@ -103,10 +122,8 @@ fn stride_blank(words: &mut [u8], ahead: u32)
     requires most { length words.old ≤ 4096 }
     ensures { (i : ℕ) → i < length words.old → slice_index words.new i ≡ strided_byte ahead words.old [] i }
 {
-    for k in 0..words.len() / 4 {
-        let word = strided(word_in(words, 4 * k), 0, ahead);
-        words[4 * k..4 * k + 4].copy_from_slice(&word.to_le_bytes());
-    }
+    let len = words.len();
+    stride(words, &BLANK[..len], ahead);
 }
 
 #[inline]

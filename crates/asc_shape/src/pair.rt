@@ -100,6 +100,25 @@ fn add_differing(
     if last.is_blank_group(g) && prev.is_blank_group(g) {
         return Ok(());
     }
+    list_differing(differ, prev, last, g, pages)
+}
+
+// Lists the pages of group g in which they differ too, page by page.
+#[inline(never)]
+fn list_differing(
+    differ: &mut Vec<usize>,
+    prev: &Snapshot,
+    last: &Snapshot,
+    g: usize,
+    pages: usize,
+) -> Result<(), Memory>
+    requires same { prev.now.shape ≡ last.now.shape }
+    requires pages { pages ≡ length_of last.now.shape / 4096 + 1 }
+    requires most { pages < 2 ^ 32 }
+    requires group { 64 * g < pages }
+    requires listed { Differ last.now.bytes prev.now.bytes (min (64 * g) pages) differ.old.items }
+    ensures { IfOk result (λ _. Differ last.now.bytes prev.now.bytes (min (64 * g + 64) pages) differ.new.items) }
+{
     let (from, to) = group_ends(g, pages);
     for p in from..to {
         if !is_same(prev, last, p) {
@@ -115,5 +134,6 @@ fn is_same(prev: &Snapshot, last: &Snapshot, p: usize) -> bool
     requires prev { p < length_of prev.now.shape / 4096 + 1 }
     ensures { result ≡ true → (i : ℕ) → i / 4096 ≡ p → slice_index last.now.bytes i ≡ slice_index prev.now.bytes i }
 {
-    last.page(p) == prev.page(p)
+    let (last, prev) = (last.page(p), prev.page(p));
+    (last.is_empty() && prev.is_empty()) || last == prev
 }

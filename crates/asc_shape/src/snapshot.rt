@@ -4,7 +4,8 @@ ghost use Rattle.asc_model.specs.State.{IsState};
 ghost use Rattle.asc_model.specs.Machine.{view_of};
 ghost use Rattle.asc_shape.specs.Pages.{IsPage, IsGroup, IsBlankGroup, IsBaseOf, KeepsBase, base_bytes, page_bytes};
 
-use crate::page::{GROUP, elements_are_bytes, ends, group_ends, is_unmarked, word_in};
+use crate::marks::Marks;
+use crate::page::{GROUP, elements_are_bytes, ends, group_ends, word_in};
 use crate::{Memory, Shape, State};
 use std::alloc::Global;
 use std::marker::Model;
@@ -56,7 +57,7 @@ impl Snapshot {
         alloc: Global,
         shape: Shape,
         bytes: &[u8],
-        changed: &[bool],
+        changed: &Marks,
         base: &Option<Arc<Snapshot>>,
     ) -> Result<Snapshot, Memory>
         requires length { length bytes.now ≡ length_of shape }
@@ -97,6 +98,7 @@ impl Snapshot {
     }
 
     /// Page p, or nothing where it is left out.
+    #[inline]
     pub(crate) fn page(&self, p: usize) -> &[u8]
         requires { p < length_of self.now.shape / 4096 + 1 }
         ensures { IsPage self.now.bytes p result.now }
@@ -111,6 +113,7 @@ impl Snapshot {
     }
 
     /// Whether group g is left out, so that it is blank.
+    #[inline]
     pub(crate) fn is_blank_group(&self, g: usize) -> bool
         requires { 64 * g < length_of self.now.shape / 4096 + 1 }
         ensures { result ≡ true → IsBlankGroup self.now.bytes g }
@@ -122,6 +125,7 @@ impl Snapshot {
     }
 
     // Page p, shared.
+    #[inline]
     fn share_page(&self, p: usize) -> Result<Page, Memory>
         requires { p < length_of self.now.shape / 4096 + 1 }
         ensures { IfOk result (λ page. IsPage self.now.bytes p (page_bytes page)) }
@@ -136,6 +140,7 @@ impl Snapshot {
     }
 
     // Group g, shared.
+    #[inline]
     fn share_group(&self, g: usize) -> Result<Group, Memory>
         requires { 64 * g < length_of self.now.shape / 4096 + 1 }
         ensures { IfOk result (IsGroup self.now.bytes g) }
@@ -152,7 +157,7 @@ fn group_of(
     alloc: Global,
     shape: Shape,
     bytes: &[u8],
-    changed: &[bool],
+    changed: &Marks,
     base: &Option<Arc<Snapshot>>,
     g: usize,
 ) -> Result<Group, Memory>
@@ -165,18 +170,41 @@ fn group_of(
 {
     // That it is a shape bounds how many bytes there are.
     let _ = shape.base();
-    if is_unmarked(changed, g) {
+    if changed.is_unmarked(g) {
         return kept_group(shape, bytes, base, g);
     }
+    copied_group(alloc, shape, bytes, changed, base, g)
+}
+
+// Group g of a state: copies of the pages that are changed, and the base's others.
+#[inline(never)]
+fn copied_group(
+    alloc: Global,
+    shape: Shape,
+    bytes: &[u8],
+    changed: &Marks,
+    base: &Option<Arc<Snapshot>>,
+    g: usize,
+) -> Result<Group, Memory>
+    requires length { length bytes.now ≡ length_of shape }
+    requires marks { length changed.now ≡ length_of shape / 4096 + 1 }
+    requires group { 64 * g < length changed.now }
+    requires base { IsBaseOf shape base.now }
+    requires kept { KeepsBase changed.now (base_bytes base.now) bytes.now }
+    ensures { IfOk result (IsGroup bytes.now g) }
+{
+    // That it is a shape bounds how many bytes there are.
+    let _ = shape.base();
     let (from, to) = group_ends(g, changed.len());
     let mut pages = Vec::with_capacity(alloc, to - from)?;
     for p in from..to {
-        pages.push(page_of(alloc, shape, bytes, p, changed[p], base)?)?;
+        pages.push(page_of(alloc, shape, bytes, p, changed.is_marked(p), base)?)?;
     }
     Ok(Some(Arc::new(alloc, pages)?))
 }
 
 // Group g of a state that has the base's bytes there.
+#[inline]
 fn kept_group(
     shape: Shape,
     _bytes: &[u8],
@@ -200,6 +228,7 @@ fn kept_group(
 }
 
 // Page p of a state: a copy where it is changed, and else the base's, shared.
+#[inline]
 fn page_of(
     alloc: Global,
     shape: Shape,

@@ -14,9 +14,8 @@ ghost use Rattle.asc_outside.specs.Outside.{HasCause, IsAtEnd};
 ghost use Rattle.asc_shape.specs.TakesIn.{TakesIn};
 ghost use Rattle.asc_shape.specs.State.{with_memory, zero_state, state_after, memory_at};
 
-use crate::page::{
-    GROUP, PAGE, elements_are_bytes, group_ends, is_unmarked, put_page, stride_page,
-};
+use crate::marks::Marks;
+use crate::page::{GROUP, PAGE, elements_are_bytes, group_ends, put_page, stride_page};
 use crate::{Bytes, Failed, Memory, Pair, Shape, Snapshot, Source, Words};
 use std::alloc::Global;
 use std::marker::Model;
@@ -32,7 +31,7 @@ pub struct State {
     // What the pages that are not changed have; zeros where there is none.
     base: Option<Arc<Snapshot>>,
     // For each page, whether it may differ from the base's.
-    changed: Vec<bool>,
+    changed: Marks,
 }
 
 impl Model for State {
@@ -71,7 +70,7 @@ impl State {
             shape,
             bytes: vec![in alloc; 0; len]?,
             base: None,
-            changed: first_marked(vec![in alloc; false; len / PAGE + 1]?),
+            changed: Marks::new(alloc, len / PAGE + 1)?,
         })
     }
 
@@ -108,7 +107,7 @@ impl State {
         requires { place < length_of self.old.shape }
         ensures { self.new ≡ record self.old { bytes = slice_set self.old.bytes place byte } }
     {
-        self.changed[place as usize / PAGE] = true;
+        self.changed.mark(place as usize / PAGE);
         self.bytes[place as usize] = byte;
     }
 
@@ -236,7 +235,7 @@ impl State {
                 g,
             );
         }
-        self.changed[0] = true;
+        self.changed.mark(0);
         self.base = None;
     }
 
@@ -246,7 +245,7 @@ impl State {
         ensures { self.new ≡ from.now }
     {
         self.bytes.copy_from_slice(&from.bytes);
-        self.changed.fill(true);
+        self.changed.mark_all();
         self.base = None;
     }
 
@@ -267,8 +266,7 @@ impl State {
         let snapshot = self.snapshot(alloc)?;
         let base = Arc::try_clone(&snapshot)?;
         self.base = Some(base);
-        self.changed.fill(false);
-        self.changed[0] = true;
+        self.changed.clear();
         Ok(snapshot)
     }
 
@@ -282,7 +280,7 @@ impl State {
         for g in 0..(self.changed.len() - 1) / GROUP + 1 {
             put_group(from, &self.base, &mut self.bytes, &mut self.changed, g);
         }
-        self.changed[0] = true;
+        self.changed.mark(0);
         self.base = None;
     }
 
@@ -312,7 +310,7 @@ impl State {
     {
         // That their shapes are ones.
         let _ = (prev.shape(), last.shape());
-        self.changed[p] = true;
+        self.changed.mark(p);
         put_page(&mut self.bytes, p, last.page(p), false);
         stride_page(&mut self.bytes, p, prev.page(p), ahead);
     }
@@ -390,41 +388,31 @@ impl Words for State {
     }
 }
 
-// The same marks, the first page marked too.
-fn first_marked(changed: Vec<bool>) -> Vec<bool>
-    requires { 0 < length changed.items }
-    ensures { result.items ≡ slice_set changed.items 0 true }
-{
-    let mut changed = changed;
-    changed[0] = true;
-    changed
-}
-
 // Marks the pages of the word at a place. The first page, in which the registers are, is always marked.
 #[inline]
-fn mark_word(changed: &mut Vec<bool>, at: usize)
+fn mark_word(changed: &mut Marks, at: usize)
     requires within { at + 4 < 2 ^ 32 }
-    requires pages { (at + 3) / 4096 < length changed.old.items }
-    requires first { slice_index_or changed.old.items 0 true ≡ true }
-    ensures { IsMarked at 4 changed.old.items changed.new.items }
+    requires pages { (at + 3) / 4096 < length changed.old }
+    requires first { slice_index_or changed.old 0 true ≡ true }
+    ensures { IsMarked at 4 changed.old changed.new }
 {
     if at + 3 >= PAGE {
-        changed[at / PAGE] = true;
+        changed.mark(at / PAGE);
         // A word at a multiple of 4 lies in one page.
         if !at.is_multiple_of(4) {
-            changed[(at + 3) / PAGE] = true;
+            changed.mark((at + 3) / PAGE);
         }
     }
 }
 
 // Marks the pages of the n places from a place on.
-fn mark(changed: &mut Vec<bool>, from: usize, n: usize)
+fn mark(changed: &mut Marks, from: usize, n: usize)
     requires within { from + n < 2 ^ 32 }
-    requires pages { (from + n) / 4096 < length changed.old.items }
-    ensures { IsMarked from n changed.old.items changed.new.items }
+    requires pages { (from + n) / 4096 < length changed.old }
+    ensures { IsMarked from n changed.old changed.new }
 {
     for p in from / PAGE..(from + n + (PAGE - 1)) / PAGE {
-        changed[p] = true;
+        changed.mark(p);
     }
 }
 
@@ -443,7 +431,7 @@ fn is_blank(shape: Shape, base: &Option<Arc<Snapshot>>, p: usize, changed: bool)
 }
 
 // Whether group g is known to be blank in a state with this base and these marks.
-fn is_blank_group(shape: Shape, base: &Option<Arc<Snapshot>>, changed: &[bool], g: usize) -> bool
+fn is_blank_group(shape: Shape, base: &Option<Arc<Snapshot>>, changed: &Marks, g: usize) -> bool
     requires base { IsBaseOf shape base.now }
     requires marks { length changed.now ≡ length_of shape / 4096 + 1 }
     requires group { 64 * g < length changed.now }
@@ -452,7 +440,7 @@ fn is_blank_group(shape: Shape, base: &Option<Arc<Snapshot>>, changed: &[bool], 
 {
     // That it is a shape bounds how many marks there are.
     let _ = shape.base();
-    is_unmarked(changed, g)
+    changed.is_unmarked(g)
         && match base {
             None => true,
             Some(base) => base.is_blank_group(g),
@@ -464,7 +452,7 @@ fn blank_group(
     shape: Shape,
     base: &Option<Arc<Snapshot>>,
     bytes: &mut [u8],
-    changed: &mut [bool],
+    changed: &mut Marks,
     g: usize,
 )
     requires base { IsBaseOf shape base.now }
@@ -472,7 +460,8 @@ fn blank_group(
     requires marks { length changed.old ≡ length_of shape / 4096 + 1 }
     requires group { 64 * g < length changed.old }
     requires restored { IsRestored [] (min (64 * g) (length changed.old)) (base_bytes base.now) bytes.old changed.old }
-    ensures { IsRestored [] (min (64 * g + 64) (length changed.old)) (base_bytes base.now) bytes.new changed.new }
+    ensures marks { length changed.new ≡ length changed.old }
+    ensures group { IsRestored [] (min (64 * g + 64) (length changed.old)) (base_bytes base.now) bytes.new changed.new }
 {
     if is_blank_group(shape, base, changed, g) {
         return;
@@ -481,10 +470,11 @@ fn blank_group(
     let _ = shape.base();
     let (first, end) = group_ends(g, changed.len());
     for p in first..end {
-        let blank = is_blank(shape, base, p, changed[p]);
+        let blank = is_blank(shape, base, p, changed.is_marked(p));
         put_page(bytes, p, &[], blank);
-        changed[p] = false;
+        changed.put(p, false);
     }
+    changed.settle(g);
 }
 
 // Writes group g of a copy of a state over that of another state with this base and these bytes and marks.
@@ -492,7 +482,7 @@ fn put_group(
     from: &Snapshot,
     base: &Option<Arc<Snapshot>>,
     bytes: &mut [u8],
-    changed: &mut [bool],
+    changed: &mut Marks,
     g: usize,
 )
     requires base { IsBaseOf from.now.shape base.now }
@@ -501,7 +491,8 @@ fn put_group(
     requires group { 64 * g < length changed.old }
     requires restored { IsRestored from.now.bytes (min (64 * g) (length changed.old)) (base_bytes base.now)
         bytes.old changed.old }
-    ensures { IsRestored from.now.bytes (min (64 * g + 64) (length changed.old)) (base_bytes base.now)
+    ensures marks { length changed.new ≡ length changed.old }
+    ensures group { IsRestored from.now.bytes (min (64 * g + 64) (length changed.old)) (base_bytes base.now)
         bytes.new changed.new }
 {
     // That it is a shape bounds how many marks there are.
@@ -510,11 +501,40 @@ fn put_group(
     if from.is_blank_group(g) && is_blank_group(shape, base, changed, g) {
         return;
     }
+    put_pages(from, base, bytes, changed, g);
+}
+
+// Writes the pages of group g of a copy of a state over those of another state with this base and these bytes and
+// marks.
+#[inline(never)]
+fn put_pages(
+    from: &Snapshot,
+    base: &Option<Arc<Snapshot>>,
+    bytes: &mut [u8],
+    changed: &mut Marks,
+    g: usize,
+)
+    requires base { IsBaseOf from.now.shape base.now }
+    requires length { length bytes.old ≡ length_of from.now.shape }
+    requires marks { length changed.old ≡ length_of from.now.shape / 4096 + 1 }
+    requires group { 64 * g < length changed.old }
+    requires restored { IsRestored from.now.bytes (min (64 * g) (length changed.old)) (base_bytes base.now)
+        bytes.old changed.old }
+    ensures marks { length changed.new ≡ length changed.old }
+    ensures group { IsRestored from.now.bytes (min (64 * g + 64) (length changed.old)) (base_bytes base.now)
+        bytes.new changed.new }
+{
+    // That it is a shape bounds how many marks there are.
+    let shape = from.shape();
+    let _ = shape.base();
     let (first, end) = group_ends(g, changed.len());
     for p in first..end {
         let page = from.page(p);
-        let blank = is_blank(shape, base, p, changed[p]);
+        let blank = is_blank(shape, base, p, changed.is_marked(p));
         put_page(bytes, p, page, blank);
-        changed[p] = !page.is_empty();
+        changed.put(p, !page.is_empty());
+    }
+    if from.is_blank_group(g) {
+        changed.settle(g);
     }
 }

@@ -1,16 +1,14 @@
-use Rattle.std.proofs.Common.{◌+◌, ◌*◌, ℕ, List, length, sym, ap, ◌∙◌, arith, refl}
-use Rattle.asc_model.specs.Number.{word_at}
-use Rattle.asc_model.proofs.Numbers.{bytes_of-to_le_bytes}
-use Rattle.asc_shape.specs.Stride.{strided_word}
-use Rattle.asc_shape.proofs.Strides.{stride_more}
+use Rattle.std.proofs.Common.{◌≡◌, ◌∙◌, ◌*◌, ◌/◌, inl, inr, length, arith}
+use Rattle.std.proofs.lemmas.Bool.{cases_lt}
+use Rattle.asc_shape.proofs.Eights.{strided_after}
 use Rattle.asc_shape.proofs.page.stride.Goals as goal
 
-pub loop-k-preserved : goal.loop-k-preserved
-loop-k-preserved c =
-    let at = 4 * c.loop-k.k in
-    let bytes = c.copy_from_slice.ensures.after ∙ c.to_le_bytes.ensures in
-    let more = stride_more c.args.ahead c.args.words.now c.args.prev.now c.loop-k.words c.copy_from_slice.new.self c.loop-k.k at (at + 4) c.strided-word.result
-    c.loop-k.auto.words c.loop-k.invariant.done c.loop-k.invariant.left refl refl (omega arith) (ap (λ (l : List ℕ). length l) bytes ∙ omega arith)
-    (c.strided-word.ensures ∙ ap (λ w. strided_word c.args.ahead w c.word_in-in-loop-k.result) c.word_in.ensures ∙ ap (λ w. strided_word c.args.ahead (word_at c.loop-k.words at) w) c.word_in-in-loop-k.ensures)
-    (bytes ∙ sym (bytes_of-to_le_bytes c.strided-word.result)) in
-    record { done = more.0; left = more.1 }
+pub returns : goal.returns
+returns c i within =
+    let n = length c.args.words.now / 32 * 32 in
+    let size : length c.stride_by_eights.new.words ≡ length c.args.words.now = c.stride_by_eights.auto.words in
+    elim (cases_lt i n) [
+      | inl below ↦ c.stride_rest.ensures.done i (omega arith) ∙ c.stride_by_eights.ensures.done i below
+      | inr above ↦ c.stride_rest.ensures.rest i (omega arith) (omega arith)
+          ∙ strided_after c.args.ahead c.args.words.now c.args.prev.now c.stride_by_eights.new.words n i (omega arith) above c.stride_by_eights.ensures.left
+    ]

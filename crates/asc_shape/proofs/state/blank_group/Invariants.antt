@@ -1,7 +1,10 @@
-use Rattle.std.proofs.Common.{[]}
+use Rattle.std.proofs.Common.{◌≡◌, length, []}
 use Rattle.asc_shape.specs.Pages.{IsRestored, base_bytes}
 use Rattle.asc_shape.proofs.state.blank_group.Given as goal
 
 -- the pages so far are blank
 abbrev pub invariant-loop-p : goal.invariant-loop-p
-invariant-loop-p l = IsRestored [] l.p (base_bytes l.base) l.bytes l.changed
+invariant-loop-p l = record {
+  size : length l.changed ≡ length l.fn.changed;
+  pages : IsRestored [] l.p (base_bytes l.base) l.bytes l.changed;
+}

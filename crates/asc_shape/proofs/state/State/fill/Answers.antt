@@ -1,10 +1,8 @@
-use Rattle.std.proofs.Common.{refl, [], true, Bool, ◌≡◌, ◌∙◌, ◌+◌, ◌*◌, ◌-◌, ◌/◌, ◌≤◌, sym, ap, arith, length, List, ℕ, subst}
-use Rattle.std.specs.Vec.{with_item, vec_len}
-use Rattle.std.specs.Global.{Vec}
+use Rattle.std.proofs.Common.{[], Bool, ◌≡◌, ◌∙◌, ◌+◌, ◌*◌, ◌-◌, ◌/◌, ◌≤◌, sym, ap, arith, length, List, ℕ, subst}
 use Rattle.asc_model.specs.Shape.{Shape, IsShape, length_of}
 use Rattle.asc_model.specs.State.{State}
 use Rattle.asc_shape.specs.Pages.{base_bytes}
-use Rattle.asc_shape.proofs.Restores.{restored_zeros, inside_restored, restored_up_to, restored_put, items_over, marks_over}
+use Rattle.asc_shape.proofs.Restores.{restored_zeros, inside_restored, restored_up_to, restored_put, items_over}
 use Rattle.asc_shape.proofs.state.State.fill.Goals as goal
 
 pub loop-g-init : goal.loop-g-init
@@ -22,43 +20,42 @@ pub loop-g-preserved : goal.loop-g-preserved
 loop-g-preserved c =
     let inside = c.loop-g.self-inside in
     let size : length c.blank_group.new.bytes ≡ length inside.bytes.items = c.blank_group.auto.bytes ∙ ap (λ (l : List ℕ). length l) c.deref_mut.ensures.value in
-    let marks : length c.blank_group.new.changed ≡ length inside.changed.items = c.blank_group.auto.changed ∙ ap (λ (l : List Bool). length l) c.deref_mut-in-loop-g.ensures.value in
     record {
       shape = c.loop-g.invariant.shape;
       size = ap (λ (l : List ℕ). length l) (items_over inside.bytes c.blank_group.new.bytes size) ∙ size ∙ c.loop-g.invariant.size;
-      marks = ap (λ (l : List Bool). length l) (marks_over inside.changed c.blank_group.new.changed marks) ∙ marks ∙ c.loop-g.invariant.marks;
+      marks = c.blank_group.ensures.marks ∙ c.loop-g.invariant.marks;
       base = c.loop-g.invariant.base;
-      pages = restored_put [] (base_bytes inside.base) inside.bytes inside.changed c.blank_group.new.bytes c.deref_mut-in-loop-g.result.now c.blank_group.new.changed c.loop-g.g
-          c.blank_group.ensures size c.deref_mut-in-loop-g.ensures.value marks;
+      pages = restored_put [] (base_bytes inside.base) inside.bytes c.blank_group.new.bytes inside.changed c.blank_group.new.changed c.loop-g.g
+          c.blank_group.ensures.group size c.blank_group.ensures.marks;
     }
 
 -- the groups that were put have all pages
-all_pages : (n len g : ℕ) (changed : Vec Bool) → length changed.items ≡ n / 4096 + 1 → len ≡ vec_len changed → (len - 1) / 64 + 1 ≤ g → n / 4096 + 1 ≤ 64 * g
-all_pages n len g changed size is all = let e : len ≡ length changed.items = is ∙ changed.ok.0 in omega arith
+all_pages : (n len g : ℕ) (changed : List Bool) → length changed ≡ n / 4096 + 1 → len ≡ length changed → (len - 1) / 64 + 1 ≤ g → n / 4096 + 1 ≤ 64 * g
+all_pages n len g changed size is all = omega arith
 
 pub invariant_of-self : goal.invariant_of-self
 invariant_of-self c =
     let inside = c.loop-g.self-inside in
     let shaped = c.loop-g.invariant.shape in
     let n = length_of c.args.self.now.shape in
-    let marks : length inside.changed.items ≡ n / 4096 + 1 = c.loop-g.invariant.marks in
-    let first : length c.self.inside.changed.items ≡ n / 4096 + 1 =
+    let marks : length inside.changed ≡ n / 4096 + 1 = c.loop-g.invariant.marks in
+    let first : length c.self.inside.changed ≡ n / 4096 + 1 =
     c.self.invariant.marks ∙ ap (λ (s : State). length_of s.shape / 4096 + 1) c.self.view_is in
-    inside_restored inside.shape inside.bytes inside.changed (with_item inside.changed 0 true) [] (base_bytes inside.base) (n / 4096 + 1)
-    (restored_up_to [] (base_bytes inside.base) inside.bytes.items inside.changed.items (64 * c.loop-g.g) (n / 4096 + 1) c.loop-g.invariant.pages marks (all_pages n c.len.result c.loop-g.g c.self.inside.changed first c.len.ensures c.loop-g-test.false))
+    inside_restored inside.shape inside.bytes inside.changed c.mark.new.self [] (base_bytes inside.base) (n / 4096 + 1)
+    (restored_up_to [] (base_bytes inside.base) inside.bytes.items inside.changed (64 * c.loop-g.g) (n / 4096 + 1) c.loop-g.invariant.pages marks (all_pages n c.len.result c.loop-g.g c.self.inside.changed first c.len.ensures c.loop-g-test.false))
     (subst (λ (s : Shape). IsShape s) (ap (λ (s : State). s.shape) c.self.view_is ∙ sym shaped) c.self.invariant.shape)
     (c.loop-g.invariant.size ∙ sym (ap (λ (s : Shape). length_of s) shaped)) (marks ∙ sym (ap (λ (s : Shape). length_of s / 4096 + 1) shaped))
-    (omega (arith, ap (λ (s : Shape). length_of s) shaped)) refl
+    (omega (arith, ap (λ (s : Shape). length_of s) shaped)) c.mark.ensures
 
 pub returns : goal.returns
 returns c =
     let inside = c.loop-g.self-inside in
     let n = length_of c.args.self.now.shape in
-    let marks : length inside.changed.items ≡ n / 4096 + 1 = c.loop-g.invariant.marks in
-    let first : length c.self.inside.changed.items ≡ n / 4096 + 1 =
+    let marks : length inside.changed ≡ n / 4096 + 1 = c.loop-g.invariant.marks in
+    let first : length c.self.inside.changed ≡ n / 4096 + 1 =
     c.self.invariant.marks ∙ ap (λ (s : State). length_of s.shape / 4096 + 1) c.self.view_is in
     ap (λ (s : Shape). let t : State = record { shape = s; bytes = inside.bytes.items } in t) c.loop-g.invariant.shape
     ∙ ap (λ (bytes : List ℕ). let t : State = record { shape = c.args.self.now.shape; bytes = bytes } in t)
-    (restored_zeros (base_bytes inside.base) inside.bytes.items inside.changed.items n (n / 4096 + 1)
-    (restored_up_to [] (base_bytes inside.base) inside.bytes.items inside.changed.items (64 * c.loop-g.g) (n / 4096 + 1) c.loop-g.invariant.pages marks (all_pages n c.len.result c.loop-g.g c.self.inside.changed first c.len.ensures c.loop-g-test.false))
+    (restored_zeros (base_bytes inside.base) inside.bytes.items inside.changed n (n / 4096 + 1)
+    (restored_up_to [] (base_bytes inside.base) inside.bytes.items inside.changed (64 * c.loop-g.g) (n / 4096 + 1) c.loop-g.invariant.pages marks (all_pages n c.len.result c.loop-g.g c.self.inside.changed first c.len.ensures c.loop-g-test.false))
     c.loop-g.invariant.size (omega arith))

@@ -8,7 +8,7 @@ abbrev pub invariant-loop-g : goal.invariant-loop-g
 invariant-loop-g l = record {
   shape : l.self-inside.shape ≡ l.fn.self.shape;
   size : length l.self-inside.bytes.items ≡ length_of l.fn.self.shape;
-  marks : length l.self-inside.changed.items ≡ length_of l.fn.self.shape / 4096 + 1;
+  marks : length l.self-inside.changed ≡ length_of l.fn.self.shape / 4096 + 1;
   base : IsBaseOf l.self-inside.shape l.self-inside.base;
-  pages : IsRestored [] (min (64 * l.g) (length l.self-inside.changed.items)) (base_bytes l.self-inside.base) l.self-inside.bytes.items l.self-inside.changed.items;
+  pages : IsRestored [] (min (64 * l.g) (length l.self-inside.changed)) (base_bytes l.self-inside.base) l.self-inside.bytes.items l.self-inside.changed;
 }

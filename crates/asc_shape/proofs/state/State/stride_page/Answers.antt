@@ -1,7 +1,8 @@
-use Rattle.std.proofs.Common.{true, ◌≡◌, ◌≢◌, inl, inr, ◌∙◌, ◌*◌, ◌/◌, ◌<◌, slice_index, sym, ap, arith, length, List, ℕ, subst}
-use Rattle.std.specs.Vec.{with_item, with_items}
+use Rattle.std.proofs.Common.{Bool, ◌≡◌, ◌≢◌, inl, inr, ◌∙◌, ◌*◌, ◌/◌, ◌<◌, slice_index, sym, ap, arith, length, List, ℕ, subst}
+use Rattle.std.specs.Vec.{with_items}
 use Rattle.asc_model.specs.Shape.{Shape, length_of}
 use Rattle.asc_model.specs.State.{State}
+use Rattle.asc_shape.specs.Pages.{IsMarked}
 use Rattle.asc_shape.specs.Stride.{strided_byte}
 use Rattle.asc_shape.proofs.Pages.{inside_after, marked_page}
 use Rattle.asc_shape.proofs.Restores.{items_over}
@@ -19,8 +20,8 @@ invariant_of-self c =
     let size_new : length new ≡ length put = c.stride_page.auto.bytes ∙ ap (λ (l : List ℕ). length l) there in
     let two : (with_items (with_items inside.bytes put) new).items ≡ new =
     items_over (with_items inside.bytes put) new (size_new ∙ sym (ap (λ (l : List ℕ). length l) one)) in
-    inside_after inside.shape inside.base inside.bytes (with_items (with_items inside.bytes put) new) inside.changed (with_item inside.changed c.args.p true) (4096 * c.args.p) 4096
-    c.self.invariant (marked_page inside.changed.items c.args.p) (ap (λ (l : List ℕ). length l) two ∙ size_new ∙ size_put)
+    inside_after inside.shape inside.base inside.bytes (with_items (with_items inside.bytes put) new) inside.changed c.mark.new.self (4096 * c.args.p) 4096
+    c.self.invariant (subst (λ (l : List Bool). IsMarked (4096 * c.args.p) 4096 inside.changed l) (sym c.mark.ensures) (marked_page inside.changed c.args.p)) (ap (λ (l : List ℕ). length l) two ∙ size_new ∙ size_put)
     (λ i outside. ap (λ (l : List ℕ). slice_index l i) two
     ∙ (let other : i / 4096 ≢ c.args.p = elim outside [ inl below ↦ omega arith | inr above ↦ omega arith ] in
     c.stride_page.ensures.others i other ∙ ap (λ (l : List ℕ). slice_index l i) there

@@ -1,5 +1,5 @@
 use Rattle.asc_shape.specs.Pages.{Differ}
-use Rattle.asc_shape.proofs.pair.add_differing.Given as goal
+use Rattle.asc_shape.proofs.pair.list_differing.Given as goal
 
 -- the pages so far
 abbrev pub invariant-loop-p : goal.invariant-loop-p

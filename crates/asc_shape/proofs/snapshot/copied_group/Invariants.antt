@@ -1,6 +1,6 @@
 use Rattle.std.proofs.Common.{◌≡◌, ◌<◌, ◌+◌, ◌*◌, ℕ, None, length, slice_index_or}
 use Rattle.asc_shape.specs.Pages.{IsPage, page_bytes}
-use Rattle.asc_shape.proofs.snapshot.group_of.Given as goal
+use Rattle.asc_shape.proofs.snapshot.copied_group.Given as goal
 
 -- the pages so far
 abbrev pub invariant-loop-p : goal.invariant-loop-p

@@ -1,6 +1,0 @@
-use Rattle.asc_shape.specs.Pages.{IsRestored, base_bytes}
-use Rattle.asc_shape.proofs.state.put_group.Given as goal
-
--- the pages so far are those of the copy
-abbrev pub invariant-loop-p : goal.invariant-loop-p
-invariant-loop-p l = IsRestored l.from.bytes l.p (base_bytes l.base) l.bytes l.changed
