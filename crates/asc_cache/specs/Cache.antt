@@ -112,7 +112,7 @@ abbrev pub replies_of : ShardReaders → Option (List (Option ℕ))
 replies_of s = None
 
 abbrev pub plan_of : ShardReaders → Plan
-plan_of s = record { made = 0; refused = 0; full = 0; seen = None }
+plan_of s = record { made = 0; refused = 0; full = 0; seen = None; queue = None }
 
 abbrev pub machine_of : ShardReaders → Option Serial
 machine_of s = None

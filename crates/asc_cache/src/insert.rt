@@ -1,4 +1,4 @@
-ghost use Rattle.std.specs.Prelude.{◌≡◌};
+ghost use Rattle.std.specs.Prelude.{◌≡◌, IsOk};
 ghost use Rattle.std.specs.Arc.{arc_value};
 ghost use Rattle.asc_shard.specs.Shard.{Shard};
 ghost use Rattle.asc_cache.specs.Insert.{IsInserted};
@@ -52,6 +52,7 @@ impl Insert for ListWriter<'_> {
     fn insert(&mut self, entry: Arc<Entry, Global>) -> Result<Inserted, Memory>
         ensures same_reference { self.new.shard.ghost_name ≡ self.old.shard.ghost_name }
         ensures inserted { IsInserted result (arc_value entry) self.old.shard.now self.new.shard.now }
+        ensures done { IsOk result }
     {
         Ok(self.shard.insert(entry))
     }

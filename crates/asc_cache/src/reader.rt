@@ -40,6 +40,7 @@ impl Model for Told {
 }
 
 impl Told {
+    /// What the shown instance has taken in, of the shard of this number.
     pub(crate) fn of(shown: &Instance, index: usize) -> Told
         ensures { result ≡ record { shard = shown.now.front.book; index = index; stored = shown.now.front.log } }
     {

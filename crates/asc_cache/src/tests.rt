@@ -1,6 +1,6 @@
-ghost use Rattle.std.specs.Prelude.{IfOk};
+ghost use Rattle.std.specs.Prelude.{◌≡◌, IfOk};
 ghost use Rattle.asc_traj.specs.Trace.{StandsFor};
-ghost use Rattle.asc_cache.specs.Cache.{AreLater, IsOwnReader};
+ghost use Rattle.asc_cache.specs.Cache.{ShardWriter as writer_model, AreLater, IsOwnReader};
 
 use crate::{Cache, Insert, ListWriter, ShardReaders, ShardWriter};
 use asc_depvec::Tracer;
@@ -129,13 +129,14 @@ fn refused<R: Wait + Drop, Q: Abort>(
     Ok(())
 }
 
-/// Inserts, meets, and looks up.
+/// Inserts, and from so many insertions on meets and looks up.
 fn play_row<R: Wait + Drop, Q: Abort>(
     rt: &Q,
     alloc: Global,
     writer: &mut ShardWriter<R>,
     readers: &mut ShardReaders<R>,
     row: &Row,
+    first: u64,
 ) -> Result<(), Memory>
     requires { IsOwnReader writer.old readers.old.readers }
     ensures { IfOk result (λ _. IsOwnReader writer.new readers.new.readers) }
@@ -145,6 +146,9 @@ fn play_row<R: Wait + Drop, Q: Abort>(
         return Err(Memory);
     };
     assert_eq!(rt; became, row.became);
+    if row.seen < first {
+        return Ok(());
+    }
     readers.meet(writer);
     assert_eq!(rt;
         (writer.stored(), readers.seen(writer.index())),
@@ -175,17 +179,19 @@ fn find_row<R: Wait + Drop, Q: Abort>(
     Ok(())
 }
 
-/// Plays all rows with one of the shards of a cache.
+/// Plays all rows with one of the shards of a cache, and answers how often its readers were asked, what they gave and
+/// how often they hit. Its reader is told nothing below so many insertions.
 fn play<R: Wait + Copy, Q: Abort>(
     rt: &Q,
     handle: R,
     alloc: Global,
     shards: usize,
     at: usize,
-) -> Result<(), Memory> {
+    first: u64,
+) -> Result<(u64, u64, u64), Memory> {
     assert!(rt; at < shards && shards <= 64);
     let (mut writers, mut readers) = Cache::open(alloc, handle, shards, 2)?.split();
-    play_rows(rt, alloc, &mut writers[at], &mut readers)
+    play_rows(rt, alloc, &mut writers[at], &mut readers, first)
 }
 
 fn play_rows<R: Wait + Drop, Q: Abort>(
@@ -193,23 +199,28 @@ fn play_rows<R: Wait + Drop, Q: Abort>(
     alloc: Global,
     writer: &mut ShardWriter<R>,
     readers: &mut ShardReaders<R>,
-) -> Result<(), Memory>
+    first: u64,
+) -> Result<(u64, u64, u64), Memory>
     requires { IsOwnReader writer.old readers.old.readers }
 {
     for row in &ROWS {
-        play_row(rt, alloc, writer, readers, row)?;
+        play_row(rt, alloc, writer, readers, row, first)?;
     }
-    assert_eq!(rt;
-        (readers.asked(), readers.given(), readers.hits()),
-        (15, 18, 9)
-    );
-    Ok(())
+    Ok((readers.asked(), readers.given(), readers.hits()))
 }
 
 #[test]
 fn bounded(rt: HostRuntime) {
-    for (shards, at) in [(1, 0), (3, 2)] {
-        assert!(rt; play(&rt, &rt, rt.alloc(), shards, at).is_ok());
+    let alloc = rt.alloc();
+    for (shards, at, first, counts) in [
+        (1, 0, 0, (15, 18, 9)),
+        (3, 2, 0, (15, 18, 9)),
+        (1, 0, 3, (9, 12, 6)),
+    ] {
+        assert_eq!(rt;
+            play(&rt, &rt, alloc, shards, at, first).expect(&rt, "memory"),
+            counts
+        );
     }
 }
 
@@ -237,7 +248,9 @@ fn store_many<R: Wait + Drop>(
     writer: &mut ShardWriter<R>,
     entries: &[Arc<Entry>],
     times: usize,
-) -> Result<(), Memory> {
+) -> Result<(), Memory>
+    ensures { (writer.new.shard ≡ writer.old.shard) × (writer.new.index ≡ writer.old.index) }
+{
     for _ in 0..times {
         for entry in entries {
             writer.insert(Arc::try_clone(entry)?)?;
@@ -253,7 +266,9 @@ fn watch<R: Wait + Drop>(
     state: &mut State,
     times: u32,
     until: u64,
-) -> bool {
+) -> bool
+    ensures { (w : writer_model) → IsOwnReader w readers.old.readers → IsOwnReader w readers.new.readers }
+{
     let mut least = 0;
     for _ in 0..times {
         if readers.shards() == 0 || readers.asked() >= 1 << 60 || readers.given() >= 1 << 60 {
@@ -272,19 +287,30 @@ fn watch<R: Wait + Drop>(
     true
 }
 
-/// A writer and a reader in threads of their own.
+/// A writer and a reader in threads of their own. It answers whether what is seen never got shorter, and how much is
+/// seen once the reader was told.
 fn run_both<T: Threads + Wait + Sync, R: Wait + Drop + Send, Q: Wait + Drop + Send>(
     rt: &T,
     writer: &mut ShardWriter<R>,
     readers: &mut ShardReaders<Q>,
     entries: &[Arc<Entry>],
     state: &mut State,
-) -> (Result<(), Memory>, bool) {
-    join_mut(
+) -> Result<(bool, u64), Memory>
+    requires { IsOwnReader writer.old readers.old.readers }
+{
+    let (stored, grew) = join_mut(
         rt,
-        &mut || store_many(writer, entries, 25_000),
-        &mut || watch(readers, state, 1_000_000, 100_000),
-    )
+        &mut ||
+            ensures { (writer.exit.now.shard ≡ writer.entry.now.shard) × (writer.exit.now.index ≡ writer.entry.now.index) }
+        { store_many(writer, entries, 25_000) },
+        &mut ||
+            ensures { (w : writer_model) → IsOwnReader w readers.entry.now.readers
+                → IsOwnReader w readers.exit.now.readers }
+        { watch(readers, state, 1_000_000, 100_000) },
+    );
+    stored?;
+    readers.meet(writer);
+    Ok((grew, readers.seen(writer.index())))
 }
 
 /// A writer that has stored 100,000 insertions, beside a reader.
@@ -299,9 +325,9 @@ fn play_beside<Q: Abort + Threads + Wait + Sync + Send>(
     let mut state = counting(alloc, 1)?;
     let (mut writers, mut readers) = Cache::open(alloc, rt, 1, 2)?.split();
     let writer = &mut writers[0];
-    let (stored, grew) = run_both(rt, writer, &mut readers, &entries, &mut state);
-    stored?;
+    let (grew, seen) = run_both(rt, writer, &mut readers, &entries, &mut state)?;
     assert!(rt; grew);
+    assert_eq!(rt; seen, 100_000);
     Ok(writer.stored())
 }
 

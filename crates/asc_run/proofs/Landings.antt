@@ -29,7 +29,7 @@ Tells-same a x y z p q ys e =
 
 -- a helper that was not asked
 pub Helped-none : (a : Aid) → Helped [] a a
-Helped-none a = record { tally = refl; replies = Tells-none a.replies; plans = record { made = omega arith; full = omega arith; few = omega arith; refused = omega arith } }
+Helped-none a = record { tally = refl; replies = Tells-none a.replies; plans = record { made = omega arith; full = omega arith; few = omega arith; refused = omega arith; queue = refl } }
 
 -- a landing at which it is not asked
 pub Helped-past : (is : Bool) (c : ℕ) (r : Option ℕ) (a : Aid) → is ≡ false → Helped (with_landing is c r []) a a
@@ -45,6 +45,7 @@ Helped-more true c r vs u v w p q = record {
     full = let x = p.plans.full in let y = q.plans.full in omega arith;
     few = let x = p.plans.few in let y = q.plans.few in omega arith;
     refused = let x = p.plans.refused in let y = q.plans.refused in omega arith;
+    queue = q.plans.queue ∙ p.plans.queue;
   };
 }
 Helped-more false c r vs u v w p q = record {
@@ -55,6 +56,7 @@ Helped-more false c r vs u v w p q = record {
     full = let x = p.plans.full in let y = q.plans.full in omega arith;
     few = let x = p.plans.few in let y = q.plans.few in omega arith;
     refused = let x = p.plans.refused in let y = q.plans.refused in omega arith;
+    queue = q.plans.queue ∙ p.plans.queue;
   };
 }
 

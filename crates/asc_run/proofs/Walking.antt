@@ -155,6 +155,7 @@ Plans-more is c r before number old now new helped is_number plans =
       full = omega (arith, f, full');
       few = omega (arith, few, few', is_number);
       refused = omega (arith, refused, refused');
+      queue = helped.plans.queue ∙ plans.queue;
     }
 
 -- a helper's counts that rose by each of a walk's

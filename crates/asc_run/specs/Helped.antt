@@ -24,12 +24,14 @@ pub record HasRoom (bound : ℕ) (a : Aid) : Type 0 where
   pub made : a.plan.made < bound
   pub full : a.plan.full < bound
 
--- guesses made, and those that found no room, never fall, and together rise by at most 128 a visit; refusals never fall
+-- Guesses made, and those that found no room, never fall, and together rise by at most 128 a visit. Refusals never fall.
+-- The queue stays.
 pub record Plans (visits : ℕ) (old new : Plan) : Type 0 where
   pub made : old.made ≤ new.made
   pub full : old.full ≤ new.full
   pub few : new.made + new.full ≤ old.made + old.full + 128 * visits
   pub refused : old.refused ≤ new.refused
+  pub queue : new.queue ≡ old.queue
 
 -- a visit in which the machine is told, and memory was not wanting, is the machine's
 abbrev pub VisitsMachine : (number : ℕ) → State → (old new : Aid) → Type 0

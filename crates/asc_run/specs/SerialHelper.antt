@@ -29,7 +29,7 @@ first_helper shape guessing =
 
 -- what was made for it, as a finder tells it
 abbrev pub plan_of : SerialHelper → Plan
-plan_of h = record { made = h.made; refused = h.refused; full = 0; seen = None }
+plan_of h = record { made = h.made; refused = h.refused; full = 0; seen = None; queue = None }
 
 -- The machine, as a finder tells it. It is told until the count of refusals stands at its last value.
 abbrev pub told_machine : SerialHelper → Option Serial

@@ -73,7 +73,7 @@ impl<F: Finder> Finder for Bare<F> {
 
     ghost replies = { λ finder. F.replies finder };
 
-    ghost plan = { λ _. record { made = 0; refused = 0; full = 0; seen = None } };
+    ghost plan = { λ _. record { made = 0; refused = 0; full = 0; seen = None; queue = None } };
 
     ghost machine = { λ _. None };
 

@@ -100,7 +100,8 @@ static RUNS: [(bool, bool, u64, Ended, Counts, u64); 5] = [
     ),
 ];
 
-/// Where an allocation fails in a visit, the answer is the same, and the refusal is counted.
+/// Where an allocation fails in a visit, that is counted, and no more is guessed than without. The answer is the same,
+/// and so is how often the helper is asked.
 #[test]
 fn runs_alone(rt: HostRuntime) {
     let alloc = rt.alloc();
@@ -116,6 +117,11 @@ fn runs_alone(rt: HostRuntime) {
             (got.0, got.1.count, got.1.asked),
             (ended, counts.count, counts.asked)
         );
+        assert_eq!(rt;
+            got.1.executed.checked_add(got.1.skipped),
+            Some(counts.count)
+        );
+        assert!(rt; serial.made() <= made);
         if serial.refused() == 0 {
             assert_eq!(rt;
                 (got.1, serial.made()),

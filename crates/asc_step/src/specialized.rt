@@ -137,7 +137,7 @@ fn execute_specialized<B: Words, const UNTIL: bool>(
 /// Each arm does the same, as in `execute_specialized`. With many more arms the compiler no longer takes this into the
 /// loop of a trace, which then is slower. The last arm is for none of the operations that `decode_likely` answers.
 #[inline(always)]
-pub(crate) fn execute_likely<B: Words>(
+pub(crate) fn execute_likely<B: Words, K>(
     bytes: &mut B,
     shape: Shape,
     pc: u32,

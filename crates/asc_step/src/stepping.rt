@@ -26,8 +26,11 @@ use std::sync::ledger::Ledger;
 ///
 /// Only the operations that programs do most have code of their own, so that the rest of a tracer's step takes no room
 /// in the loop of a trace. `step` has code of its own for each operation.
+///
+/// `K` is any type. It tells loops of such steps apart: each has a copy of this that is called there alone, which the
+/// compiler then takes into the loop.
 #[inline(always)]
-pub fn try_step_of<B: Words>(bytes: &mut B, shape: Shape) -> Stepped
+pub fn try_step_of<B: Words, K>(bytes: &mut B, shape: Shape) -> Stepped
     requires shape { shape ≡ (B.face bytes.old).state.shape }
     requires room { step_room ≤ room_of (B.face bytes.old).marks }
     ensures { Attempts (B.face bytes.old) (B.face bytes.new) result }
@@ -40,7 +43,7 @@ pub fn try_step_of<B: Words>(bytes: &mut B, shape: Shape) -> Stepped
     }
     let word = read_word(bytes, shape.place_of(pc));
     match decode_likely(word) {
-        Some(instruction) => execute_likely(bytes, shape, pc, instruction),
+        Some(instruction) => execute_likely::<B, K>(bytes, shape, pc, instruction),
         None => execute_word(bytes, shape, pc, word),
     }
 }
@@ -73,7 +76,7 @@ pub fn try_step<B: Words>(bytes: &mut B) -> Stepped
     ensures { Attempts (B.face bytes.old) (B.face bytes.new) result }
 {
     let shape = bytes.shape();
-    try_step_of(bytes, shape)
+    try_step_of::<B, ()>(bytes, shape)
 }
 
 /// Takes one step as `try_step_of` does, and counts it where the program went on. `UNTIL` tells the two loops of steps

@@ -81,7 +81,7 @@ impl Finder for Nothing {
 
     ghost replies = { λ _. None };
 
-    ghost plan = { λ _. record { made = 0; refused = 0; full = 0; seen = None } };
+    ghost plan = { λ _. record { made = 0; refused = 0; full = 0; seen = None; queue = None } };
 
     ghost machine = { λ _. None };
 
@@ -151,7 +151,7 @@ impl Finder for ListFinder {
 
     ghost replies = { λ _. None };
 
-    ghost plan = { λ _. record { made = 0; refused = 0; full = 0; seen = None } };
+    ghost plan = { λ _. record { made = 0; refused = 0; full = 0; seen = None; queue = None } };
 
     ghost machine = { λ _. None };
 

@@ -84,7 +84,7 @@ pub fn trace<H: Halt>(tracer: &mut Tracer, stop: &Stop, halt: &mut H) -> Traced
                 why: Why::Stopped,
             };
         }
-        if let Some(why) = attempt(tracer, shape) {
+        if let Some(why) = attempt::<H>(tracer, shape) {
             return Traced { steps, why };
         }
         steps += 1;
@@ -113,9 +113,10 @@ fn bound_met(tracer: &Tracer, stop: &Stop, steps: u64, laps: u64) -> Option<Why>
     }
 }
 
-/// Tries one step of a state of this shape. Where it calls or faults it answers that, and the reads of the attempt are taken back.
+/// Tries one step of a state of this shape. Where it calls or faults it answers that, and the reads of the attempt are
+/// taken back. Traces under different halts have code of their own.
 #[inline]
-fn attempt(tracer: &mut Tracer, shape: Shape) -> Option<Why>
+fn attempt<H: Halt>(tracer: &mut Tracer, shape: Shape) -> Option<Why>
     requires own { shape ≡ tracer.old.state.shape }
     requires room { step_room ≤ room_of (face_of tracer.old).marks }
     ensures ends { result ≡ why_no_step (next tracer.old.state) }
@@ -126,7 +127,7 @@ fn attempt(tracer: &mut Tracer, shape: Shape) -> Option<Why>
 {
     known(tracer);
     let mark = tracer.mark();
-    let ended = why_of(try_step_of(tracer, shape));
+    let ended = why_of(try_step_of::<Tracer, H>(tracer, shape));
     known(tracer);
     if ended.is_some() {
         tracer.undo(mark);

@@ -9,7 +9,7 @@ use Rattle.asc_traj.proofs.Attempts.{limits-step, back-face, back-mark, why_of-s
 use Rattle.asc_traj.proofs.tracing.attempt.Goals as goal
 
 pub undo-requires : goal.undo-requires
-undo-requires c =
+undo-requires g c =
     let t = c.args.tracer.now in
     let ends = c.why_of-ended.ensures ∙ ap why_of c.try_step_of.ensures.answer ∙ why_of-stepped (next t.state) in
     let some : IsSome (why_no_step (next t.state)) = some_by _ _ ends (sym c.is_some.ensures ∙ c.if-is_some.true) in
@@ -18,7 +18,7 @@ undo-requires c =
     (back-mark t c.try_step_of.new.bytes good some c.try_step_of.ensures.places)
 
 pub returns-then-is_some-clause-back : goal.returns-then-is_some-clause-back
-returns-then-is_some-clause-back c = λ _.
+returns-then-is_some-clause-back g c = λ _.
     let t = c.args.tracer.now in
     let later = c.try_step_of.new.bytes in
     let ends = c.why_of-ended.ensures ∙ ap why_of c.try_step_of.ensures.answer ∙ why_of-stepped (next t.state) in
@@ -30,28 +30,28 @@ returns-then-is_some-clause-back c = λ _.
     c.undo.ensures ∙ same_tracing (undone later c.mark-mark.result) t limits.0 limits.1 back
 
 pub returns-then-is_some-clause-shape : goal.returns-then-is_some-clause-shape
-returns-then-is_some-clause-shape c =
+returns-then-is_some-clause-shape g c =
     let t = c.args.tracer.now in
     let good : IsState t.state = c.known.ensures.state in
     let limits = limits-step t c.try_step_of.new.bytes c.requires.room c.try_step_of.ensures.places in
     ap (λ u. u.shape) c.undo.ensures ∙ limits.0
 
 pub returns-then-is_some-clause-cap : goal.returns-then-is_some-clause-cap
-returns-then-is_some-clause-cap c =
+returns-then-is_some-clause-cap g c =
     let t = c.args.tracer.now in
     let good : IsState t.state = c.known.ensures.state in
     let limits = limits-step t c.try_step_of.new.bytes c.requires.room c.try_step_of.ensures.places in
     ap (λ u. u.cap) c.undo.ensures ∙ limits.1
 
 pub returns-else-is_some-clause-shape : goal.returns-else-is_some-clause-shape
-returns-else-is_some-clause-shape c =
+returns-else-is_some-clause-shape g c =
     let t = c.args.tracer.now in
     let good : IsState t.state = c.known.ensures.state in
     let limits = limits-step t c.try_step_of.new.bytes c.requires.room c.try_step_of.ensures.places in
     limits.0
 
 pub returns-else-is_some-clause-cap : goal.returns-else-is_some-clause-cap
-returns-else-is_some-clause-cap c =
+returns-else-is_some-clause-cap g c =
     let t = c.args.tracer.now in
     let good : IsState t.state = c.known.ensures.state in
     let limits = limits-step t c.try_step_of.new.bytes c.requires.room c.try_step_of.ensures.places in

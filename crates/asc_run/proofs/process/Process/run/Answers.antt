@@ -19,8 +19,8 @@ loop-self-init g c =
       given = omega (arith, given);
       asked = omega (arith, asked);
       hits = omega (arith, hits);
-      plans = record { made = omega arith; full = omega arith; few = omega arith; refused = omega arith };
-      seen = rw asked (SeesAll-none _);
+      plans = record { made = omega arith; full = omega arith; few = omega arith; refused = omega arith; queue = refl };
+      seen = rw asked (SeesAll-none (g.H.Finder.plan c.args.helper.now));
       visits = omega (arith, asked);
       skips = omega (arith, given);
       hit = omega (arith, hits);
