@@ -1,5 +1,5 @@
 -- Posts before and after workers have served, and the last of several.
-use Rattle.std.proofs.Common.{◌≡◌, ℕ, ◌+◌, ◌*◌, ◌^◌, ◌<◌, ◌≤◌, List, [], ◌∷◌, ◌++◌, false, true, Option, Some, All, length, get_or, take, drop, refl, sym, ap, ◌∙◌, subst, arith, length-append, append-nil, drop_of_length-le, take_all, add_assoc, add-zero, zero-add, add_comm}
+use Rattle.std.proofs.Common.{◌≡◌, ℕ, ◌+◌, ◌*◌, ◌^◌, ◌<◌, ◌≤◌, List, [], ◌∷◌, ◌++◌, false, true, Option, Some, All, length, get_or, take, drop, refl, sym, ap, ◌∙◌, subst, arith, length-append, append-nil, drop_of_length-le, take_all, add_assoc, add-zero, zero-add, add_comm, append_assoc}
 use Rattle.std.specs.Option.{option_to_list}
 use Rattle.std.proofs.lemmas.List.Elements.{All-nil, All-cons, All-head, All-tail, All-push}
 use Rattle.atomic_table.specs.Seated.{TableId}
@@ -10,7 +10,7 @@ use Rattle.asc_jobs.specs.declared.hand.Hand.{Hand}
 use Rattle.asc_jobs.specs.declared.job.Job.{Job}
 use Rattle.asc_jobs.proofs.Lists.{length_merge}
 use Rattle.asc_work.specs.Worker.{Worker}
-use Rattle.asc_work.specs.Posts.{HasServed, IsManned, IsTeam, queue_of, all_tallies}
+use Rattle.asc_work.specs.Posts.{HasServed, IsManned, IsTeam, queue_of, all_tallies, workers_at}
 use Rattle.asc_work.specs.declared.post.Post.{Post}
 
 -- ---- the last of a list
@@ -206,6 +206,25 @@ man_counts takers rest_takers workers rest_workers posts more p e f pushed same 
     let a = one_less takers rest_takers p.taker e in let b = one_less workers rest_workers p.worker f in
     let d = one_less more posts p pushed in
     (omega arith, omega arith, d)
+
+-- ---- workers at posts
+
+workers_push : {W H : Type 0} (posts : List (Post W H)) (p : Post W H) → workers_at (posts ++ p ∷ []) ≡ p.worker ∷ workers_at posts
+workers_push [] p = refl
+workers_push (q ∷ posts) p = ap (λ ws. ws ++ q.worker ∷ []) (workers_push posts p)
+
+-- a worker goes to a post of its own
+pub moved : {W H : Type 0} (workers rest : List (Worker W H)) (posts more : List (Post W H)) (p : Post W H)
+    → workers ≡ rest ++ p.worker ∷ [] → more ≡ posts ++ p ∷ [] → workers ++ workers_at posts ≡ rest ++ workers_at more
+moved {W} {H} workers rest posts more p is pushed =
+    ap (λ (ws : List (Worker W H)). ws ++ workers_at posts) is ∙ append_assoc rest (p.worker ∷ []) (workers_at posts)
+    ∙ ap (λ (ws : List (Worker W H)). rest ++ ws) (sym (ap (workers_at {W = W} {H = H}) pushed ∙ workers_push posts p))
+
+-- what holds of each worker holds at each post
+pub all_at : {W H : Type 0} (P : Worker W H → Type 0) (posts : List (Post W H)) → All P (workers_at posts) → All (λ p. P p.worker) posts
+all_at P [] h = All-nil (λ p. P p.worker)
+all_at P (p ∷ posts) h =
+    let s = split_last P (workers_at posts) p.worker h in All-cons (λ p. P p.worker) p posts s.1 (all_at P posts s.0)
 
 -- ---- teams
 

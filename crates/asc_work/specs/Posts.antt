@@ -1,5 +1,5 @@
 -- What workers at their posts have done.
-use Rattle.std.specs.Prelude.{◌≡◌, ℕ, ◌+◌, ◌^◌, ◌<◌, ◌≤◌, Option, Some, None, List, [], ◌∷◌, false, All, length}
+use Rattle.std.specs.Prelude.{◌≡◌, ℕ, ◌+◌, ◌^◌, ◌<◌, ◌≤◌, Option, Some, None, List, [], ◌∷◌, ◌++◌, false, All, length}
 use Rattle.atomic_table.specs.Seated.{TableId}
 use Rattle.asc_outside.specs.Outside.{one_more}
 use Rattle.asc_jobs.specs.Hands.{hand}
@@ -12,7 +12,8 @@ use Rattle.asc_work.specs.declared.post.Post.{Post}
 abbrev pub HasRisen : (before now : ℕ) → Type 0
 HasRisen before now = (n : ℕ) × (before ≤ n) × (now ≡ one_more n)
 
--- A worker took jobs and ran each of them, w and t being the worker and its taker before, and v and u afterwards.
+-- A worker took jobs and counted as many in its tally, w and t being the worker and its taker before, and v and u
+-- afterwards.
 pub record HasWorked {W H : Type 0} (w : Worker W H) (t : Taker) (v : Worker W H) (u : Taker) : Type 0 where
   pub queue : u.queue ≡ t.queue
   pub popped : u.hand ≡ hand t.hand.gives t.hand.pushed t.hand.opened t.hand.parts u.hand.popped
@@ -27,7 +28,7 @@ pub record HasServed {W H : Type 0} (count : H → ℕ) (p q : Post W H) : Type 
   pub halted : HasRisen (count p.worker.halt) (count q.worker.halt)
   pub worked : HasWorked p.worker p.taker q.worker q.taker
 
--- a worker of a queue, in whose tally is each job that its taker took
+-- a worker of a queue, whose tally counts as many jobs as its taker took
 pub record IsManned {W H : Type 0} (queue : TableId) (p : Post W H) : Type 0 where
   pub queue_is : p.taker.queue ≡ queue
   pub popped : p.taker.hand ≡ hand false [] 0 1 p.taker.hand.popped
@@ -38,6 +39,11 @@ pub record IsManned {W H : Type 0} (queue : TableId) (p : Post W H) : Type 0 whe
 abbrev pub all_tallies : {W H : Type 0} → List (Post W H) → Counts
 all_tallies [] = no_jobs
 all_tallies (p ∷ posts) = added p.worker.tally (all_tallies posts)
+
+-- the workers at some posts, the last post's first
+abbrev pub workers_at : {W H : Type 0} → List (Post W H) → List (Worker W H)
+workers_at [] = []
+workers_at (p ∷ posts) = workers_at posts ++ p.worker ∷ []
 
 -- a team of workers: their queue, where there is a worker, and their posts
 pub record Team (W H : Type 0) : Type 0 where

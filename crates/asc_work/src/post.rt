@@ -2,7 +2,7 @@ ghost use Rattle.std.specs.Prelude.{◌≡◌, ◌+◌, ◌<◌, ◌≤◌, ◌^
 ghost use Rattle.asc_jobs.specs.Jobs.{HasAllParts, new_taker};
 ghost use Rattle.asc_jobs.specs.Tally.{counts_of, no_jobs};
 ghost use Rattle.atomic_table.specs.Seated.{TableId};
-ghost use Rattle.asc_work.specs.Posts.{HasServed, IsManned, all_tallies};
+ghost use Rattle.asc_work.specs.Posts.{HasServed, IsManned, all_tallies, workers_at};
 
 use crate::{Worker, work_loop};
 use asc_cache::Insert;
@@ -31,7 +31,7 @@ pub struct TakenIn {
 }
 
 impl<W: Insert + Drop, H: Halt + Drop> Post<W, H> {
-    // Takes jobs and runs them, until its halt says to stop.
+    /// Takes jobs and runs them, until its halt says to stop.
     pub(crate) fn work<R: Wait, G: Gate>(&mut self, rt: &R, gate: &G)
         requires { self.old.worker.tally.ran ≤ 2 ^ 57 }
         ensures { HasServed H.count self.old self.new }
@@ -51,6 +51,7 @@ pub(crate) fn man<W: Insert + Drop, H: Halt + Drop>(
     ensures manned { IfOk result (λ r. (queue : TableId) → All (λ t. t ≡ new_taker queue) takers.items
         → All (λ w. w.tally ≡ no_jobs) workers.items → All (IsManned queue) r.0.items) }
     ensures wakers { IfOk result (λ r. length r.1.items ≡ length workers.items) }
+    ensures workers { IfOk result (λ r. workers_at r.0.items ≡ workers.items) }
 {
     let mut posts = Vec::with_capacity(alloc, workers.len())?;
     let mut wakers = Vec::with_capacity(alloc, workers.len())?;

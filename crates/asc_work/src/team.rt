@@ -1,7 +1,7 @@
 ghost use Rattle.std.specs.Prelude.{◌≡◌, ℕ, ◌+◌, ◌<◌, ◌≤◌, Some, All, IfOk, length, slice_index_or};
 ghost use Rattle.asc_jobs.specs.Jobs.{new_taker};
 ghost use Rattle.asc_jobs.specs.Tally.{counts_of, no_jobs};
-ghost use Rattle.asc_work.specs.Posts.{HasServed, all_tallies};
+ghost use Rattle.asc_work.specs.Posts.{HasServed, all_tallies, workers_at};
 ghost use Rattle.asc_work.specs.declared.post.Post.{Post};
 
 use crate::Worker;
@@ -49,6 +49,7 @@ impl<W: Insert + Drop, H: Halt + Drop> Team<W, H> {
         ensures queue { IfOk result (λ r. r.0.queue ≡ Some _giver.now.queue) }
         ensures posts { IfOk result (λ r. length r.0.posts ≡ length workers.items) }
         ensures wakers { IfOk result (λ r. length r.1.items ≡ length workers.items) }
+        ensures workers { IfOk result (λ r. workers_at r.0.posts ≡ workers.items) }
     {
         let (posts, wakers) = man(alloc, workers, takers)?;
         Ok((Team { posts }, wakers))

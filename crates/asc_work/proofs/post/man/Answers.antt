@@ -1,6 +1,6 @@
-use Rattle.std.proofs.Common.{◌≡◌, [], ◌∷◌, ◌++◌, arith}
+use Rattle.std.proofs.Common.{◌≡◌, [], ◌∷◌, ◌++◌, ◌∙◌, arith}
 use Rattle.asc_work.specs.declared.post.Post.{Post}
-use Rattle.asc_work.proofs.Posts.{is_popped, one_less, man_round, man_counts}
+use Rattle.asc_work.proofs.Posts.{is_popped, one_less, man_round, man_counts, moved}
 use Rattle.asc_work.proofs.post.man.Goals as goal
 
 pub loop-worker-preserved : goal.loop-worker-preserved
@@ -19,6 +19,7 @@ loop-worker-preserved g c =
       omega (arith, counts.1, inv.1),
       omega (arith, counts.2, inv.2, waked),
       λ queue a b. man_round takers rest_takers workers rest_workers posts more p e f pushed queue (inv.3 queue a b),
+      inv.4 ∙ moved workers rest_workers posts more p f pushed,
     )
 
 pub returns-clause-manned : goal.returns-clause-manned
