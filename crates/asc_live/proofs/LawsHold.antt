@@ -5,7 +5,7 @@ use Rattle.asc_live.specs.Laws.{GuessesAreCounted}
 
 -- all guesses that are due were made or found no room
 pub guesses_are_counted : GuessesAreCounted
-guesses_are_counted guessing visits first last new all none =
+guesses_are_counted guessing queue visits first last new all none =
     let refused = ap (λ (p : Plan). p.refused) new in
     let made = ap (λ (p : Plan). p.made) new in
     let full = ap (λ (p : Plan). p.full) new in

@@ -3,3 +3,4 @@ pub mod Pushing
 pub mod Tasks
 pub mod Seeing
 pub mod LawsHold
+pub mod Crews

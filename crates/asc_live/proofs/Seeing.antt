@@ -5,6 +5,7 @@ use Rattle.std.proofs.lemmas.Bool.{le-ltb, lt-ltb}
 use Rattle.std.proofs.lemmas.Bool.Decides.{eqb_tells}
 use Rattle.asc_model.specs.State.{State}
 use Rattle.asc_outside.specs.Outside.{one_more}
+use Rattle.asc_jobs.specs.Jobs.{Giver}
 use Rattle.asc_traj.specs.declared.guessing.Guessing.{Guessing}
 use Rattle.asc_traj.specs.Finder.{Seen}
 use Rattle.asc_run.specs.Helped.{Plans}
@@ -12,7 +13,7 @@ use Rattle.asc_run.specs.Serial.{kinds_of, tasks_of}
 use Rattle.asc_run.specs.Seen.{Sees, seen, newly_guessed, guesses_at}
 use Rattle.asc_run.proofs.Seeings.{newly-later, guesses_until-more}
 use Rattle.asc_live.specs.Due.{Due, Pusher, Pushes, jobs_of, raised}
-use Rattle.asc_live.specs.Live.{Live, IsLive, HasSeen, Visits, plan_of, due_by, issued_by, seen_after}
+use Rattle.asc_live.specs.Live.{Live, IsLive, HasSeen, Visits, queue_of, plan_of, due_by, issued_by, seen_after}
 use Rattle.asc_live.proofs.Pushing.{Pushes-few, pushed-length}
 use Rattle.asc_live.proofs.Tasks.{kinds-few, twice, visit-length}
 
@@ -216,8 +217,9 @@ visit-plans number now old new q (inl v) =
       full = grown.1.0;
       few = (let x = grown.1.1 in omega (arith, x, few));
       refused = subst (λ n. old.pusher.refused ≤ n) (sym v.pushes.refused) (raised-grows old.pusher.refused v.pushes.left_out);
+      queue = ap (λ (giver : Giver). Some (queue_of giver)) v.pushes.giver;
     }
-visit-plans number now old new q (inr v) = subst (λ l. Plans 1 (plan_of old) (plan_of l)) (sym v) (record { made = omega arith; full = omega arith; few = omega arith; refused = omega arith })
+visit-plans number now old new q (inr v) = subst (λ l. Plans 1 (plan_of old) (plan_of l)) (sym v) (record { made = omega arith; full = omega arith; few = omega arith; refused = omega arith; queue = refl })
 
 -- it is told of, where the one before was
 pub visit-sees : {F : Type 0} (number : ℕ) (now : State) (old new : Live F) → IsLive old → Visits number now old new → Sees number (plan_of old) (plan_of new)

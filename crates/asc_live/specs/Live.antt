@@ -6,7 +6,7 @@ use Rattle.asc_model.specs.State.{State}
 use Rattle.asc_outside.specs.Outside.{one_more}
 use Rattle.asc_jobs.specs.Jobs.{Giver}
 use Rattle.asc_traj.specs.declared.guessing.Guessing.{Guessing}
-use Rattle.asc_traj.specs.Finder.{Plan}
+use Rattle.asc_traj.specs.Finder.{Plan, Queue}
 use Rattle.asc_run.specs.Serial.{tasks_of}
 use Rattle.asc_run.specs.Seen.{seen, guesses_until}
 use Rattle.asc_live.specs.Due.{Due, Pusher, Pushes, jobs_of}
@@ -54,6 +54,10 @@ new_live finder giver guessing = record {
   seen = Some 0;
 }
 
+-- the queue of a giver, as a finder tells it
+abbrev pub queue_of : Giver → Queue
+queue_of giver = record { table = giver.queue; parts = giver.opened }
+
 -- what was made for it, as a finder tells it: a guess is made where its job is pushed
 abbrev pub plan_of : {F : Type 0} → Live F → Plan
 plan_of l = record {
@@ -61,6 +65,7 @@ plan_of l = record {
   refused = l.pusher.refused;
   full = l.pusher.full;
   seen = elim l.seen [ Some number ↦ Some (seen number l.guessing) | None ↦ None ];
+  queue = Some (queue_of l.pusher.giver);
 }
 
 -- The jobs that are due at a visit, by the states of the visit before and of this one. There are none where the former is

@@ -1,11 +1,15 @@
-//! The helper of a walk that has workers beside it: it pushes jobs for them at each visit.
+//! Walks that have workers beside them, and the helper of such a walk, which pushes jobs at each visit.
 #![tactic(auto)]
 
+mod crew;
+#[cfg(test)]
+mod crew_tests;
 mod laws;
 mod live;
 mod pusher;
 #[cfg(test)]
 mod tests;
 
+pub use crew::{Crew, Worked, go_beside};
 pub use laws::guesses_are_counted;
 pub use live::Live;

@@ -4,7 +4,7 @@ ghost use Rattle.asc_traj.specs.Serial.{Serial, serial_reply};
 ghost use Rattle.asc_run.specs.Helped.{aid, Plans, VisitsMachine};
 ghost use Rattle.asc_run.specs.Seen.{Sees};
 ghost use Rattle.asc_live.specs.Laws.{new_plan};
-ghost use Rattle.asc_live.specs.Live.{new_live, plan_of, refused_visit, due_by, issued_by, seen_after as seen_by, Visits};
+ghost use Rattle.asc_live.specs.Live.{new_live, queue_of, plan_of, refused_visit, due_by, issued_by, seen_after as seen_by, Visits};
 ghost use Rattle.asc_live.specs.Due.{Pushes};
 
 use crate::pusher::Pusher;
@@ -65,7 +65,7 @@ impl<'a, F, G, R> Live<'a, F, G, R> {
         requires least { 1 ≤ guessing.ahead }
         requires most { guessing.ahead ≤ 64 }
         ensures live { result ≡ new_live finder giver guessing }
-        ensures plan { plan_of result ≡ new_plan guessing }
+        ensures plan { plan_of result ≡ new_plan guessing (Some (queue_of giver)) }
     {
         Live {
             alloc,

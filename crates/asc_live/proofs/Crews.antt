@@ -1,0 +1,84 @@
+-- What a walk beside workers comes to.
+use Rattle.std.proofs.Common.{◌≡◌, ℕ, ◌+◌, ◌<◌, List, [], All, get_or, subst, Option, Some, None, sym, ap, ◌∙◌, arith, length}
+use Rattle.asc_traj.specs.declared.guessing.Guessing.{Guessing}
+use Rattle.asc_traj.specs.Finder.{Plan, Queue}
+use Rattle.asc_jobs.specs.Jobs.{Giver}
+use Rattle.asc_calls.specs.World.{Outside}
+use Rattle.asc_run.specs.declared.walk.Ended.{Ended}
+use Rattle.asc_run.specs.Helped.{Aid, aid}
+use Rattle.asc_run.specs.Walk.{Walk, tally}
+use Rattle.asc_cache.specs.Cache.{AreOpened, IsOwnReader, ShardReader, ShardReaders, ShardWriter}
+use Rattle.asc_live.specs.Laws.{new_plan}
+use Rattle.asc_live.specs.Live.{Live, new_live, queue_of, plan_of}
+use Rattle.asc_live.specs.Crew.{WentBeside, Walks}
+use Rattle.asc_live.specs.declared.crew.Worked.{Worked}
+use Rattle.asc_live.proofs.LawsHold.{guesses_are_counted}
+
+-- what a helper over the readers of a cache tells
+abbrev pub aid_of : Live ShardReaders → Aid
+aid_of l = aid l.finder.tally None (plan_of l) None
+
+-- ---- the queue of a giver
+
+same_queue : (a b : Queue) → Some a ≡ Some b → a ≡ b
+same_queue a b e = ap (λ (q : Option Queue). elim q [ Some q ↦ q | None ↦ a ]) e
+
+-- a walk leaves its helper the queue of which the giver was handed to it
+pub kept_giver : (readers : ShardReaders) (giver : Giver) (guessing : Guessing) (was now : Walk) (old new : Outside) (l k : Live ShardReaders) (ended : Ended) (left : Giver)
+    → l ≡ new_live readers giver guessing → Walks was now old new (aid_of l) (aid_of k) ended → left ≡ k.pusher.giver → (left.queue ≡ giver.queue) × (left.opened ≡ giver.opened)
+kept_giver readers giver guessing was now old new l k ended left is walks end =
+    let same : queue_of left ≡ queue_of giver =
+    ap queue_of end ∙ same_queue (queue_of k.pusher.giver) (queue_of l.pusher.giver) walks.goes.goes.helped.plans.queue
+    ∙ ap (λ (l : Live ShardReaders). queue_of l.pusher.giver) is in
+    (ap (λ (q : Queue). q.table) same, ap (λ (q : Queue). q.parts) same)
+
+-- ---- a walk
+
+-- what is known of the walk is known of the crew's work
+pub went : (guessing : Guessing) (was now : Walk) (old new : Outside) (readers : ShardReaders) (giver : Giver) (l k : Live ShardReaders) (worked : Worked)
+    → l ≡ new_live readers giver guessing → giver.pushed ≡ [] → readers.tally ≡ tally 0 0 0
+    → Walks was now old new (aid_of l) (aid_of k) worked.ended
+    → worked.made ≡ length k.pusher.giver.pushed → worked.refused ≡ k.pusher.refused → worked.full ≡ k.pusher.full
+    → length k.pusher.giver.pushed ≡ worked.taken.tally.ran + worked.taken.left → WentBeside guessing was now old new worked
+went guessing was now old new readers giver l k worked is none told walks made refused full jobs =
+    let made_none : length l.pusher.giver.pushed ≡ 0 = ap (λ (l : Live ShardReaders). length l.pusher.giver.pushed) is ∙ ap length none in
+    let plan : plan_of l ≡ new_plan guessing (Some (queue_of giver)) = ap plan_of is ∙ ap (λ n. record { made = n; refused = 0; full = 0; seen = (plan_of (new_live readers giver guessing)).seen; queue = Some (queue_of giver) }) (ap length none) in
+    record {
+      first = aid_of l;
+      last = aid_of k;
+      goes = walks.goes;
+      fresh = record {
+        tally_is = ap (λ (l : Live ShardReaders). l.finder.tally) is ∙ told;
+        made = made_none;
+        refused = ap (λ (p : Plan). p.refused) plan;
+        full = ap (λ (p : Plan). p.full) plan;
+        seen_is = ap (λ (p : Plan). p.seen) plan;
+      };
+      raised = walks.raised;
+      limit = walks.limit;
+      faults = walks.faults;
+      made = made;
+      refused = refused;
+      full = full;
+      jobs = made ∙ jobs;
+      guesses = λ h. let sum = guesses_are_counted guessing (Some (queue_of giver)) now.tally.asked (plan_of l) (plan_of k) plan walks.goes.seen (sym refused ∙ h) in omega (arith, made, full, sum);
+    }
+
+-- the reader of a shard that was opened with others is its writer's own
+own_readers : (shards capacity : ℕ) (writers : List ShardWriter) (readers : List ShardReader) → AreOpened shards capacity writers readers
+    → All (λ w. IsOwnReader w readers) writers
+own_readers shards capacity writers readers o =
+    λ k d l.
+    let w = get_or writers k d in
+    let within : k < shards = omega (arith, l, o.writer_count) in
+    let none : ShardReader = record { shard = w.shard; capacity = 0; seen = [] } in
+    let index : w.index ≡ k = ap (λ (w : ShardWriter). w.index) (o.each k d none within).writer in record {
+      there = omega (arith, within, index, o.reader_count);
+      shard = λ e. ap (λ i. (get_or readers i e).shard) index ∙ ap (λ (r : ShardReader). r.shard) (o.each k d e within).reader;
+    }
+
+pub own_readers_of : {ws : List ShardWriter} {rs : ShardReaders} (shards capacity : ℕ) (writers : List ShardWriter) (readers : ShardReaders)
+    → writers ≡ ws → readers ≡ rs → AreOpened shards capacity ws rs.readers → All (λ w. IsOwnReader w readers.readers) writers
+own_readers_of {ws = ws} {rs = rs} shards capacity writers readers e f o =
+    own_readers shards capacity writers readers.readers (subst (λ ws. AreOpened shards capacity ws readers.readers) (sym e)
+    (subst (λ (r : ShardReaders). AreOpened shards capacity ws r.readers) (sym f) o))

@@ -1,0 +1,20 @@
+use Rattle.std.proofs.Common.{◌≡◌, ◌+◌, List, All, length}
+use Rattle.atomic_table.specs.Seated.{TableId}
+use Rattle.asc_cache.specs.Cache.{ShardReader, IsOwnReader}
+use Rattle.asc_jobs.specs.Tally.{no_jobs}
+use Rattle.asc_live.specs.Crew.{HasBoundsOf}
+use Rattle.asc_live.proofs.crew.workers_of.Given as goal
+
+abbrev pub invariant-loop-writer : goal.invariant-loop-writer
+invariant-loop-writer g l =
+    (length l.writers.items ≡ length l.flags.items)
+    × (length l.workers.items + length l.writers.items ≡ length l.initial.writers.items)
+    × All (λ w. w.tally ≡ no_jobs) l.workers.items
+    × All (HasBoundsOf l.initial.shape l.initial.guessing) l.workers.items
+    × ((word : TableId) → All (λ f. f.word ≡ word) l.initial.flags.items
+    → All (λ f. f.word ≡ word) l.flags.items × All (λ w. w.halt.word ≡ word) l.workers.items)
+    × ((readers : List ShardReader) → All (λ w. IsOwnReader w readers) l.initial.writers.items
+    → All (λ w. IsOwnReader w readers) l.writers.items × All (λ w. IsOwnReader w.writer readers) l.workers.items)
+
+abbrev pub decreases-loop-writer : goal.decreases-loop-writer
+decreases-loop-writer g l = length l.writers.items

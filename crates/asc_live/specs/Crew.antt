@@ -1,0 +1,75 @@
+-- A walk with workers beside it.
+use Rattle.std.specs.Prelude.{◌≡◌, ◌+◌, ◌≤◌, [], false, length, All, Some}
+use Rattle.asc_model.specs.Shape.{Shape}
+use Rattle.asc_traj.specs.declared.guessing.Guessing.{Guessing}
+use Rattle.asc_calls.specs.World.{Outside, BlamesOnly}
+use Rattle.asc_cache.specs.Cache.{IsOwnReader}
+use Rattle.asc_run.specs.declared.walk.Ended.{Ended}
+use Rattle.asc_run.specs.Execution.{device_of}
+use Rattle.asc_run.specs.Helped.{Aid}
+use Rattle.asc_run.specs.Seen.{seen, guesses_until}
+use Rattle.asc_run.specs.Walk.{Walk, GoesFirst, IsRaisedBy, tally}
+use Rattle.asc_work.specs.Worker.{Worker}
+use Rattle.asc_live.specs.declared.crew.Crew.{Crew}
+use Rattle.asc_live.specs.declared.crew.Ready.{Ready}
+use Rattle.asc_live.specs.declared.crew.Worked.{Worked}
+
+-- what a helper tells that was not asked yet, and for which nothing was made yet
+pub record IsNewAid (guessing : Guessing) (a : Aid) : Type 0 where
+  pub tally_is : a.tally ≡ tally 0 0 0
+  pub made : a.plan.made ≡ 0
+  pub refused : a.plan.refused ≡ 0
+  pub full : a.plan.full ≡ 0
+  pub seen_is : a.plan.seen ≡ Some (seen 0 guessing)
+
+-- A walk that had not ended went to its end with a helper that came from first to last. Each job that was pushed is counted
+-- as run or as left.
+pub record WentBeside (guessing : Guessing) (was now : Walk) (old new : Outside) (worked : Worked) : Type 0 where
+  pub first : Aid
+  pub last : Aid
+  pub goes : GoesFirst was now old new first last worked.ended
+  pub fresh : IsNewAid guessing first
+  pub raised : IsRaisedBy now.tally first.tally last.tally
+  pub limit : now.count ≤ was.settings.limit
+  pub faults : BlamesOnly (device_of worked.ended) old.faults new.faults
+  -- its numbers are those of the helper
+  pub made : worked.made ≡ last.plan.made
+  pub refused : worked.refused ≡ last.plan.refused
+  pub full : worked.full ≡ last.plan.full
+  -- each job that was pushed was run, or left
+  pub jobs : worked.made ≡ worked.taken.tally.ran + worked.taken.left
+  -- where memory was not wanting, each guess that was due was pushed or found no room
+  pub guesses : worked.refused ≡ 0 → worked.made + worked.full ≡ guesses_until guessing now.tally.asked
+
+-- ---- words of private contracts
+
+-- a walk that had not ended went to its end with a helper
+pub record Walks (was now : Walk) (old new : Outside) (first last : Aid) (ended : Ended) : Type 0 where
+  pub goes : GoesFirst was now old new first last ended
+  pub raised : IsRaisedBy now.tally first.tally last.tally
+  pub limit : now.count ≤ was.settings.limit
+  pub faults : BlamesOnly (device_of ended) old.faults new.faults
+
+-- the bounds of a worker's traces, as a crew is asked for
+abbrev pub HasBoundsOf : {W H : Type 0} → Shape → Guessing → Worker W H → Type 0
+HasBoundsOf shape guessing w = (w.shape ≡ shape) × (w.laps ≡ guessing.laps) × (w.span ≡ guessing.span)
+
+-- a crew is as it was asked for, with all that stops its workers and wakes them
+pub record IsAsAsked {R : Type 0} (shape : Shape) (guessing : Guessing) (crew : Crew) (r : Ready R) : Type 0 where
+  pub workers : length r.team.posts ≡ crew.workers
+  pub bounds : All (λ p. HasBoundsOf shape guessing p.worker) r.team.posts
+  pub capacity : r.giver.capacity ≡ crew.queue
+  pub shards : length r.readers.readers ≡ crew.workers
+  pub writers : All (λ p. IsOwnReader p.worker.writer r.readers.readers) r.team.posts
+  pub running : r.halter.halted ≡ false
+  pub flags : All (λ p. p.worker.halt.word ≡ r.halter.word) r.team.posts
+  pub visit_wakers : length r.visit_wakers.items ≡ crew.workers
+  pub end_wakers : length r.end_wakers.items ≡ crew.workers
+
+-- a crew of which no job was asked: the team of a queue, and the readers of a cache
+pub record IsReady {R : Type 0} (r : Ready R) : Type 0 where
+  pub queue : r.team.queue ≡ Some r.giver.queue
+  -- the giver and each worker's taker are all the parts of the queue
+  pub parts : r.giver.opened ≡ length r.team.posts + 1
+  pub none_pushed : r.giver.pushed ≡ []
+  pub none_asked : r.readers.tally ≡ tally 0 0 0

@@ -1,0 +1,324 @@
+ghost use Rattle.std.specs.Prelude.{◌≡◌, ◌≤◌, ◌^◌, List, length, All, IfOk, OnErr, IsNone, true};
+ghost use Rattle.asc_calls.specs.World.{faults, outside};
+ghost use Rattle.asc_cache.specs.Cache.{ShardReader, IsOwnReader};
+ghost use Rattle.asc_jobs.specs.Tally.{no_jobs};
+ghost use Rattle.asc_run.specs.Helped.{aid, HasRoom};
+ghost use Rattle.asc_live.specs.Crew.{HasBoundsOf, WentBeside, IsAsAsked, IsReady, Walks};
+ghost use Rattle.atomic_table.specs.Seated.{TableId};
+
+use crate::Live;
+use asc_cache::{Cache, ShardReaders, ShardWriter};
+use asc_jobs::{Giver, Jobs};
+use asc_outside::{Gate, Point};
+use asc_run::{Ended, Helper, Walk};
+use asc_shape::{Memory, Shape, Sink, Source, Steps};
+use asc_traj::{Flag, Guessing, Halter};
+use asc_work::{TakenIn, Team, Worker};
+use crossbeam_utils::sync::Unparker;
+use std::alloc::Global;
+use std::sync::Wait;
+use std::sync::ledger::Ledger;
+use std::thread::Threads;
+
+/// How many entries each worker's shard may hold.
+const SHARD_CAPACITY: usize = 1024;
+
+/// How many workers run beside a walk, and how many jobs are kept for them.
+#[derive(Clone, Copy, Debug, PartialEq, Eq)]
+pub struct Crew {
+    /// How many workers: 1 to 64.
+    pub workers: usize,
+    /// How many jobs the queue holds: 1 to 1,024.
+    pub queue: usize,
+}
+
+/// How a walk with workers beside it ended, and what became of its guesses.
+#[derive(Clone, Copy, Debug, PartialEq, Eq)]
+pub struct Worked {
+    /// How the walk ended.
+    pub ended: Ended,
+    /// How many jobs were pushed.
+    pub made: u64,
+    /// How often memory was wanting for a job.
+    pub refused: u64,
+    /// How many jobs found no room.
+    pub full: u64,
+    /// What became of the jobs that were pushed.
+    pub taken: TakenIn,
+}
+
+// A crew before its walk begins. Some of its wakers are for visits, and the others for the walk's end.
+#[derive(Drop)]
+struct Ready<R: Wait + Drop> {
+    halter: Halter,
+    giver: Giver,
+    readers: ShardReaders<R>,
+    team: Team<ShardWriter<R>, Flag>,
+    visit_wakers: Vec<Unparker>,
+    end_wakers: Vec<Unparker>,
+}
+
+/// Runs a walk to its end beside workers, and takes these in. The gate is passed at `Ended` once the walk has ended,
+/// before the workers are stopped; its ticket is how many jobs were pushed.
+///
+/// All memory that the crew needs is taken before the first step. Later on, only states that are kept, and entries, take
+/// any: where it is wanting for these, a guess is given up.
+pub fn go_beside<
+    R: Threads + Wait + Sync + Copy + Drop + Send,
+    G: Gate + Sync,
+    I: Source,
+    O: Sink,
+    E: Sink,
+    L: Ledger,
+>(
+    rt: &R,
+    alloc: Global,
+    walk: &mut Walk,
+    shape: Shape,
+    guessing: Guessing,
+    crew: Crew,
+    gate: &G,
+    input: &mut I,
+    out: &mut O,
+    err: &mut E,
+    steps: &mut Steps<L>,
+) -> Result<Worked, Memory>
+    requires new { IsNone walk.old.ended }
+    requires workers { (1 ≤ crew.workers) × (crew.workers ≤ 64) }
+    requires queue { (1 ≤ crew.queue) × (crew.queue ≤ 1024) }
+    requires ahead { (1 ≤ guessing.ahead) × (guessing.ahead ≤ 64) }
+    requires laps { 1 ≤ guessing.laps }
+    requires span { 1 ≤ guessing.span }
+    ensures went { IfOk result (λ worked. WentBeside guessing walk.old walk.new
+        (outside (I.left input.old) (O.given out.old) (E.given err.old) steps.old
+        (faults (I.faults input.old) (O.faults out.old) (E.faults err.old)))
+        (outside (I.left input.new) (O.given out.new) (E.given err.new) steps.new
+        (faults (I.faults input.new) (O.faults out.new) (E.faults err.new))) worked) }
+
+    // Where memory was wanting for the crew, nothing was done.
+    ensures memory { OnErr result ((walk.new ≡ walk.old) × (input.new ≡ input.old) × (out.new ≡ out.old)
+        × (err.new ≡ err.old) × (steps.new ≡ steps.old)) }
+{
+    let ready = open_crew(alloc, *rt, shape, guessing, crew)?;
+    Ok(go_with(
+        rt, alloc, walk, guessing, ready, gate, input, out, err, steps,
+    ))
+}
+
+// Opens all that a crew needs.
+fn open_crew<R: Wait + Copy + Drop>(
+    alloc: Global,
+    rt: R,
+    shape: Shape,
+    guessing: Guessing,
+    crew: Crew,
+) -> Result<Ready<R>, Memory>
+    requires workers { (1 ≤ crew.workers) × (crew.workers ≤ 64) }
+    requires queue { (1 ≤ crew.queue) × (crew.queue ≤ 1024) }
+    requires laps { 1 ≤ guessing.laps }
+    requires span { 1 ≤ guessing.span }
+    ensures ready { IfOk result (λ ready. IsReady ready) }
+    ensures asked { IfOk result (λ ready. IsAsAsked shape guessing crew ready) }
+{
+    let (halter, flags) = Halter::open(alloc, crew.workers)?;
+    let (giver, takers) = Jobs::open(alloc, crew.queue, crew.workers)?;
+    let (writers, readers) = Cache::open(alloc, rt, crew.workers, SHARD_CAPACITY)?.split();
+    let workers = workers_of(alloc, shape, guessing, writers, flags)?;
+    let (team, visit_wakers) = Team::new(alloc, &giver, workers, takers)?;
+    let end_wakers = wakers_again(alloc, &visit_wakers)?;
+    Ok(Ready {
+        halter,
+        giver,
+        readers,
+        team,
+        visit_wakers,
+        end_wakers,
+    })
+}
+
+// A worker for each writer.
+fn workers_of<R: Wait + Drop>(
+    alloc: Global,
+    shape: Shape,
+    guessing: Guessing,
+    mut writers: Vec<ShardWriter<R>>,
+    mut flags: Vec<Flag>,
+) -> Result<Vec<Worker<ShardWriter<R>, Flag>>, Memory>
+    requires flags { length writers.items ≡ length flags.items }
+    requires laps { 1 ≤ guessing.laps }
+    requires span { 1 ≤ guessing.span }
+    ensures number { IfOk result (λ w. length w.items ≡ length writers.items) }
+    ensures each { IfOk result (λ w. All (λ w. w.tally ≡ no_jobs) w.items) }
+    ensures bounds { IfOk result (λ w. All (HasBoundsOf shape guessing) w.items) }
+    ensures flags { IfOk result (λ w. (word : TableId) → All (λ f. f.word ≡ word) flags.items
+        → All (λ w. w.halt.word ≡ word) w.items) }
+    ensures writers { IfOk result (λ w. (readers : List ShardReader) → All (λ w. IsOwnReader w readers) writers.items
+        → All (λ w. IsOwnReader w.writer readers) w.items) }
+{
+    let mut workers = Vec::with_capacity(alloc, writers.len())?;
+    while let Some(writer) = writers.pop() {
+        let Some(flag) = flags.pop() else {
+            unreachable!()
+        };
+        match Worker::new(alloc, shape, guessing.laps, guessing.span, writer, flag) {
+            Ok(worker) => workers.push(worker)?,
+            Err((memory, _writer, _flag)) => return Err(memory),
+        }
+    }
+    Ok(workers)
+}
+
+// Runs a walk to its end beside a crew, and takes that in.
+fn go_with<
+    R: Threads + Wait + Sync + Copy + Drop + Send,
+    G: Gate + Sync,
+    I: Source,
+    O: Sink,
+    E: Sink,
+    L: Ledger,
+>(
+    rt: &R,
+    alloc: Global,
+    walk: &mut Walk,
+    guessing: Guessing,
+    ready: Ready<R>,
+    gate: &G,
+    input: &mut I,
+    out: &mut O,
+    err: &mut E,
+    steps: &mut Steps<L>,
+) -> Worked
+    requires new { IsNone walk.old.ended }
+    requires ahead { (1 ≤ guessing.ahead) × (guessing.ahead ≤ 64) }
+    requires ready { IsReady ready }
+    ensures { WentBeside guessing walk.old walk.new
+        (outside (I.left input.old) (O.given out.old) (E.given err.old) steps.old
+        (faults (I.faults input.old) (O.faults out.old) (E.faults err.old)))
+        (outside (I.left input.new) (O.given out.new) (E.given err.new) steps.new
+        (faults (I.faults input.new) (O.faults out.new) (E.faults err.new))) result }
+{
+    let Ready {
+        mut halter,
+        giver,
+        readers,
+        mut team,
+        visit_wakers,
+        end_wakers,
+    } = ready;
+    let mut live = Live::new(alloc, rt, gate, readers, giver, visit_wakers, guessing);
+    let ended = go_served(
+        rt,
+        &mut team,
+        walk,
+        &mut live,
+        &mut halter,
+        &end_wakers,
+        gate,
+        input,
+        out,
+        err,
+        steps,
+    );
+    let (made, refused, full) = (live.made(), live.refused(), live.full());
+    let (_readers, giver) = live.into_parts();
+    let taken = team.take_in(rt, giver);
+    Worked {
+        ended,
+        made,
+        refused,
+        full,
+        taken,
+    }
+}
+
+// Runs a walk to its end beside workers.
+fn go_served<
+    R: Threads + Wait + Sync + Drop + Send,
+    H: Helper,
+    G: Gate + Sync,
+    I: Source,
+    O: Sink,
+    E: Sink,
+    L: Ledger,
+>(
+    rt: &R,
+    team: &mut Team<ShardWriter<R>, Flag>,
+    walk: &mut Walk,
+    helper: &mut H,
+    halter: &mut Halter,
+    wakers: &[Unparker],
+    gate: &G,
+    input: &mut I,
+    out: &mut O,
+    err: &mut E,
+    steps: &mut Steps<L>,
+) -> Ended
+    requires new { IsNone walk.old.ended }
+    requires room { HasRoom (2 ^ 61)
+        (aid (H.tally helper.old) (H.replies helper.old) (H.plan helper.old) (H.machine helper.old)) }
+    ensures walks { Walks walk.old walk.new
+        (outside (I.left input.old) (O.given out.old) (E.given err.old) steps.old
+        (faults (I.faults input.old) (O.faults out.old) (E.faults err.old)))
+        (outside (I.left input.new) (O.given out.new) (E.given err.new) steps.new
+        (faults (I.faults input.new) (O.faults out.new) (E.faults err.new)))
+        (aid (H.tally helper.old) (H.replies helper.old) (H.plan helper.old) (H.machine helper.old))
+        (aid (H.tally helper.new) (H.replies helper.new) (H.plan helper.new) (H.machine helper.new)) result }
+    ensures count { length team.new.posts ≡ length team.old.posts }
+    ensures queue { team.new.queue ≡ team.old.queue }
+    ensures halted { halter.new.halted ≡ true }
+{
+    team.beside(
+        rt,
+        gate,
+        &mut || { go_and_halt(walk, helper, halter, wakers, gate, input, out, err, steps) },
+    )
+}
+
+// Runs a walk to its end, passes the gate, and stops the workers.
+fn go_and_halt<H: Helper, G: Gate, I: Source, O: Sink, E: Sink, L: Ledger>(
+    walk: &mut Walk,
+    helper: &mut H,
+    halter: &mut Halter,
+    wakers: &[Unparker],
+    gate: &G,
+    input: &mut I,
+    out: &mut O,
+    err: &mut E,
+    steps: &mut Steps<L>,
+) -> Ended
+    requires new { IsNone walk.old.ended }
+    requires room { HasRoom (2 ^ 61)
+        (aid (H.tally helper.old) (H.replies helper.old) (H.plan helper.old) (H.machine helper.old)) }
+    ensures walks { Walks walk.old walk.new
+        (outside (I.left input.old) (O.given out.old) (E.given err.old) steps.old
+        (faults (I.faults input.old) (O.faults out.old) (E.faults err.old)))
+        (outside (I.left input.new) (O.given out.new) (E.given err.new) steps.new
+        (faults (I.faults input.new) (O.faults out.new) (E.faults err.new)))
+        (aid (H.tally helper.old) (H.replies helper.old) (H.plan helper.old) (H.machine helper.old))
+        (aid (H.tally helper.new) (H.replies helper.new) (H.plan helper.new) (H.machine helper.new)) result }
+    ensures halted { halter.new.halted ≡ true }
+{
+    let ended = walk.go(helper, input, out, err, steps);
+    gate.pass(Point::Ended, helper.made());
+    halter.halt();
+    wake(wakers);
+    ended
+}
+
+// Wakes all workers.
+fn wake(wakers: &[Unparker]) {
+    for waker in wakers {
+        waker.unpark();
+    }
+}
+
+// What wakes the same workers.
+fn wakers_again(alloc: Global, wakers: &[Unparker]) -> Result<Vec<Unparker>, Memory>
+    ensures { IfOk result (λ again. length again.items ≡ length wakers.now) }
+{
+    let mut again = Vec::with_capacity(alloc, wakers.len())?;
+    for waker in wakers {
+        again.push(waker.clone()?)?;
+    }
+    Ok(again)
+}
