@@ -18,18 +18,20 @@ use std::env;
 use std::io::ErrorKind;
 use std::marker::Brand;
 use std::process::ExitCode;
+use std::sync::Wait;
 use std::sync::ledger::{Blank, Ledger};
+use std::thread::Threads;
 
 fn main(rt: HostRuntime) -> ExitCode {
-    program(&rt)
+    program(&rt, &rt)
 }
 
-/// Runs the command line over the system, and gives the exit status.
-fn program(rt: &HostRuntime) -> ExitCode
+/// Runs the command line over the system, and gives the exit status. Its threads come from a handle of their own.
+fn program<T: Threads + Wait + Sync + Copy + Drop + Send>(rt: &HostRuntime, threads: &T) -> ExitCode
     ensures { (answer : Answer) × (exit_status result ≡ code_of answer) }
 {
     match words(rt) {
-        Ok(words) => run::<Brand>(rt, &words, Blank::new(1)),
+        Ok(words) => run::<_, Brand>(rt, threads, &words, Blank::new(1)),
         Err(refusal) => refuse(refusal, &mut StreamSink::new(rt.stderr())),
     }
 }
@@ -55,13 +57,19 @@ fn refuse<R: Sink>(refusal: Answer, report: &mut R) -> ExitCode
 }
 
 /// Runs the words over the system, and gives the exit status. The ledger is the one that counts the guest's steps.
-fn run<L: Ledger>(rt: &HostRuntime, words: &[String], blank: Blank) -> ExitCode
+fn run<T: Threads + Wait + Sync + Copy + Drop + Send, L: Ledger>(
+    rt: &HostRuntime,
+    threads: &T,
+    words: &[String],
+    blank: Blank,
+) -> ExitCode
     requires name { blank.name ≡ L.name }
     requires parts { blank.parts ≡ L.parts }
     requires some { 0 < L.parts }
     ensures { IsStatusOver (map string_bytes words.now) (exit_status result) }
 {
     status(
+        threads,
         rt.alloc(),
         words,
         &mut FileStore::new(rt),
@@ -75,7 +83,17 @@ fn run<L: Ledger>(rt: &HostRuntime, words: &[String], blank: Blank) -> ExitCode
 }
 
 /// Runs the words over an outside that is handed in, and gives the exit status.
-fn status<F: Store, I: Source, O: Sink, E: Sink, R: Sink, G: Gate, L: Ledger>(
+fn status<
+    T: Threads + Wait + Sync + Copy + Drop + Send,
+    F: Store,
+    I: Source,
+    O: Sink,
+    E: Sink,
+    R: Sink,
+    G: Gate + Sync,
+    L: Ledger,
+>(
+    rt: &T,
     alloc: Global,
     words: &[String],
     store: &mut F,
@@ -97,5 +115,8 @@ fn status<F: Store, I: Source, O: Sink, E: Sink, R: Sink, G: Gate, L: Ledger>(
         (report_with (R.given report.old) (R.faults report.old))
         (report_with (R.given report.new) (R.faults report.new)) (exit_status result) }
 {
-    ExitCode::from(top(alloc, words, store, input, out, err, report, gate, steps).code())
+    let answer = top(
+        rt, alloc, words, store, input, out, err, report, gate, steps,
+    );
+    ExitCode::from(answer.code())
 }

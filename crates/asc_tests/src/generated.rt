@@ -33,7 +33,7 @@ const TRIAL: &str = "trial 0: status 0, steps 3310, output 64\n\
 
 // A line, the calls of the store, the input, out, err and the report that fail, and what must come of it. The numbers
 // are worked out from the program: each word that it fills is a lap of 206 steps.
-static TRIALS: [(&str, [u64; 5], Want); 16] = [
+static TRIALS: [(&str, [u64; 5], Want); 17] = [
     ("asc trial 0", [0; 5], Want { out: TRIAL, ..DONE }),
     (
         "asc trial +00",
@@ -55,6 +55,15 @@ static TRIALS: [(&str, [u64; 5], Want); 16] = [
         Want {
             out: "trial 18446744073709551615: status 0, steps 49454, output 960\n\
                   executed 422, skipped 49032, asked 240, hits 238, made 240\n",
+            ..DONE
+        },
+    ),
+    // With workers the numbers depend on when they are done, and are not told.
+    (
+        "asc trial 0 --workers 2",
+        [0; 5],
+        Want {
+            out: "trial 0: status 0, steps 3310, output 64\n",
             ..DONE
         },
     ),

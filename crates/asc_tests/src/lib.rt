@@ -16,4 +16,8 @@ mod programs;
 #[cfg(test)]
 mod single_steps;
 #[cfg(test)]
+mod traces;
+#[cfg(test)]
 mod whole_runs;
+#[cfg(test)]
+mod workers;

@@ -2,19 +2,22 @@
 ghost use Rattle.std.specs.Prelude.{◌≤◌};
 
 use crate::images::{CODE, FIRST, HEADER, Patch, patched, put_word};
-use crate::outside::{QUIET, SOUND, Want, check};
+use crate::outside::{QUIET, SOUND, Want, check, check_guessed};
 use asc_elf::ElfFault;
 use asc_step::{Fault, FaultKind};
 use asc_top::Answer;
 use std::alloc::{AllocError, Global};
 use std::process::Abort;
+use std::sync::Wait;
 use std::test::Fail;
+use std::thread::Threads;
 
-/// Compares what `asc run image` answers and reports where the image is this file. Nothing is put to out or err.
-fn check_image<R: Abort>(
+/// Compares what `asc run image` answers and reports where the image is this file, also with guesses and workers. Nothing
+/// is put to out or err.
+fn check_image<R: Abort + Threads + Wait + Sync + Copy + Drop + Send>(
     rt: &R,
     alloc: Global,
-    file: Vec<u8>,
+    file: &[u8],
     answer: Answer,
     report: &'static str,
 ) -> Result<(), AllocError> {
@@ -23,7 +26,7 @@ fn check_image<R: Abort>(
         report,
         ..QUIET
     };
-    check(rt, alloc, "asc run image", file, &SOUND, &want)
+    check_guessed(rt, alloc, "asc run image", "", file, &SOUND, &want)
 }
 
 // Words over `FIRST`: e_phoff, e_phnum with e_phentsize, p_offset, p_offset without file bytes, p_vaddr and e_entry, the
@@ -100,7 +103,7 @@ static HOSTILE: [(&[Patch], Answer, &str); 7] = [
 fn hostile_images(rt: HostRuntime) -> Result<(), Fail> {
     let alloc = rt.alloc();
     for (patches, answer, report) in &HOSTILE {
-        check_image(&rt, alloc, patched(alloc, patches)?, *answer, report)?;
+        check_image(&rt, alloc, &patched(alloc, patches)?, *answer, report)?;
     }
     Ok(())
 }
@@ -124,7 +127,15 @@ fn last_addresses(rt: HostRuntime) -> Result<(), Fail> {
             report,
             ..QUIET
         };
-        check(&rt, alloc, line, patched(alloc, &moved)?, &SOUND, &want)?;
+        check_guessed(
+            &rt,
+            alloc,
+            line,
+            "",
+            &patched(alloc, &moved)?,
+            &SOUND,
+            &want,
+        )?;
     }
     Ok(())
 }
@@ -139,8 +150,7 @@ fn cut_images(rt: HostRuntime) -> Result<(), Fail> {
             52..84 => (ElfFault::Table, "asc: image fault 10\n"),
             _ => (ElfFault::Segment(0), "asc: image fault 12 header 0\n"),
         };
-        let file = FIRST[..length].to_vec(alloc)?;
-        check_image(&rt, alloc, file, Answer::Image(fault), report)?;
+        check_image(&rt, alloc, &FIRST[..length], Answer::Image(fault), report)?;
     }
     Ok(())
 }
@@ -158,7 +168,7 @@ fn overlapping_segments(rt: HostRuntime) -> Result<(), Fail> {
             put_header(&mut file, HEADER, 128, 0x10004, 4);
             put_header(&mut file, CODE, 116, 0x10000, 12);
         }
-        check_image(&rt, alloc, file, Answer::Exit(code), "")?;
+        check_image(&rt, alloc, &file, Answer::Exit(code), "")?;
     }
     Ok(())
 }
@@ -193,6 +203,11 @@ fn put_header(file: &mut Vec<u8>, at: usize, offset: u32, address: u32, size: u3
 fn too_long(rt: HostRuntime) -> Result<(), Fail> {
     let alloc = rt.alloc();
     let file = vec![in alloc; 0; 67_108_865]?;
-    check_image(&rt, alloc, file, Answer::TooLong, "asc: image too long\n")?;
+    let want = Want {
+        answer: Answer::TooLong,
+        report: "asc: image too long\n",
+        ..QUIET
+    };
+    check(&rt, alloc, "asc run image", file, &SOUND, &want)?;
     Ok(())
 }

@@ -1,12 +1,14 @@
 //! The program over an outside in memory, and what must come of it.
 ghost use Rattle.std.specs.Prelude.{◌≡◌, ◌<◌};
 
-use asc_shape::{ListSink, ListSource, ListStore, Open, Steps};
+use asc_shape::{Gate, ListSink, ListSource, ListStore, Open, Steps};
 use asc_top::{Answer, top};
 use std::alloc::{AllocError, Global};
 use std::marker::Brand;
 use std::process::Abort;
+use std::sync::Wait;
 use std::sync::ledger::{Blank, Ledger};
+use std::thread::Threads;
 
 /// What the input gives, how the devices move it, and which of their calls fail.
 #[derive(Clone, Copy)]
@@ -55,26 +57,38 @@ pub(crate) struct Got {
     store: ListStore,
     pub(crate) out: ListSink,
     err: ListSink,
-    report: ListSink,
+    pub(crate) report: ListSink,
 }
 
 /// Runs the words of a command line, with one space between two words, where the store has one file, `image`.
-pub(crate) fn run_line<R: Abort>(
+pub(crate) fn run_line<R: Abort + Threads + Wait + Sync + Copy + Drop + Send>(
     rt: &R,
     alloc: Global,
     line: &str,
     file: Vec<u8>,
     devices: &Devices,
 ) -> Result<Got, AllocError> {
+    run_gated(rt, alloc, line, file, devices, &Open)
+}
+
+/// The same with a gate, which may hold up the run and its workers.
+pub(crate) fn run_gated<R: Abort + Threads + Wait + Sync + Copy + Drop + Send, G: Gate + Sync>(
+    rt: &R,
+    alloc: Global,
+    line: &str,
+    file: Vec<u8>,
+    devices: &Devices,
+    gate: &G,
+) -> Result<Got, AllocError> {
     let mut words = Vec::new(alloc);
     for word in line.split(' ') {
         words.push(String::from_str(alloc, word)?)?;
     }
-    run_over::<Brand, _>(rt, alloc, &words, file, devices, Blank::new(1))
+    run_over::<Brand, _, _>(rt, alloc, &words, file, devices, gate, Blank::new(1))
 }
 
 /// Runs the words of a command line in the same way, and compares what came of them with what must.
-pub(crate) fn check<R: Abort>(
+pub(crate) fn check<R: Abort + Threads + Wait + Sync + Copy + Drop + Send>(
     rt: &R,
     alloc: Global,
     line: &str,
@@ -101,12 +115,53 @@ pub(crate) fn check<R: Abort>(
     Ok(())
 }
 
-fn run_over<L: Ledger, R: Abort>(
+/// What is added to the words of a line: guesses, with two workers and without any, and the numbers.
+static GUESSING: [&str; 3] = [
+    " --guess both --workers 2",
+    " --guess both --report",
+    " --guess both --workers 2 --report",
+];
+
+/// The same, and then once more with guesses, which change neither the answer nor what is put. An address may be added.
+/// Where the numbers are reported too, the report begins as it must; that is left out where the report fails.
+pub(crate) fn check_guessed<R: Abort + Threads + Wait + Sync + Copy + Drop + Send>(
+    rt: &R,
+    alloc: Global,
+    line: &str,
+    address: &str,
+    file: &[u8],
+    devices: &Devices,
+    want: &Want,
+) -> Result<(), AllocError> {
+    check(rt, alloc, line, file.to_vec(alloc)?, devices, want)?;
+    let is_sound = devices.fails[4] == 0;
+    for guessing in GUESSING {
+        let mut words = String::from_str(alloc, line)?;
+        words.push_str(address)?;
+        words.push_str(guessing)?;
+        if !words.contains("--report") {
+            check(rt, alloc, &words, file.to_vec(alloc)?, devices, want)?;
+        } else if is_sound {
+            let got = run_line(rt, alloc, &words, file.to_vec(alloc)?, devices)?;
+            let put = (got.out.bytes(), got.err.bytes());
+            let wanted = (want.out.as_bytes(), want.err.as_bytes());
+            assert_eq!(rt; (got.answer, put), (want.answer, wanted), "at {words}");
+            assert!(rt;
+                got.report.bytes().starts_with(want.report.as_bytes()),
+                "at {words}"
+            );
+        }
+    }
+    Ok(())
+}
+
+fn run_over<L: Ledger, R: Abort + Threads + Wait + Sync + Copy + Drop + Send, G: Gate + Sync>(
     rt: &R,
     alloc: Global,
     words: &[String],
     file: Vec<u8>,
     devices: &Devices,
+    gate: &G,
     blank: Blank,
 ) -> Result<Got, AllocError>
     requires name { blank.name ≡ L.name }
@@ -124,6 +179,7 @@ fn run_over<L: Ledger, R: Abort>(
     let mut err = sink(rt, alloc, devices.room, most, err_fails)?;
     let mut report = sink(rt, alloc, 512, most, report_fails)?;
     let answer = top(
+        rt,
         alloc,
         words,
         &mut store,
@@ -131,7 +187,7 @@ fn run_over<L: Ledger, R: Abort>(
         &mut out,
         &mut err,
         &mut report,
-        &Open,
+        gate,
         &mut Steps::<L>::new(blank),
     );
     Ok(Got {

@@ -1,13 +1,15 @@
 -- What answer an end of a run gives, and when its numbers are told.
-use Rattle.std.proofs.Common.{◌≡◌, ◌↔◌, ℕ, Bool, true, false, Option, Some, None, IsTrue, IsSome, IfSome, refl, subst, inl, inr}
+use Rattle.std.proofs.Common.{◌≡◌, ◌↔◌, ◌<◌, ℕ, Bool, true, false, Option, Some, None, IsTrue, IsSome, IfSome, refl, subst, inl, inr}
 use Rattle.std.specs.Prelude.{if◌then◌else◌}
 use Rattle.asc_run.specs.declared.walk.Ended.{Ended}
 use Rattle.asc_run.specs.declared.walk.Ended.TheVariants as ends
 use Rattle.asc_run.specs.Execution.{device_of}
 use Rattle.asc_words.specs.declared.answer.Answer.{Answer}
 use Rattle.asc_words.specs.declared.answer.Counts.{Counts}
+use Rattle.asc_words.specs.declared.answer.WorkerCounts.{WorkerCounts}
+use Rattle.asc_words.specs.declared.line.RunLine.{RunLine}
 use Rattle.asc_top.specs.Program.{answer_at}
-use Rattle.asc_top.specs.Numbers.{reported_counts}
+use Rattle.asc_top.specs.Numbers.{reported_at, AreWorkerNumbers, WorkersAreTold, guessing_of}
 use Rattle.asc_top.specs.Kinds.{Kind, Finished, Stopped, IsRefusal, kind_of, device_of_answer}
 
 -- the device that a run's answer names
@@ -43,34 +45,34 @@ pub run-not_refused : (how : Ended) (count : ℕ) → IsRefusal (answer_at how c
 run-not_refused how count = not_refused (answer_at how count) (DidRun-answer_at how count)
 
 -- numbers are told of an answer at which the guest came to an end
-no_counts : Option Counts
-no_counts = None
+none_told : (A : Type 0) → Option A
+none_told A = None
 
-told_numbers : (k : Kind) (counts : Counts) → IsSome (Some counts) ↔ (IsTrue true × (k ≡ k))
-told_numbers k counts = ((λ _. (refl, refl)), (λ _. refl))
+told_numbers : {A : Type 0} (k : Kind) (told : A) → IsSome (Some told) ↔ (IsTrue true × (k ≡ k))
+told_numbers k told = ((λ _. (refl, refl)), (λ _. refl))
 
-no_numbers : (P : Type 0) → (P → ⊥) → IsSome no_counts ↔ P
-unfolding no_counts
-no_numbers P never = ((λ told. let no : false ≡ true = told in absurd (cc)), (λ p. absurd (never p)))
+no_numbers : (A P : Type 0) → (P → ⊥) → IsSome (none_told A) ↔ P
+unfolding none_told
+no_numbers A P never = ((λ told. let no : false ≡ true = told in absurd (cc)), (λ p. absurd (never p)))
 
-pub counts-told : (is_asked : Bool) (how : Ended) (count : ℕ) (counts : Counts)
-    → IsSome (reported_counts is_asked how counts) ↔ (IsTrue is_asked × (kind_of (answer_at how count) ≡ Finished))
-unfolding no_counts
-counts-told true (ends.Exit c) count counts = told_numbers Finished counts
-counts-told true (ends.Fault f) count counts = told_numbers Finished counts
-counts-told true ends.Limit count counts = told_numbers Finished counts
-counts-told true ends.ReadFault count counts = no_numbers _ (λ h. let no = h.1 in cc)
-counts-told true ends.WriteFault count counts = no_numbers _ (λ h. let no = h.1 in cc)
-counts-told true ends.ErrFault count counts = no_numbers _ (λ h. let no = h.1 in cc)
-counts-told false (ends.Exit c) count counts = no_numbers _ (λ h. let no = h.0 in cc)
-counts-told false (ends.Fault f) count counts = no_numbers _ (λ h. let no = h.0 in cc)
-counts-told false ends.Limit count counts = no_numbers _ (λ h. let no = h.0 in cc)
-counts-told false ends.ReadFault count counts = no_numbers _ (λ h. let no = h.0 in cc)
-counts-told false ends.WriteFault count counts = no_numbers _ (λ h. let no = h.0 in cc)
-counts-told false ends.ErrFault count counts = no_numbers _ (λ h. let no = h.0 in cc)
+pub counts-told : (A : Type 0) (is_asked : Bool) (how : Ended) (count : ℕ) (counts : A)
+    → IsSome (reported_at is_asked how counts) ↔ (IsTrue is_asked × (kind_of (answer_at how count) ≡ Finished))
+unfolding none_told
+counts-told A true (ends.Exit c) count counts = told_numbers Finished counts
+counts-told A true (ends.Fault f) count counts = told_numbers Finished counts
+counts-told A true ends.Limit count counts = told_numbers Finished counts
+counts-told A true ends.ReadFault count counts = no_numbers A _ (λ h. let no = h.1 in cc)
+counts-told A true ends.WriteFault count counts = no_numbers A _ (λ h. let no = h.1 in cc)
+counts-told A true ends.ErrFault count counts = no_numbers A _ (λ h. let no = h.1 in cc)
+counts-told A false (ends.Exit c) count counts = no_numbers A _ (λ h. let no = h.0 in cc)
+counts-told A false (ends.Fault f) count counts = no_numbers A _ (λ h. let no = h.0 in cc)
+counts-told A false ends.Limit count counts = no_numbers A _ (λ h. let no = h.0 in cc)
+counts-told A false ends.ReadFault count counts = no_numbers A _ (λ h. let no = h.0 in cc)
+counts-told A false ends.WriteFault count counts = no_numbers A _ (λ h. let no = h.0 in cc)
+counts-told A false ends.ErrFault count counts = no_numbers A _ (λ h. let no = h.0 in cc)
 
 -- a property of the numbers that are told
-pub told_have : (P : Counts → Type 0) (is_asked : Bool) (how : Ended) (counts : Counts) → P counts → IfSome (reported_counts is_asked how counts) P
+pub told_have : {A : Type 0} (P : A → Type 0) (is_asked : Bool) (how : Ended) (counts : A) → P counts → IfSome (reported_at is_asked how counts) P
 told_have P true (ends.Exit c) counts have = have
 told_have P true (ends.Fault f) counts have = have
 told_have P true ends.Limit counts have = have
@@ -85,10 +87,31 @@ told_have P false ends.WriteFault counts have = tt
 told_have P false ends.ErrFault counts have = tt
 
 -- where no device failed, all numbers are told that are asked for
-pub all_told : (is_asked : Bool) (how : Ended) (counts : Counts) → device_of how ≡ None → reported_counts is_asked how counts ≡ (if is_asked then Some counts else None)
+pub all_told : {A : Type 0} (is_asked : Bool) (how : Ended) (counts : A) → device_of how ≡ None → reported_at is_asked how counts ≡ (if is_asked then Some counts else None)
 all_told is_asked (ends.Exit c) counts going = refl
 all_told is_asked (ends.Fault f) counts going = refl
 all_told is_asked ends.Limit counts going = refl
 all_told is_asked ends.ReadFault counts going = absurd (cc)
 all_told is_asked ends.WriteFault counts going = absurd (cc)
 all_told is_asked ends.ErrFault counts going = absurd (cc)
+
+-- the numbers of workers are told beside those of their run
+pub workers-told : (line : RunLine) (how : Ended) (counts : Counts) (workers : WorkerCounts) → 0 < line.workers → AreWorkerNumbers (guessing_of line) counts workers
+    → (is_asked : Bool) → WorkersAreTold line (reported_at is_asked how counts) (reported_at is_asked how workers)
+workers-told line (ends.Exit c) counts workers some are true = (some, are)
+workers-told line (ends.Fault f) counts workers some are true = (some, are)
+workers-told line ends.Limit counts workers some are true = (some, are)
+workers-told line ends.ReadFault counts workers some are true = tt
+workers-told line ends.WriteFault counts workers some are true = tt
+workers-told line ends.ErrFault counts workers some are true = tt
+workers-told line (ends.Exit c) counts workers some are false = tt
+workers-told line (ends.Fault f) counts workers some are false = tt
+workers-told line ends.Limit counts workers some are false = tt
+workers-told line ends.ReadFault counts workers some are false = tt
+workers-told line ends.WriteFault counts workers some are false = tt
+workers-told line ends.ErrFault counts workers some are false = tt
+
+-- of a run without workers none are told
+pub no_workers-told : (line : RunLine) (counts : Option Counts) → line.workers ≡ 0 → WorkersAreTold line counts None
+no_workers-told line (Some counts) alone = alone
+no_workers-told line None alone = tt

@@ -4,6 +4,7 @@ pub mod Refused
 pub mod Outputs
 pub mod Unguessed
 pub mod Walks
+pub mod Beside
 pub mod Serials
 pub mod Runs
 pub mod Trials

@@ -1,6 +1,8 @@
 -- Files that are not run.
-use Rattle.std.proofs.Common.{◌≡◌, ◌∙◌, ℕ, ◌≤◌, ◌<◌, Option, Some, None, List, [], length, Err, true, false, refl, sym, ap, subst, arith}
+use Rattle.std.proofs.Common.{◌≡◌, ◌∙◌, ℕ, ◌≤◌, ◌<◌, Option, Some, None, List, [], length, Ok, Err, true, false, refl, sym, ap, subst, arith}
+use Rattle.asc_model.specs.Shape.{IsShape}
 use Rattle.asc_elf.specs.declared.fault.ElfFault.{ElfFault}
+use Rattle.asc_elf.specs.Image as loader
 use Rattle.asc_calls.specs.World.{Outside, Agrees}
 use Rattle.asc_run.proofs.Reach.{DoesIo-nothing}
 use Rattle.asc_words.specs.declared.line.RunLine.{RunLine}
@@ -47,8 +49,22 @@ ran_image line content fault o within loads = record {
   stopped = λ device failed. absurd (cc);
   refused = λ _. refl;
   counts = ((λ told. let no : false ≡ true = told in absurd (cc)), (λ h. let no = h.1 in absurd (cc)));
-  workers = refl;
+  workers = tt;
   shape = λ image loaded. absurd (cc (loads, loaded));
+  limit = tt;
+  faults = refl;
+}
+
+-- memory was wanting before it was run
+pub ran_memory : (line : RunLine) (content : List ℕ) (image : loader.Image) (o : Outside) → load_of line content ≡ Ok image → IsShape image.start.shape
+    → Ran o o line content (outcome_of answers.Memory)
+ran_memory line content image o loads good = record {
+  means = λ other _. absurd (other refl);
+  stopped = λ device failed. absurd (cc);
+  refused = λ _. refl;
+  counts = ((λ told. let no : false ≡ true = told in absurd (cc)), (λ h. let no = h.1 in absurd (cc)));
+  workers = tt;
+  shape = λ other loaded. let same : image ≡ other = cc (loads, loaded) in subst (λ (i : loader.Image). IsShape i.start.shape) same good;
   limit = tt;
   faults = refl;
 }

@@ -121,7 +121,7 @@ answer_of_long old files after faults line longer files_stay names stays =
       faults = refl;
       no_report_fault = λ is. cc;
       counts = ((λ told. let no : false ≡ true = told in absurd (cc)), (λ h. let no = h.1 in absurd (cc)));
-      workers = refl;
+      workers = tt;
       refused = λ _. refl;
       files = files_stay;
       names = inl names;

@@ -14,9 +14,10 @@ use Rattle.asc_run.specs.Walk.{Walk, GoesHelped, new_walk, world_of}
 use Rattle.asc_run.proofs.Turn.{Agrees-before}
 use Rattle.asc_words.specs.declared.line.RunLine.{RunLine}
 use Rattle.asc_words.specs.declared.answer.Counts.{Counts}
+use Rattle.asc_words.specs.declared.answer.WorkerCounts.{WorkerCounts}
 use Rattle.asc_words.specs.declared.answer.Outcome.{Outcome}
 use Rattle.asc_top.specs.Program.{file_limit, load_of, answer_at, ProgramResult, result_of_run, result_of_load, run_of_image, meaning, Gives, IsStopped}
-use Rattle.asc_top.specs.Numbers.{AreTold, Means, counts_of, course_of_image, guessing_of, numbers_of, recognised_by, reported_counts, settings_of}
+use Rattle.asc_top.specs.Numbers.{AreOfVisits, AreTold, Means, counts_of, course_of_image, guessing_of, numbers_of, recognised_by, reported_at, settings_of, WorkersAreTold}
 use Rattle.asc_top.specs.Ran.{Ran, Walked}
 use Rattle.asc_top.proofs.Causes.{meaning-within}
 use Rattle.asc_top.proofs.Ends.{device_of_answer-answer_at, run-not_refused, counts-told, told_have, all_told}
@@ -54,30 +55,36 @@ rest_of w known = rest_from w w.calls.ended w.left refl refl known
 
 -- a walk from an image's start, as a line asks
 module _ (line : RunLine) (content : List ℕ) (image : loader.Image) (within : length content ≤ file_limit) (loads : load_of line content ≡ Ok image) (good : IsShape image.start.shape)
-    (was now : Walk) (is : was ≡ new_walk image (settings_of line)) (old new : Outside) (first last : Aid) (outcome : Outcome)
-    (w : Walked line.report was now old new first last outcome) where
+    (was now : Walk) (is : was ≡ new_walk image (settings_of line)) (old new : Outside) (first last : Aid) (workers : Option WorkerCounts) (outcome : Outcome)
+    (w : Walked line.report was now old new first last workers outcome) where
   pub goes : GoesHelped line.limit (is_mark (settings_of line).recognised) (world_of (new_walk image (settings_of line)) old) (world_of now new) first last now.count now.tally.given w.ended
   goes = subst (λ (v : Walk). GoesHelped v.settings.limit (is_mark v.settings.recognised) (world_of v old) (world_of now new) first last now.count now.tally.given w.ended) is w.goes
 
   abbrev told : Counts
-  told = counts_of w.counts last.plan
+  told = counts_of w.counts last.plan.made last.plan.refused
 
   abbrev own : Outcome
-  own = record { answer = answer_at w.ended now.count; counts = reported_counts line.report w.ended told; workers = None }
+  own = record { answer = answer_at w.ended now.count; counts = reported_at line.report w.ended told; workers = workers }
 
-  -- where the numbers are asked for, they are a serial run's
+  -- where the numbers are asked for, and there are no workers, they are a serial run's
   abbrev pub AreSerial : Type 0
-  AreSerial = line.report ≡ true → (left : List ℕ) → (run_of_image line image left).count ≡ now.count
+  AreSerial = line.workers ≡ 0 → line.report ≡ true → (left : List ℕ) → (run_of_image line image left).count ≡ now.count
       → HasVisits line.limit (is_mark (settings_of line).recognised) image.start goes.visits first last line.limit (course_of_image image left) → last.plan.refused ≡ 0
       → IsSerialRun line.limit (is_mark (recognised_by line) (course_of_image image left)) (course_of_image image left) image.start.shape (guessing_of line) (numbers_of told)
 
-  -- where they are not, it was run plainly
+  -- where they are asked for, they are those of its visits
+  abbrev pub AreSeen : Type 0
+  AreSeen = line.report ≡ true → (left : List ℕ)
+      → HasVisits line.limit (is_mark (settings_of line).recognised) image.start goes.visits first last line.limit (course_of_image image left)
+      → AreOfVisits line.limit (is_mark (recognised_by line) (course_of_image image left)) (course_of_image image left) told
+
+  -- where they are not, and there are none, it was run plainly
   abbrev pub IsPlain : Type 0
-  IsPlain = line.report ≡ false → now.tally.given ≡ 0
+  IsPlain = line.workers ≡ 0 → line.report ≡ false → now.tally.given ≡ 0
 
   -- it did what its file means
-  means : AreSerial → IsPlain → device_of w.ended ≡ None → Means old new own line content
-  means serial plain going =
+  means : AreSeen → AreSerial → IsPlain → device_of w.ended ≡ None → Means old new own line content
+  means seen serial plain going =
       let f = goes.goes.follows going in
       let r = rest_of (world_of now new) f.known in
       let left = f.io.taken ++ r.rest in
@@ -89,8 +96,8 @@ module _ (line : RunLine) (content : List ℕ) (image : loader.Image) (within : 
       record { answer = refl; does = f.does; most = omega (arith, w.executed); steps = omega (arith, w.executed, w.skipped, f.steps) } in
       let shown : (report : Bool) → line.report ≡ report → AreTold line (Ok image) left told.executed now.count (if report then Some told else None) =
       λ report. elim report as (λ b. line.report ≡ b → AreTold line (Ok image) left told.executed now.count (if b then Some told else None)) [
-        | true ↦ λ asked. (refl, record { total = w.executed ∙ sym count_is; serial = λ _ refused. serial asked left count_is (f.says r.rest r.may) refused })
-        | false ↦ λ unasked. λ _. omega (arith, w.executed, w.skipped, plain unasked)
+        | true ↦ λ asked. (refl, record { total = w.executed ∙ sym count_is; visits = seen asked left (f.says r.rest r.may); serial = λ alone refused. serial alone asked left count_is (f.says r.rest r.may) refused })
+        | false ↦ λ unasked. λ alone. omega (arith, w.executed, w.skipped, plain alone unasked)
       ] in
       let own_told : AreTold line (Ok image) left told.executed now.count own.counts =
       subst (λ (c : Option Counts). AreTold line (Ok image) left told.executed now.count c) (sym (all_told line.report w.ended told going)) (shown line.report refl) in
@@ -128,17 +135,17 @@ module _ (line : RunLine) (content : List ℕ) (image : loader.Image) (within : 
         steps = omega (arith, w.executed, w.skipped, s.steps);
       }
 
-  pub ran : AreSerial → IsPlain → Ran old new line content outcome
-  ran serial plain =
+  pub ran : WorkersAreTold line own.counts workers → AreSeen → AreSerial → IsPlain → Ran old new line content outcome
+  ran beside seen serial plain =
       let device = device_of_answer-answer_at w.ended now.count in
       let limit : was.settings.limit ≡ line.limit = ap (λ (v : Walk). v.settings.limit) is in
       subst (λ (o : Outcome). Ran old new line content o) (sym w.outcome_is) (record {
-        means = λ _ none. means serial plain (sym device ∙ none);
+        means = λ _ none. means seen serial plain (sym device ∙ none);
         stopped = λ which failed. stopped which (sym device ∙ failed);
         refused = λ refused. absurd (run-not_refused w.ended now.count refused);
-        counts = counts-told line.report w.ended now.count told;
+        counts = counts-told Counts line.report w.ended now.count told;
         limit = told_have (λ c. c.executed + c.skipped ≤ line.limit) line.report w.ended told (omega (arith, w.executed, w.limit, limit));
-        workers = refl;
+        workers = beside;
         shape = λ other loaded. let same : image ≡ other = cc (loads, loaded) in subst (λ (i : loader.Image). IsShape i.start.shape) same good;
         faults = subst (λ d. BlamesOnly d old.faults new.faults) (sym device) w.faults;
       })

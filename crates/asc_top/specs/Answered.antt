@@ -18,7 +18,7 @@ use Rattle.asc_words.specs.declared.answer.Outcome.{Outcome}
 use Rattle.asc_words.specs.declared.answer.TrialOutcome.{TrialOutcome}
 use Rattle.asc_words.specs.declared.answer.Bad.{Bad}
 use Rattle.asc_top.specs.Program.{file_limit, meaning, Gives, GivesPart, Runs, IsNoImage, IsStopped, make_result, trial_run}
-use Rattle.asc_top.specs.Numbers.{Means, Tries, TriesPart}
+use Rattle.asc_top.specs.Numbers.{Means, Tries, TriesPart, WorkersAreTold}
 use Rattle.asc_top.specs.Kinds.{Finished, kind_of, Completes, IsRefusal, device_of_answer}
 
 -- ---- what is told
@@ -105,6 +105,13 @@ IsWritten (Ok (lines.Trial n workers)) before after =
     (trial : TrialOutcome) × (trial.n ≡ n) × (after ≡ given_after before (trial_text trial))
 IsWritten (Err bad) before after = ⊥
 
+-- the numbers are told of the workers of a run, and of none else
+abbrev pub HasWorkersOf : Asked → Outcome → Type 0
+HasWorkersOf (Ok (lines.Run line)) outcome = WorkersAreTold line outcome.counts outcome.workers
+HasWorkersOf (Ok (lines.Make n)) outcome = outcome.workers ≡ None
+HasWorkersOf (Ok (lines.Trial n workers)) outcome = outcome.workers ≡ None
+HasWorkersOf (Err bad) outcome = outcome.workers ≡ None
+
 -- these words ask for the numbers of a run
 abbrev pub AskForCounts : Asked → Type 0
 AskForCounts (Ok (lines.Run line)) = IsTrue line.report
@@ -132,7 +139,7 @@ pub record IsAnswerFor (asked : Asked) (old new : Devices) (outcome : Outcome) :
   -- Exit: the plain run of a file that is not too long ends with that code.
   pub exit : (code : ℕ) → outcome.answer ≡ answers.Exit code
       → HasFile asked old (Runs old.guest.left (λ run. run.ended ≡ ends.Exit code))
-  -- Done: the whole of an image was put to out, or of a trial's text. No memory is refused where an image is made.
+  -- Done: the whole of an image was put to out, or of a trial's text.
   pub done : (refused : ℕ) → outcome.answer ≡ answers.Done refused → IsWritten asked old.guest.out new.guest.out
   -- Limit: it is still going on after that many steps, which are the line's limit.
   pub limit : (count : ℕ) → outcome.answer ≡ answers.Limit count
@@ -156,8 +163,8 @@ pub record IsAnswerFor (asked : Asked) (old new : Devices) (outcome : Outcome) :
   pub no_report_fault : outcome.answer ≢ answers.ReportFault
   -- the numbers of a run are told where the words ask for them and the guest came to an end, and else none are
   pub counts : IsSome outcome.counts ↔ (AskForCounts asked × (kind_of outcome.answer ≡ Finished))
-  -- as yet there are no workers, and nothing is told of them
-  pub workers : outcome.workers ≡ None
+  -- the numbers of its workers beside them, where it has any
+  pub workers : HasWorkersOf asked outcome
   -- where the guest was not run, nothing was taken, put or counted
   pub refused : IsRefusal outcome.answer → new.guest ≡ old.guest
   pub files : new.files ≡ old.files

@@ -4,6 +4,7 @@ pub use Rattle.asc_words.specs.Report
 pub mod Program
 pub mod Numbers
 pub mod Kinds
+pub mod Workers
 pub mod Ran
 pub mod Answered
 pub mod Reported

@@ -1,11 +1,10 @@
 -- The numbers of a run, and what a trial tells of its own.
-use Rattle.std.specs.Prelude.{◌≡◌, ℕ, zero, suc, Bool, ◌+◌, ◌&&◌, ◌||◌, List, [], length, Option, Some, None, Result, Ok, Err, if◌then◌else◌}
+use Rattle.std.specs.Prelude.{◌≡◌, ℕ, zero, suc, Bool, ◌+◌, ◌<◌, ◌&&◌, ◌||◌, nat_lt, List, [], length, Option, Some, None, Result, Ok, Err, if◌then◌else◌}
 use Rattle.asc_elf.specs.declared.fault.ElfFault.{ElfFault}
 use Rattle.asc_elf.specs.Image as loader
 use Rattle.asc_calls.specs.GuestCall.{nothing, io_of, Out}
 use Rattle.asc_calls.specs.World.{Outside, Agrees}
 use Rattle.asc_make.specs.File.{image_of}
-use Rattle.asc_traj.specs.Finder.{Plan}
 use Rattle.asc_traj.specs.declared.guessing.Guessing.{Guessing}
 use Rattle.asc_run.specs.declared.walk.Counts.{Counts as WalkCounts}
 use Rattle.asc_run.specs.declared.walk.Ended.{Ended}
@@ -14,12 +13,15 @@ use Rattle.asc_run.specs.declared.walk.Settings.{Settings}
 use Rattle.asc_run.specs.declared.recognised.Recognised.{Recognised}
 use Rattle.asc_run.specs.declared.recognised.Recognised.TheVariants.{At, Chosen, Nowhere}
 use Rattle.asc_run.specs.Execution.{progress, first_position}
-use Rattle.asc_run.specs.Visits.{Course, is_mark}
+use Rattle.asc_run.specs.Visits.{AreVisits, Course, Visit, is_mark, tally_of}
 use Rattle.asc_run.specs.SerialRun.{Numbers, IsSerialRun}
+use Rattle.asc_run.specs.Seen.{guesses_until}
+use Rattle.asc_run.specs.Walk.{tally}
 use Rattle.asc_words.specs.declared.line.RunLine.{RunLine}
 use Rattle.asc_words.specs.declared.answer.Answer.{Answer}
 use Rattle.asc_words.specs.declared.answer.Answer.TheVariants as answers
 use Rattle.asc_words.specs.declared.answer.Counts.{Counts}
+use Rattle.asc_words.specs.declared.answer.WorkerCounts.{WorkerCounts}
 use Rattle.asc_words.specs.declared.answer.Outcome.{Outcome}
 use Rattle.asc_words.specs.declared.answer.TrialOutcome.{TrialOutcome}
 use Rattle.asc_words.specs.Report.{trial_text}
@@ -37,7 +39,11 @@ guessing_of line = record {
   ahead = line.ahead;
 }
 
--- what nobody sees is not guessed: only where the numbers are reported, and a kind of guess is on
+-- workers run its guesses
+abbrev pub has_workers : RunLine → Bool
+has_workers line = nat_lt 0 line.workers
+
+-- Without workers, what nobody sees is not guessed: only where the numbers are reported, and a kind of guess is on.
 abbrev pub makes_guesses : RunLine → Bool
 makes_guesses line = line.report && (line.last || line.stride)
 
@@ -49,29 +55,32 @@ recognised_by line =
       | None ↦ if line.last || line.stride then Chosen line.profile line.least else Nowhere
     ]
 
--- nor is the address of a run visited whose numbers are not reported
+-- Nor is the address of a run visited that has no workers, and whose numbers are not reported.
 abbrev pub settings_of : RunLine → Settings
-settings_of line = record { limit = line.limit; recognised = if line.report then recognised_by line else Nowhere }
+settings_of line = record {
+  limit = line.limit;
+  recognised = if line.report || has_workers line then recognised_by line else Nowhere;
+}
 
--- the numbers of a walk, and of what its helper planned
-abbrev pub counts_of : WalkCounts → Plan → Counts
-counts_of walk plan = record {
+-- the numbers of a walk, beside how many guesses were made and how often memory was wanting
+abbrev pub counts_of : WalkCounts → (made refused : ℕ) → Counts
+counts_of walk made refused = record {
   executed = walk.executed;
   skipped = walk.skipped;
   asked = walk.asked;
   hits = walk.hits;
-  made = plan.made;
-  refused = plan.refused;
+  made = made;
+  refused = refused;
 }
 
--- the numbers that a run reports which ended so: none where they are not asked for, or a device stopped it
-abbrev pub reported_counts : (is_asked : Bool) → Ended → Counts → Option Counts
-reported_counts is_asked (ends.Exit code) counts = if is_asked then Some counts else None
-reported_counts is_asked (ends.Fault fault) counts = if is_asked then Some counts else None
-reported_counts is_asked ends.Limit counts = if is_asked then Some counts else None
-reported_counts is_asked ends.ReadFault counts = None
-reported_counts is_asked ends.WriteFault counts = None
-reported_counts is_asked ends.ErrFault counts = None
+-- what a run reports which ended so: nothing where it is not asked for, or a device stopped it
+abbrev pub reported_at : {A : Type 0} → (is_asked : Bool) → Ended → A → Option A
+reported_at is_asked (ends.Exit code) told = if is_asked then Some told else None
+reported_at is_asked (ends.Fault fault) told = if is_asked then Some told else None
+reported_at is_asked ends.Limit told = if is_asked then Some told else None
+reported_at is_asked ends.ReadFault told = None
+reported_at is_asked ends.WriteFault told = None
+reported_at is_asked ends.ErrFault told = None
 
 -- ---- what the numbers are
 
@@ -89,10 +98,20 @@ numbers_of counts = record {
   made = counts.made;
 }
 
+-- These are how many visits a run has up to its limit, how many steps their jumps gave, and how many jumps there were. The
+-- visits are those that the replies leave.
+pub record AreOfVisits (limit : ℕ) (mark : ℕ → Bool) (run : Course) (counts : Counts) : Type 0 where
+  pub visits : List Visit
+  pub are : AreVisits limit run mark visits limit
+  pub tally : tally_of visits (tally 0 0 0) ≡ tally counts.asked counts.skipped counts.hits
+
 -- these are the numbers of a run of an image over an input
 pub record AreNumbersOf (line : RunLine) (image : loader.Image) (left : List ℕ) (counts : Counts) : Type 0 where
   -- the steps executed and the steps jumped over are all its steps
   pub total : counts.executed + counts.skipped ≡ (run_of_image line image left).count
+  -- they are those of its visits
+  pub visits : AreOfVisits line.limit (is_mark (recognised_by line) (course_of_image image left))
+      (course_of_image image left) counts
   -- where there are no workers and memory was never wanting, they are those of a serial run, by its definition
   pub serial : line.workers ≡ 0 → counts.refused ≡ 0
       → IsSerialRun line.limit (is_mark (recognised_by line) (course_of_image image left)) (course_of_image image left)
@@ -110,6 +129,22 @@ abbrev pub AreTold : RunLine → Result loader.Image ElfFault → (left : List �
 AreTold line load left executed count None = line.workers ≡ 0 → executed ≡ count
 AreTold line load left executed count (Some counts) =
     (counts.executed ≡ executed) × AreNumbers line load left counts
+
+-- These are the numbers of a run's workers beside its own. Each guess that was made was run as a job, or was left. Each
+-- job that was run ended in one of five ways. Where memory was never wanting, each guess that was due was made, or found
+-- no room.
+pub record AreWorkerNumbers (guessing : Guessing) (counts : Counts) (workers : WorkerCounts) : Type 0 where
+  pub made : counts.made ≡ workers.ran + workers.left
+  pub ran : workers.ran ≡ workers.stored + workers.known + workers.empty + workers.dropped + workers.stopped
+  pub guesses : counts.refused ≡ 0 → counts.made + workers.full ≡ guesses_until guessing counts.asked
+
+-- they are told beside the numbers of a run that has workers
+abbrev pub WorkersAreTold : RunLine → Option Counts → Option WorkerCounts → Type 0
+WorkersAreTold line (Some counts) (Some workers) =
+    (0 < line.workers) × AreWorkerNumbers (guessing_of line) counts workers
+WorkersAreTold line (Some counts) None = line.workers ≡ 0
+WorkersAreTold line None (Some workers) = ⊥
+WorkersAreTold line None None = Unit {0}
 
 -- Over some input that agrees with what is told, the file means what was answered, taken, put and counted, and the
 -- numbers that are told are its run's.

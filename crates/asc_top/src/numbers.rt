@@ -1,10 +1,12 @@
 //! The answer of a run, and its numbers.
 ghost use Rattle.std.specs.Prelude.{◌≡◌};
 ghost use Rattle.asc_top.specs.Program.{answer_at};
-ghost use Rattle.asc_top.specs.Numbers.{counts_of, reported_counts};
+ghost use Rattle.asc_top.specs.Numbers.{counts_of, reported_at};
+ghost use Rattle.asc_top.specs.Workers.{workers_of};
 
-use asc_run::{Counts as WalkCounts, Ended, Helper};
-use asc_words::{Answer, Counts};
+use asc_live::Worked;
+use asc_run::{Counts as WalkCounts, Ended};
+use asc_words::{Answer, Counts, WorkerCounts};
 
 /// The answer of a run that ended so after `count` steps.
 pub(crate) fn answer_at(ended: Ended, count: u64) -> Answer
@@ -20,26 +22,43 @@ pub(crate) fn answer_at(ended: Ended, count: u64) -> Answer
     }
 }
 
-/// The numbers that a run reports which ended so: none where they aren't asked for, or a device stopped it.
-pub(crate) fn reported_counts(is_asked: bool, ended: Ended, counts: Counts) -> Option<Counts>
-    ensures { result ≡ reported_counts is_asked ended counts }
+/// What a run reports which ended so: nothing where it isn't asked for, or a device stopped it.
+pub(crate) fn reported_at<T: Copy>(is_asked: bool, ended: Ended, told: T) -> Option<T>
+    ensures { result ≡ reported_at is_asked ended told }
 {
     match ended {
-        Ended::Exit(_) | Ended::Fault(_) | Ended::Limit if is_asked => Some(counts),
+        Ended::Exit(_) | Ended::Fault(_) | Ended::Limit if is_asked => Some(told),
         _ => None,
     }
 }
 
-/// The numbers of a walk and of its helper.
-pub(crate) fn counts_of<H: Helper>(walk: WalkCounts, helper: &H) -> Counts
-    ensures { result ≡ counts_of walk (H.plan helper.now) }
+/// The numbers of a walk, beside how many guesses were made and how often memory was wanting.
+pub(crate) fn counts_of(walk: WalkCounts, made: u64, refused: u64) -> Counts
+    ensures { result ≡ counts_of walk made refused }
 {
     Counts {
         executed: walk.executed,
         skipped: walk.skipped,
         asked: walk.asked,
         hits: walk.hits,
-        made: helper.made(),
-        refused: helper.refused(),
+        made,
+        refused,
+    }
+}
+
+/// The numbers of workers that ran beside a walk.
+pub(crate) fn workers_of(worked: &Worked) -> WorkerCounts
+    ensures { result ≡ workers_of worked.now }
+{
+    let tally = worked.taken.tally;
+    WorkerCounts {
+        ran: tally.ran,
+        left: worked.taken.left,
+        stored: tally.stored,
+        known: tally.known,
+        empty: tally.empty,
+        dropped: tally.dropped,
+        stopped: tally.stopped,
+        full: worked.full,
     }
 }

@@ -11,7 +11,9 @@ use crate::trial::trial;
 use asc_shape::{Failed, Gate, Sink, Source, Steps, Store, put_all};
 use asc_words::{Answer, Line, LineFault, Outcome, parse, text};
 use std::alloc::Global;
+use std::sync::Wait;
 use std::sync::ledger::Ledger;
+use std::thread::Threads;
 
 /// Does what the words of a command line ask for, over the outside that is handed in, and puts the line of the answer to
 /// report.
@@ -19,10 +21,23 @@ use std::sync::ledger::Ledger;
 /// The words are the program's own name, a subcommand and its arguments (`asc_words::parse`). `run` runs an image of the
 /// store, `make` puts a generated image to out, and `trial` runs one and puts a text on it to out.
 ///
+/// Where a line has workers, they run in threads of their own beside the run, and their end is waited for. The gate is
+/// passed at their points and at those of the run.
+///
 /// The answer is the first of these that has a cause: wrong words, the store's failure, a file that is too long, a file
 /// that is no image, want of memory, and how the run ended, or that a text was written. Where report fails, the answer is
 /// ReportFault in place of that one.
-pub fn top<F: Store, I: Source, O: Sink, E: Sink, R: Sink, G: Gate, L: Ledger>(
+pub fn top<
+    T: Threads + Wait + Sync + Copy + Drop + Send,
+    F: Store,
+    I: Source,
+    O: Sink,
+    E: Sink,
+    R: Sink,
+    G: Gate + Sync,
+    L: Ledger,
+>(
+    rt: &T,
     alloc: Global,
     words: &[String],
     store: &mut F,
@@ -55,7 +70,10 @@ pub fn top<F: Store, I: Source, O: Sink, E: Sink, R: Sink, G: Gate, L: Ledger>(
         × IsReported (report_with (R.given report.old) (R.faults report.old))
         (report_with (R.given report.new) (R.faults report.new)) outcome result }
 {
-    reported(outcome(alloc, words, store, input, out, err, steps), report)
+    reported(
+        outcome(rt, alloc, words, store, input, out, err, gate, steps),
+        report,
+    )
 }
 
 /// Puts an outcome's text to report, and gives its answer, or ReportFault where report fails. Where there is no text
@@ -74,13 +92,23 @@ pub fn reported<R: Sink>(outcome: Outcome, report: &mut R) -> Answer
 }
 
 /// What the words come to, before it is reported.
-fn outcome<F: Store, I: Source, O: Sink, E: Sink, L: Ledger>(
+fn outcome<
+    T: Threads + Wait + Sync + Copy + Drop + Send,
+    F: Store,
+    I: Source,
+    O: Sink,
+    E: Sink,
+    G: Gate + Sync,
+    L: Ledger,
+>(
+    rt: &T,
     alloc: Global,
     words: &[String],
     store: &mut F,
     input: &mut I,
     out: &mut O,
     err: &mut E,
+    gate: &G,
     steps: &mut Steps<L>,
 ) -> Outcome
     ensures { IsAnswerTo (map string_bytes words.now)
@@ -94,8 +122,8 @@ fn outcome<F: Store, I: Source, O: Sink, E: Sink, L: Ledger>(
     match parse(alloc, words) {
         Err(LineFault::Usage(bad)) => Outcome::of(Answer::Usage(bad)),
         Err(LineFault::Memory) => Outcome::of(Answer::Memory),
-        Ok(Line::Run(line)) => run(alloc, &line, store, input, out, err, steps),
+        Ok(Line::Run(line)) => run(rt, alloc, &line, store, input, out, err, gate, steps),
         Ok(Line::Make { n }) => make(alloc, n, out),
-        Ok(Line::Trial { n, workers }) => trial(alloc, n, workers, out, steps),
+        Ok(Line::Trial { n, workers }) => trial(rt, alloc, n, workers, out, gate, steps),
     }
 }

@@ -1,33 +1,46 @@
 //! `asc run`, and runs of a file that is at hand.
-ghost use Rattle.std.specs.Prelude.{◌≡◌, ◌≤◌, ◌^◌, length, IsNone, Ok};
+ghost use Rattle.std.specs.Prelude.{◌≡◌, ◌<◌, ◌≤◌, ◌^◌, length, IsNone, None, Ok};
 ghost use Rattle.asc_calls.specs.World.{faults, outside};
 ghost use Rattle.asc_run.specs.Helped.{aid, HasRoom};
 ghost use Rattle.asc_words.specs.Line.{IsRunWithin};
 ghost use Rattle.asc_top.specs.Program.{file_limit};
-ghost use Rattle.asc_top.specs.Ran.{Ran, Walked};
+ghost use Rattle.asc_top.specs.Ran.{Ran, RanBeside, Walked};
 ghost use Rattle.asc_top.specs.Answered.{IsAnswerFor, devices};
 
-use crate::numbers::{answer_at, counts_of, reported_counts};
-use crate::settings::{guessing_of, makes_guesses, settings_of};
+use crate::numbers::{answer_at, counts_of, reported_at, workers_of};
+use crate::settings::{crew_of, guessing_of, makes_guesses, settings_of};
 use asc_elf::read;
+use asc_live::go_beside;
 use asc_run::{Bare, Helper, Serial, Walk};
-use asc_shape::{Loaded, Memory, Sink, Source, Steps, Store, StoreFault};
+use asc_shape::{Gate, Loaded, Memory, Shape, Sink, Source, Steps, Store, StoreFault};
 use asc_traj::Nothing;
 use asc_words::{Answer, Line, Outcome, RunLine};
 use std::alloc::Global;
+use std::sync::Wait;
 use std::sync::ledger::Ledger;
+use std::thread::Threads;
 
 /// The greatest file that is read, in bytes: 64 MiB.
 const FILE_LIMIT: usize = 67_108_864;
 
 /// Runs the file that a line names.
-pub(crate) fn run<F: Store, I: Source, O: Sink, E: Sink, L: Ledger>(
+pub(crate) fn run<
+    T: Threads + Wait + Sync + Copy + Drop + Send,
+    F: Store,
+    I: Source,
+    O: Sink,
+    E: Sink,
+    G: Gate + Sync,
+    L: Ledger,
+>(
+    rt: &T,
     alloc: Global,
     line: &RunLine,
     store: &mut F,
     input: &mut I,
     out: &mut O,
     err: &mut E,
+    gate: &G,
     steps: &mut Steps<L>,
 ) -> Outcome
     requires { IsRunWithin line.now }
@@ -44,20 +57,30 @@ pub(crate) fn run<F: Store, I: Source, O: Sink, E: Sink, L: Ledger>(
         Err(StoreFault::Failed) => Outcome::of(Answer::StoreFault),
         Err(StoreFault::Memory) => Outcome::of(Answer::Memory),
         Ok(Loaded::Longer) => Outcome::of(Answer::TooLong),
-        Ok(Loaded::Whole) => run_file(alloc, line, &file, input, out, err, steps),
+        Ok(Loaded::Whole) => run_file(rt, alloc, line, &file, input, out, err, gate, steps),
     }
 }
 
 /// Runs a file, as a line asks.
 ///
-/// What nobody sees is not run: where the numbers are not reported nothing is guessed, since that changes nothing else.
-pub(crate) fn run_file<I: Source, O: Sink, E: Sink, L: Ledger>(
+/// What nobody sees is not run: without workers nothing is guessed where the numbers are not reported, since guesses
+/// change nothing else then.
+pub(crate) fn run_file<
+    T: Threads + Wait + Sync + Copy + Drop + Send,
+    I: Source,
+    O: Sink,
+    E: Sink,
+    G: Gate + Sync,
+    L: Ledger,
+>(
+    rt: &T,
     alloc: Global,
     line: &RunLine,
     file: &[u8],
     input: &mut I,
     out: &mut O,
     err: &mut E,
+    gate: &G,
     steps: &mut Steps<L>,
 ) -> Outcome
     requires line { IsRunWithin line.now }
@@ -76,6 +99,11 @@ pub(crate) fn run_file<I: Source, O: Sink, E: Sink, L: Ledger>(
     let Ok(mut walk) = Walk::new(alloc, &image, settings_of(line)) else {
         return Outcome::of(Answer::Memory);
     };
+    if line.workers > 0 {
+        return run_beside(
+            rt, alloc, line, shape, &mut walk, gate, input, out, err, steps,
+        );
+    }
     if !makes_guesses(line) {
         let mut helper = Bare::new(Nothing::new());
         return run_with(line.report, &mut walk, &mut helper, input, out, err, steps);
@@ -105,13 +133,68 @@ fn run_with<H: Helper, I: Source, O: Sink, E: Sink, L: Ledger>(
         (outside (I.left input.new) (O.given out.new) (E.given err.new) steps.new
         (faults (I.faults input.new) (O.faults out.new) (E.faults err.new)))
         (aid (H.tally helper.old) (H.replies helper.old) (H.plan helper.old) (H.machine helper.old))
-        (aid (H.tally helper.new) (H.replies helper.new) (H.plan helper.new) (H.machine helper.new)) result }
+        (aid (H.tally helper.new) (H.replies helper.new) (H.plan helper.new) (H.machine helper.new)) None result }
 {
     let ended = walk.go(helper, input, out, err, steps);
-    let counts = walk.counts();
+    let walked = walk.counts();
+    let counts = counts_of(walked, helper.made(), helper.refused());
     Outcome {
-        answer: answer_at(ended, counts.count),
-        counts: reported_counts(is_asked, ended, counts_of(counts, helper)),
+        answer: answer_at(ended, walked.count),
+        counts: reported_at(is_asked, ended, counts),
         workers: None,
+    }
+}
+
+/// Runs a walk that has not begun to its end, with workers beside it, and tells their numbers where they are asked for.
+fn run_beside<
+    T: Threads + Wait + Sync + Copy + Drop + Send,
+    G: Gate + Sync,
+    I: Source,
+    O: Sink,
+    E: Sink,
+    L: Ledger,
+>(
+    rt: &T,
+    alloc: Global,
+    line: &RunLine,
+    shape: Shape,
+    walk: &mut Walk,
+    gate: &G,
+    input: &mut I,
+    out: &mut O,
+    err: &mut E,
+    steps: &mut Steps<L>,
+) -> Outcome
+    requires new { IsNone walk.old.ended }
+    requires line { IsRunWithin line.now }
+    requires some { 0 < line.now.workers }
+    ensures { RanBeside line.now walk.old walk.new
+        (outside (I.left input.old) (O.given out.old) (E.given err.old) steps.old
+        (faults (I.faults input.old) (O.faults out.old) (E.faults err.old)))
+        (outside (I.left input.new) (O.given out.new) (E.given err.new) steps.new
+        (faults (I.faults input.new) (O.faults out.new) (E.faults err.new))) result }
+{
+    let Ok(worked) = go_beside(
+        rt,
+        alloc,
+        walk,
+        shape,
+        guessing_of(line),
+        crew_of(line),
+        gate,
+        input,
+        out,
+        err,
+        steps,
+    ) else {
+        return Outcome::of(Answer::Memory);
+    };
+    let walked = walk.counts();
+    let ended = worked.ended;
+    let counts = counts_of(walked, worked.made, worked.refused);
+    Outcome {
+        answer: answer_at(ended, walked.count),
+        counts: reported_at(line.report, ended, counts),
+        workers: reported_at(line.report, ended, workers_of(&worked)),
     }
 }

@@ -3,12 +3,14 @@ ghost use Rattle.std.specs.Prelude.{◌≡◌};
 ghost use Rattle.asc_run.specs.Visits.{HasBounds};
 ghost use Rattle.asc_words.specs.Line.{IsRunWithin};
 ghost use Rattle.asc_top.specs.Numbers.{guessing_of, makes_guesses, recognised_by, settings_of};
+ghost use Rattle.asc_top.specs.Workers.{crew_of};
 
+use asc_live::Crew;
 use asc_run::{Recognised, Settings};
 use asc_traj::Guessing;
 use asc_words::RunLine;
 
-/// Whether a line has guesses made.
+/// Whether a line without workers has guesses made.
 pub(crate) fn makes_guesses(line: &RunLine) -> bool
     ensures { result ≡ makes_guesses line.now }
 {
@@ -28,6 +30,16 @@ pub(crate) fn guessing_of(line: &RunLine) -> Guessing
     }
 }
 
+/// The workers that a line asks for.
+pub(crate) fn crew_of(line: &RunLine) -> Crew
+    ensures { result ≡ crew_of line.now }
+{
+    Crew {
+        workers: line.workers,
+        queue: line.queue,
+    }
+}
+
 /// How a line asks for a walk.
 pub(crate) fn settings_of(line: &RunLine) -> Settings
     requires { IsRunWithin line.now }
@@ -36,7 +48,7 @@ pub(crate) fn settings_of(line: &RunLine) -> Settings
 {
     Settings {
         limit: line.limit,
-        recognised: if line.report {
+        recognised: if line.report || line.workers > 0 {
             recognised_by(line)
         } else {
             Recognised::Nowhere

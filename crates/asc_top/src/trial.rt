@@ -9,18 +9,27 @@ ghost use Rattle.asc_top.specs.Reported.{IsPut};
 
 use crate::run::run_file;
 use asc_make::image;
-use asc_shape::{CountSink, Failed, Sink, Steps, SureSource, Version, put_all};
+use asc_shape::{CountSink, Failed, Gate, Sink, Steps, SureSource, Version, put_all};
 use asc_words::{Answer, Counts, FileName, Line, Outcome, RunLine, TrialOutcome, trial_text};
 use std::alloc::Global;
+use std::sync::Wait;
 use std::sync::ledger::Ledger;
+use std::thread::Threads;
 
 /// Runs the generated image of a number, and puts a text on its run to out. The program has no input, and what it writes
 /// is only counted.
-pub(crate) fn trial<O: Sink, L: Ledger>(
+pub(crate) fn trial<
+    T: Threads + Wait + Sync + Copy + Drop + Send,
+    O: Sink,
+    G: Gate + Sync,
+    L: Ledger,
+>(
+    rt: &T,
     alloc: Global,
     n: u64,
     workers: usize,
     out: &mut O,
+    gate: &G,
     steps: &mut Steps<L>,
 ) -> Outcome
     requires { workers ≤ 64 }
@@ -40,12 +49,14 @@ pub(crate) fn trial<O: Sink, L: Ledger>(
     let mut output = CountSink::new();
     let mut errors = CountSink::new();
     let outcome = run_file(
+        rt,
         alloc,
         &line,
         &image,
         &mut input,
         &mut output,
         &mut errors,
+        gate,
         steps,
     );
     let Some((status, counts)) = exit_of(&outcome) else {

@@ -1,0 +1,182 @@
+//! Runs with workers: the counting loop while workers or the run are held up.
+use crate::images::wrap;
+use crate::outside::{SOUND, run_gated};
+use crate::whole_runs::COUNTS;
+use asc_shape::Point;
+use asc_top::Answer;
+use asc_work::{Hold, HoldGate};
+use std::alloc::{AllocError, Global};
+use std::process::Abort;
+use std::sync::Wait;
+use std::test::Fail;
+use std::thread::Threads;
+
+/// How often a hold looks whether it is over, at most.
+const TURNS: u64 = 1_000_000;
+
+/// A run that is held up, how many jobs its workers run at least, and how its report begins and ends.
+#[derive(Drop)]
+struct Held<'a> {
+    line: &'static str,
+    holds: &'a [Hold],
+    least: u64,
+    begins: &'static str,
+    ends: &'static str,
+}
+
+const TWO: &str = "asc run image --pc 10008 --guess stride --ahead 2 --report --workers 2";
+
+const FOUR: &str = "asc run image --pc 10008 --guess stride --ahead 2 --report --workers 4";
+
+/// The walk's end is held up until a job is done.
+fn end_until(job: u64) -> Hold {
+    Hold {
+        at: Point::Ended,
+        ticket: 0,
+        until: Point::Done,
+        other: job,
+    }
+}
+
+/// A worker is held up at a point of a job until the walk has ended.
+fn until_end(at: Point, ticket: u64) -> Hold {
+    Hold {
+        at,
+        ticket,
+        until: Point::Ended,
+        other: 0,
+    }
+}
+
+/// A worker is held up where it has traced a job, until another has taken job 3.
+fn traced_until_all(ticket: u64) -> Hold {
+    Hold {
+        at: Point::Traced,
+        ticket,
+        until: Point::Taken,
+        other: 3,
+    }
+}
+
+/// The walk is held up at its third visit until a job is done.
+fn third_visit_until(job: u64) -> Hold {
+    Hold {
+        at: Point::Visit,
+        ticket: 3,
+        until: Point::Done,
+        other: job,
+    }
+}
+
+/// The numbers of a report, in its order.
+fn numbers(report: &str) -> [u64; 14] {
+    let mut numbers = [0; 14];
+    let told = report
+        .split_whitespace()
+        .filter_map(|word| word.parse().ok());
+    for (number, value) in numbers.iter_mut().zip(told) {
+        *number = value;
+    }
+    numbers
+}
+
+/// Runs the counting loop while it is held up, and checks what its numbers keep.
+fn count_held<R: Abort + Threads + Wait + Sync + Copy + Drop + Send>(
+    rt: &R,
+    alloc: Global,
+    held: &Held<'_>,
+) -> Result<(), AllocError> {
+    let gate = HoldGate::new(alloc, held.holds, TURNS).expect(rt, "memory");
+    let got = run_gated(rt, alloc, held.line, wrap(alloc, COUNTS)?, &SOUND, &gate)?;
+    let report = str::from_utf8(got.report.bytes()).expect(rt, "text");
+    assert!(rt; !gate.ran_out(), "a hold ran out at {report}");
+    assert_eq!(rt; got.answer, Answer::Exit(0), "at {report}");
+    let told = numbers(report);
+    let (executed, skipped, asked) = (told[0], told[1], told[2]);
+    let (made, refused, ran, left, full) = (told[4], told[5], told[6], told[7], told[13]);
+    let columns = told[8..13]
+        .iter()
+        .fold(0, |sum: u64, n| sum.wrapping_add(*n));
+    assert_eq!(rt;
+        (executed.wrapping_add(skipped), asked),
+        (13, 4),
+        "at {report}"
+    );
+    assert_eq!(rt; (made, refused, full), (4, 0, 0), "at {report}");
+    assert_eq!(rt; ran.wrapping_add(left), made, "at {report}");
+    assert_eq!(rt; columns, ran, "at {report}");
+    assert!(rt; ran >= held.least, "at {report}");
+    assert!(rt;
+        report.starts_with(held.begins) && report.ends_with(held.ends),
+        "at {report}"
+    );
+    Ok(())
+}
+
+#[test]
+fn held_workers(rt: HostRuntime) -> Result<(), Fail> {
+    let rows = [
+        Held {
+            line: TWO,
+            holds: &[
+                Hold {
+                    at: Point::Taken,
+                    ticket: 0,
+                    until: Point::Done,
+                    other: 1,
+                },
+                end_until(0),
+                end_until(1),
+            ],
+            least: 2,
+            begins: "asc: executed ",
+            ends: "\n",
+        },
+        Held {
+            line: TWO,
+            holds: &[third_visit_until(0), third_visit_until(1)],
+            least: 2,
+            begins: "asc: executed 7 skipped 6 asked 4 hits 2 made 4 refused 0\n",
+            ends: "\n",
+        },
+        Held {
+            line: FOUR,
+            holds: &[
+                traced_until_all(0),
+                traced_until_all(1),
+                traced_until_all(2),
+                end_until(0),
+                end_until(1),
+                end_until(2),
+                end_until(3),
+            ],
+            least: 4,
+            begins: "asc: executed ",
+            ends: "asc: ran 4 left 0 stored 4 known 0 empty 0 dropped 0 stopped 0 full 0\n",
+        },
+    ];
+    for held in &rows {
+        count_held(&rt, rt.alloc(), held)?;
+    }
+    Ok(())
+}
+
+/// The points at which a worker is held up until the walk has ended, each with every job.
+static UNTIL_END: [Point; 3] = [Point::Taken, Point::Traced, Point::Done];
+
+#[test]
+fn held_until_the_end(rt: HostRuntime) -> Result<(), Fail> {
+    for at in UNTIL_END {
+        for ticket in 0..4 {
+            let held = Held {
+                line: TWO,
+                holds: &[until_end(at, ticket)],
+                least: 0,
+                begins: "asc: executed ",
+                ends: "\n",
+            };
+            count_held(&rt, rt.alloc(), &held)?;
+        }
+    }
+    Ok(())
+}
