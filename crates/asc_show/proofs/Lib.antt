@@ -1,0 +1,4 @@
+pub mod Visits
+pub mod Texts
+pub mod Laps
+pub mod Answered

@@ -1,0 +1,4 @@
+pub mod Visited
+pub mod Text
+pub mod Asked
+pub mod Shown

@@ -1,0 +1,143 @@
+//! The answers of the program, with their lines and statuses.
+ghost use Rattle.std.specs.Prelude.{◌≡◌, ◌+◌, ◌≤◌, ◌++◌, codes, decimal, length};
+ghost use Rattle.arrayvec.specs.ArrayVec.{array_vec_len};
+ghost use Rattle.asc_show.specs.Shown.{answer_text, code_of, code_of_end, end_text};
+
+use arrayvec::ArrayVec;
+use asc_elf::ElfFault;
+use asc_run::Ended;
+use itoa::Buffer;
+
+/// How the program ends.
+#[derive(Clone, Copy, Debug, PartialEq, Eq)]
+pub enum Answer {
+    /// The entry was put to the output.
+    Shown,
+    /// At the visit stands a guest call, or an instruction that meets a fault: there is no entry.
+    NoStep,
+    /// The guest's program ended before the visit, and had been at the address so often.
+    Ended(Ended, u64),
+    /// The command line is wrong.
+    Usage,
+    /// The file is no image that can be run.
+    Image(ElfFault),
+    /// The file has more than 67,108,864 bytes.
+    TooLong,
+    /// The file was not read.
+    StoreFault,
+    /// Want of memory.
+    Memory,
+    /// The output failed, while it took the entry.
+    OutFault,
+}
+
+/// A line as far as it is built.
+pub(crate) type Line = ArrayVec<u8, 128>;
+
+impl Answer {
+    /// The exit status: 0 where the entry was shown, or one of BSD's sysexits where it has one.
+    pub fn code(&self) -> u8
+        ensures { result ≡ code_of self.now }
+    {
+        match self {
+            Answer::Shown => 0,
+            Answer::Usage => 64,
+            Answer::Image(_) | Answer::TooLong => 65,
+            Answer::StoreFault => 66,
+            Answer::NoStep => 69,
+            Answer::Memory => 71,
+            Answer::OutFault => 74,
+            Answer::Ended(ended, _) => code_of_end(*ended),
+        }
+    }
+
+    /// The line of an answer, or nothing where the entry was shown.
+    #[tactic(auto, unfolding(crate::specs::Shown::answer_text))]
+    pub(crate) fn line(&self) -> Line
+        ensures { result.items ≡ answer_text self.now }
+    {
+        let mut line = Line::new();
+        match self {
+            Answer::Shown => {}
+            Answer::Usage => put(
+                &mut line,
+                b"asc_show: wants IMAGE ADDRESS VISIT: a file, hexadecimal digits, and a number from 1 on\n",
+            ),
+            Answer::Image(_) => put(
+                &mut line,
+                b"asc_show: the file is no image; asc run tells its fault\n",
+            ),
+            Answer::TooLong => put(
+                &mut line,
+                b"asc_show: the file has more than 67,108,864 bytes\n",
+            ),
+            Answer::StoreFault => put(&mut line, b"asc_show: the file can't be read\n"),
+            Answer::NoStep => put(
+                &mut line,
+                b"asc_show: no entry: a guest call or a fault stands at that visit\n",
+            ),
+            Answer::Memory => put(&mut line, b"asc_show: out of memory\n"),
+            Answer::OutFault => put(&mut line, b"asc_show: standard output failed\n"),
+            Answer::Ended(ended, visits) => put_end(&mut line, *ended, *visits),
+        }
+        line
+    }
+}
+
+/// The status where a program ended before the visit.
+fn code_of_end(ended: Ended) -> u8
+    ensures { result ≡ code_of_end ended }
+{
+    match ended {
+        Ended::Exit(_) => 69,
+        Ended::ReadFault | Ended::WriteFault | Ended::ErrFault => 74,
+        Ended::Limit => 75,
+        Ended::Fault(_) => 76,
+    }
+}
+
+/// Appends the line of a program that ended before the visit.
+fn put_end(line: &mut Line, ended: Ended, visits: u64)
+    requires { array_vec_len line.old ≡ 0 }
+    ensures { line.new.items ≡ line.old.items ++ codes "asc_show: " ++ end_text ended
+        ++ codes " before that visit; visits so far: " ++ decimal visits ++ codes "\n" }
+{
+    put(line, b"asc_show: ");
+    put(line, end_text(ended).as_bytes());
+    put(line, b" before that visit; visits so far: ");
+    put_number(line, visits);
+    put(line, b"\n");
+}
+
+/// How a program ended before the visit.
+fn end_text(ended: Ended) -> &'static str
+    ensures text { result.now ≡ end_text ended }
+    ensures short { length result.now ≤ 40 }
+{
+    match ended {
+        Ended::Exit(_) => "the program ended",
+        Ended::Fault(_) => "the program met a fault",
+        Ended::Limit => "the limit on steps was reached",
+        Ended::ReadFault => "standard input failed",
+        Ended::WriteFault => "the guest's output failed",
+        Ended::ErrFault => "the guest's error output failed",
+    }
+}
+
+/// Appends bytes.
+fn put(line: &mut Line, piece: &[u8])
+    requires { array_vec_len line.old + length piece.now ≤ 128 }
+    ensures { line.new.items ≡ line.old.items ++ piece.now }
+{
+    line.try_extend_from_slice(piece).unwrap();
+}
+
+/// Appends a number in decimal.
+fn put_number(line: &mut Line, number: u64)
+    requires { array_vec_len line.old + 20 ≤ 128 }
+    ensures number { line.new.items ≡ line.old.items ++ decimal number }
+    ensures room { array_vec_len line.new ≤ array_vec_len line.old + 20 }
+{
+    let mut buffer = Buffer::new();
+    put(line, buffer.format(number).as_bytes());
+}

@@ -1,0 +1,47 @@
+//! The entry of a lap.
+ghost use Rattle.std.specs.Prelude.{◌≡◌, ◌≤◌, IfOk};
+ghost use Rattle.asc_show.specs.Visited.{IsLap, bounds_of};
+
+use asc_depvec::Tracer;
+use asc_shape::{Memory, State};
+use asc_traj::{Entry, Never, Stop, Why, trace};
+use std::alloc::Global;
+use std::sync::Arc;
+
+/// How many places a trace may touch, as in `asc run`.
+const PLACES: usize = 4096;
+
+/// What was traced from a state.
+#[derive(Drop)]
+pub(crate) struct Lap {
+    /// The entry of the steps, where there are any.
+    pub(crate) entry: Option<Arc<Entry>>,
+    /// Why no more were taken.
+    pub(crate) why: Why,
+}
+
+/// Traces a state until steps have led to `pc` `laps` times, or the trace ends before.
+pub(crate) fn trace_lap(
+    alloc: Global,
+    state: &State,
+    pc: u32,
+    laps: u64,
+    span: u64,
+) -> Result<Lap, Memory>
+    requires laps { 1 ≤ laps }
+    requires span { 1 ≤ span }
+    ensures { IfOk result (λ lap. IsLap (bounds_of pc laps span) state.now lap) }
+{
+    let mut tracer = Tracer::new(alloc, state.shape(), PLACES)?;
+    tracer.start(state);
+    let traced = trace(&mut tracer, &Stop { pc, laps, span }, &mut Never);
+    let entry = if traced.steps == 0 {
+        None
+    } else {
+        Some(Entry::of(alloc, &tracer, traced.steps)?)
+    };
+    Ok(Lap {
+        entry,
+        why: traced.why,
+    })
+}
