@@ -3,8 +3,9 @@
 
     python3 tools/check.py [PROGRAM]
 
-PROGRAM is the built asc, crates/asc_cli/out/asc_cli where none is given. What wants bash, groff or the cross compiler
-is left out where these are missing, and a line says so. The status is 0 where all is as it is to be, and else 1.
+PROGRAM is the built asc, crates/asc_cli/out/asc_cli where none is given. What wants crates/asc_show/out/asc_show, bash,
+groff or the cross compiler is left out where these are missing, and a line says so. The status is 0 where all is as it
+is to be, and else 1.
 """
 
 import importlib.machinery
@@ -23,6 +24,7 @@ from pathlib import Path
 TOOLS = Path(__file__).resolve().parent
 ROOT = TOOLS.parent
 IMAGES = ROOT / "examples/images"
+SHOW = ROOT / "crates/asc_show/out/asc_show"
 failed = tried = 0
 
 
@@ -319,7 +321,7 @@ def check_steps(program, folder):
         same(f"asc-steps: {name} with a step less, and with as many", statuses, [75, 0])
 
 
-# In place of asc, for what it does not do yet: laps of 1000 steps, and jumps at all visits but the first ten.
+# In place of asc, for pictures that are known: laps of 1000 steps, and jumps at all visits but the first ten.
 STAND_IN = """#!/usr/bin/env python3
 import sys
 options = dict(word[2:].partition("=")[::2] for word in sys.argv[1:] if word.startswith("--"))
@@ -364,7 +366,7 @@ def check_pc(program, folder):
     same("asc-pc: no head", told(HELLO), (f"9 steps\n{HEADS}  where\n".encode(), b"", 0))
     same("asc-pc: no file", told(folder / "none"), (b"", b"asc: store failed\n", 66))
     same("asc-pc: wrong words", told(image, "--pages=4"), (b"", b"asc: usage\n", 64))
-    tried = outcome([TOOLS / "asc-pc", "--asc", stand_in(folder), "--try", "--lap", "1000", image, "--guess", "last"])
+    tried = outcome([TOOLS / "asc-pc", "--asc", stand_in(folder), "--lap=1000", image, "--guess", "last", "--try"])
     row = "        100       1000.0         90    81.0%\n"
     same("asc-pc: a trial", tried, (
         f"100000 steps\n{HEADS}       hits  skipped  where\n   10058{row}   1005c{row}".encode(), b"", 0))
@@ -377,6 +379,50 @@ def check_pc(program, folder):
         rows = told(folder / "sum")[0].decode().splitlines()[2:]
         same("asc-pc: function and line", [re.sub(r"  +", " ", row).split(" ")[-2:] for row in rows],
              [["main", "sum.c:5"]])
+
+
+ENTRY = """steps 2 up to the visit
+reads
+  pc       {0}
+  a0       00000013
+  {0} fff50513
+  {1} fe051ee3
+writes
+  pc       {0}
+  a0       00000012
+"""
+CODE = """code
+  {0} addi a0,a0,-1
+  {1} bne a0,zero,{2} <again>
+"""
+
+
+def check_show(folder):
+    """The second of twenty laps, with and without instructions, and what asc_show refuses."""
+    if not SHOW.exists():
+        print(f"tools/check.py: no program {SHOW}: the trial of asc-show is left out")
+        return
+
+    def shown(*words):
+        return outcome([TOOLS / "asc-show", "--show", SHOW, *words])
+
+    image = nested(folder)
+    same("asc-show: no code", shown(image, "1005c", "2"), (ENTRY.format("0001005c", "00010060").encode(), b"", 0))
+    told = shown(image, "1005c", "101")
+    same("asc-show: no such visit", told, (
+        b"", b"asc_show: the program ended before that visit; visits so far: 100\n", 69))
+    same("asc-show: no file", shown(folder / "none", "1005c", "1"), (b"", b"asc_show: the file can't be read\n", 66))
+    same("asc-show: wrong words", shown(image, "1005c")[2], 64)
+    if has("riscv64-unknown-elf-gcc", "the instructions of asc-show"):
+        (folder / "again.s").write_text(".globl _start\n_start: li a0, 20\nagain: addi a0, a0, -1\nbnez a0, again\n"
+                                        "li a7, 93\necall\n")
+        subprocess.run(["riscv64-unknown-elf-gcc", "-march=rv32im", "-mabi=ilp32", "-nostdlib", "-static", "-T",
+                        ROOT / "examples/link.ld", "-o", "again", "again.s"], cwd=folder, check=True)
+        at = ("00010078", "0001007c", "10078")
+        same("asc-show: code", shown(folder / "again", "10078", "2"), ((ENTRY + CODE).format(*at).encode(), b"", 0))
+        data = "".join(line for line in ENTRY.splitlines(True) if not line.startswith(("  {0}", "  {1}")))
+        same("asc-show: data alone", shown("--data", folder / "again", "10078", "2"),
+             ((data + "code 2 instructions\n").format(*at).encode(), b"", 0))
 
 
 def check_plot(folder):
@@ -401,7 +447,26 @@ def check_plot(folder):
     same("asc-plot workers: its points", len(drawn["polyline"][0].get("points").split()), 4)
     (folder / "empty").write_bytes(b"")
     same("asc-plot: no numbers", outcome([TOOLS / "asc-plot", "steps", folder / "empty"])[2], 1)
-    same("asc-plot: no words", outcome([TOOLS / "asc-plot"])[2], 64)
+    same("asc-plot: no file", outcome([TOOLS / "asc-plot", "steps", folder / "none"]), (
+        b"", f"asc-plot: {folder / 'none'}: No such file or directory\n".encode(), 1))
+
+
+def check_full(program, folder):
+    """A full device as standard output, and a pipe whose reader has ended."""
+    image, guessing = nested(folder), stand_in(folder)
+    asked = {"asc-pc": ["--asc", program, image], "asc-steps": ["--asc", program, image],
+             "asc-plot": ["hits", "--asc", guessing, image]}
+    if SHOW.exists():
+        asked["asc-show"] = ["--show", SHOW, image, "1005c", "2"]
+    for tool, words in asked.items():
+        told = outcome([TOOLS / tool])
+        same(f"{tool}: no words", (told[0], told[1].decode().count(f"    {tool} ") > 0, told[2]), (b"", True, 64))
+        reading, writing = os.pipe()
+        os.close(reading)
+        for out, line in ((os.open("/dev/full", os.O_WRONLY), "No space left on device"), (writing, "Broken pipe")):
+            run = subprocess.run([TOOLS / tool, *words], stdin=subprocess.DEVNULL, stdout=out, stderr=subprocess.PIPE)
+            os.close(out)
+            same(f"{tool}: {line}", (run.stderr, run.returncode), (f"{tool}: {line}\n".encode(), 74))
 
 
 # ---- documents
@@ -468,7 +533,7 @@ def main():
     why = module(TOOLS / "asc-why")
     known = check_options(why)
     check_words(why, known)
-    for tool, lines in (("asc-why", 1), ("asc-steps", 1), ("asc-pc", 1), ("asc-plot", 3)):
+    for tool, lines in (("asc-why", 1), ("asc-steps", 1), ("asc-pc", 1), ("asc-plot", 3), ("asc-show", 1)):
         told = outcome([TOOLS / tool, "--help"])
         same(f"{tool} --help", (told[0].decode().count(f"    {tool} "), told[1:]), (lines, (b"", 0)))
     check_links()
@@ -476,7 +541,9 @@ def main():
         check_why(program, Path(folder))
         check_steps(program, Path(folder))
         check_pc(program, Path(folder))
+        check_show(Path(folder))
         check_plot(Path(folder))
+        check_full(program, Path(folder))
         check_copy(Path(folder))
     check_completion(known)
     print(f"tools/check.py: {tried} trials, {failed} failed")
