@@ -6,7 +6,7 @@
 PROGRAM is the built asc, crates/asc_cli/out/asc_cli where it is not given. Of a document are read:
 
     ```sh          commands. They run in a copy of the repository's examples, benches, documents and built
-                   program, at its top; all of a document in one shell, with no input and an empty home folder
+                   programs, at its top; all of a document in one shell, with no input and an empty home folder
     ```text        behind commands: just what they print, to standard output and standard error. Commands with
                    no such block print nothing
     ```c NAME      what the file NAME holds, at the top of that copy
@@ -31,6 +31,7 @@ from pathlib import Path
 
 ROOT = Path(__file__).resolve().parent.parent
 BUILT = "crates/asc_cli/out/asc_cli"
+SHOW = "crates/asc_show/out/asc_show"
 COPIED = ["README.md", "docs", "examples", "tools", "bench", "crates/asc_cli/data"]
 PART = re.compile(r"^```(?P<kind>\w+)(?: (?P<name>\S+))?\n(?P<body>.*?)^```$"
                   r"|^<!-- wants (?P<words>.*?): (?P<wanted>.*?) -->$|^#+ (?P<heading>.*?)$", re.MULTILINE | re.DOTALL)
@@ -39,8 +40,10 @@ PART = re.compile(r"^```(?P<kind>\w+)(?: (?P<name>\S+))?\n(?P<body>.*?)^```$"
 def copy_to(room, program):
     for name in COPIED:
         (shutil.copytree if (ROOT / name).is_dir() else shutil.copy)(ROOT / name, Path(room, name))
-    Path(room, BUILT).parent.mkdir(parents=True, exist_ok=True)
-    shutil.copy(program, Path(room, BUILT))
+    for built, made in ((BUILT, program), (SHOW, ROOT / SHOW)):
+        Path(room, built).parent.mkdir(parents=True, exist_ok=True)
+        if Path(made).exists():
+            shutil.copy(made, Path(room, built))
 
 
 def lacks(part):
