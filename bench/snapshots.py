@@ -1,15 +1,22 @@
 #!/usr/bin/env python3
 """Times snapshots of a state beside whole copies, outside the gate.
 
-    python3 bench/snapshots.py
+    python3 bench/snapshots.py           prints the processor's microseconds, the least of five runs
+    python3 bench/snapshots.py --count   prints the processor's instructions, as `valgrind --tool=callgrind` counts them
 
 A program over `asc_shape` is added to a copy of the crates under it in a temporary folder, proved and built there with
-`rt run`, and run. It prints the processor's microseconds, the least of five runs, at memory of 256 KiB, 1 MiB and
-64 MiB of which 60 KiB are used: for a whole copy, for a freeze after a byte changed in each of 1, 4 and 16 pages, for a
-restore, for a pair of snapshots that differ in one page, for a stride of that pair, and for `fill` after one byte
-changed.
+`rt run`, and run.
+
+Microseconds are of memory of 256 KiB, 1 MiB and 64 MiB of which 60 KiB are used: for a whole copy, for a freeze after
+a byte changed in each of 1, 4 and 16 pages, for a restore, for a pair of snapshots that differ in one page, for a
+stride of that pair, and for `fill` after one byte changed.
+
+Instructions are of memory of 64 KiB, 1 MiB and 64 MiB of which the first 1 or 16 pages are used. In each of these a
+byte changes before each call, and both snapshots of a pair differ in them. What the changes cost that mark nothing new
+is taken off.
 """
 
+import os
 import resource
 import shutil
 import subprocess
@@ -38,19 +45,20 @@ use std::env;
 use std::process::ExitCode;
 use std::sync::Arc;
 
-/// What is done, the size of memory in KiB, how many KiB are used, how many pages change a round, and how many rounds.
+/// What is done, the size of memory in KiB, how many KiB are used, how many pages change a round, how many pages lie
+/// from one to the next, and how many rounds.
 fn main(rt: HostRuntime) -> ExitCode {
     let Some(given) = numbers(&rt) else {
         return ExitCode::FAILURE;
     };
-    match measured(rt.alloc(), given[0], given[1], given[2], given[3], given[4]) {
+    match measured(rt.alloc(), given[0], given[1], given[2], Pages { count: given[3], apart: given[4] }, given[5]) {
         Some(_) => ExitCode::SUCCESS,
         None => ExitCode::FAILURE,
     }
 }
 
-fn numbers(rt: &HostRuntime) -> Option<[u64; 5]> {
-    let mut found = [0; 5];
+fn numbers(rt: &HostRuntime) -> Option<[u64; 6]> {
+    let mut found = [0; 6];
     let mut words = env::args(rt).ok()?;
     let _ = words.next();
     for number in &mut found {
@@ -59,7 +67,14 @@ fn numbers(rt: &HostRuntime) -> Option<[u64; 5]> {
     Some(found)
 }
 
-fn measured(alloc: Global, what: u64, size: u64, used: u64, pages: u64, rounds: u64) -> Option<u64> {
+/// The pages in which a byte changes.
+#[derive(Clone, Copy)]
+struct Pages {
+    count: u64,
+    apart: u64,
+}
+
+fn measured(alloc: Global, what: u64, size: u64, used: u64, pages: Pages, rounds: u64) -> Option<u64> {
     let size = u32::try_from(size).ok()?.checked_mul(1024)?;
     let shape = Shape::two(0x10000, size).ok()?;
     let mut state = State::new(alloc, shape).ok()?;
@@ -67,11 +82,25 @@ fn measured(alloc: Global, what: u64, size: u64, used: u64, pages: u64, rounds: 
     match what {
         0 => copies(alloc, &state, rounds),
         1 => freezes(alloc, &mut state, pages, rounds),
-        2 => restores(alloc, &mut state, rounds),
-        3 => pairs(alloc, &mut state, rounds),
-        4 => strides(alloc, &mut state, rounds),
-        5 => fills(&mut state, rounds),
+        2 => restores(alloc, &mut state, pages, rounds),
+        3 => pairs(alloc, &mut state, pages, rounds),
+        4 => strides(alloc, &mut state, pages, rounds),
+        5 => fills(&mut state, pages, rounds),
+        6 => changes(&mut state, pages, rounds),
         _ => None,
+    }
+}
+
+fn changes(state: &mut State, pages: Pages, rounds: u64) -> Option<u64> {
+    for round in 0..rounds {
+        change(state, pages, round);
+    }
+    Some(rounds)
+}
+
+fn change(state: &mut State, pages: Pages, round: u64) {
+    for page in 0..pages.count {
+        put(state, page.saturating_mul(pages.apart).saturating_mul(4096), (round % 256) as u8);
     }
 }
 
@@ -105,15 +134,12 @@ fn copies(alloc: Global, state: &State, rounds: u64) -> Option<u64> {
     Some(copy.len() as u64)
 }
 
-/// Changes of a byte in each fourth page, and copies of what changed. Two are kept.
-fn freezes(alloc: Global, state: &mut State, pages: u64, rounds: u64) -> Option<u64> {
+/// Changes, and copies of what changed. Two are kept.
+fn freezes(alloc: Global, state: &mut State, pages: Pages, rounds: u64) -> Option<u64> {
     let mut last = state.freeze(alloc).ok()?;
     let mut prev = Arc::try_clone(&last).ok()?;
     for round in 0..rounds {
-        let byte = (round % 256) as u8;
-        for page in 0..pages {
-            put(state, page.saturating_mul(16384), byte);
-        }
+        change(state, pages, round);
         prev = last;
         last = state.freeze(alloc).ok()?;
     }
@@ -122,11 +148,13 @@ fn freezes(alloc: Global, state: &mut State, pages: u64, rounds: u64) -> Option<
 }
 
 /// A state made equal to one copy and the other in turn.
-fn restores(alloc: Global, state: &mut State, rounds: u64) -> Option<u64> {
-    let (first, second) = both(alloc, state)?;
+fn restores(alloc: Global, state: &mut State, pages: Pages, rounds: u64) -> Option<u64> {
+    let (first, second) = both(alloc, state, pages)?;
     let mut copy = State::new(alloc, state.shape()).ok()?;
-    for _ in 0..rounds {
+    for round in 0..rounds {
+        change(&mut copy, pages, round);
         restore(&mut copy, &first);
+        change(&mut copy, pages, round);
         restore(&mut copy, &second);
     }
     Some(copy.len() as u64)
@@ -138,10 +166,11 @@ fn restore(copy: &mut State, from: &Snapshot) {
     }
 }
 
-/// Two copies, which differ in one page.
-fn both(alloc: Global, state: &mut State) -> Option<(Arc<Snapshot>, Arc<Snapshot>)> {
+/// Two copies, which differ in the pages, or in the first one where these are none.
+fn both(alloc: Global, state: &mut State, pages: Pages) -> Option<(Arc<Snapshot>, Arc<Snapshot>)> {
     let first = state.freeze(alloc).ok()?;
-    put(state, 8192, 9);
+    put(state, 0, 9);
+    change(state, pages, 9);
     let second = state.freeze(alloc).ok()?;
     Some((first, second))
 }
@@ -155,8 +184,8 @@ fn pair_of(alloc: Global, prev: &Arc<Snapshot>, last: &Arc<Snapshot>) -> Option<
     Pair::of(alloc, prev, last).ok()
 }
 
-fn pairs(alloc: Global, state: &mut State, rounds: u64) -> Option<u64> {
-    let (first, second) = both(alloc, state)?;
+fn pairs(alloc: Global, state: &mut State, pages: Pages, rounds: u64) -> Option<u64> {
+    let (first, second) = both(alloc, state, pages)?;
     for _ in 0..rounds {
         let _ = pair_of(alloc, &first, &second)?;
     }
@@ -164,13 +193,15 @@ fn pairs(alloc: Global, state: &mut State, rounds: u64) -> Option<u64> {
 }
 
 /// A state made the guess of one pair and the other in turn.
-fn strides(alloc: Global, state: &mut State, rounds: u64) -> Option<u64> {
-    let (first, second) = both(alloc, state)?;
+fn strides(alloc: Global, state: &mut State, pages: Pages, rounds: u64) -> Option<u64> {
+    let (first, second) = both(alloc, state, pages)?;
     let up = pair_of(alloc, &first, &second)?;
     let down = pair_of(alloc, &second, &first)?;
     let mut copy = State::new(alloc, state.shape()).ok()?;
-    for _ in 0..rounds {
+    for round in 0..rounds {
+        change(&mut copy, pages, round);
         stride(&mut copy, &up, 3);
+        change(&mut copy, pages, round);
         stride(&mut copy, &down, 5);
     }
     Some(copy.len() as u64)
@@ -182,9 +213,9 @@ fn stride(copy: &mut State, pair: &Pair, ahead: u32) {
     }
 }
 
-fn fills(state: &mut State, rounds: u64) -> Option<u64> {
-    for _ in 0..rounds {
-        put(state, 8192, 9);
+fn fills(state: &mut State, pages: Pages, rounds: u64) -> Option<u64> {
+    for round in 0..rounds {
+        change(state, pages, round);
         state.fill();
     }
     Some(rounds)
@@ -203,7 +234,7 @@ def build(folder):
     crate = Path(folder, "crates", "asc_copies")
     (crate / "src").mkdir(parents=True)
     (crate / "src/main.rt").write_text(MAIN)
-    command = ["rt", "run", "--", "0", "256", "1", "1", "1"]
+    command = ["rt", "run", "--", "0", "256", "1", "1", "1", "1"]
     done = subprocess.run(command, cwd=crate, stdout=subprocess.PIPE, stderr=subprocess.STDOUT, text=True)
     if done.returncode != 0:
         sys.exit(done.stdout)
@@ -212,8 +243,7 @@ def build(folder):
 # ---------------------------------------------------------------------------------------------------------------------
 # Measuring
 
-COPY, FREEZE, RESTORE, PAIR, STRIDE, FILL = range(6)
-USED = 60
+COPY, FREEZE, RESTORE, PAIR, STRIDE, FILL, CHANGE = range(7)
 
 def seconds(command):
     """The processor's seconds of a run, the least of five."""
@@ -226,24 +256,44 @@ def seconds(command):
         least = taken if least is None else min(least, taken)
     return least
 
-def microseconds(path, what, size, pages, rounds):
+def instructions(command):
+    """The processor's instructions of a run."""
+    tool = ["valgrind", "--tool=callgrind", f"--callgrind-out-file={os.devnull}"]
+    done = subprocess.run(tool + command, capture_output=True, text=True, check=True)
+    shown = next(line for line in done.stderr.splitlines() if "Collected" in line)
+    return int(shown.split(":")[1])
+
+def a_round(cost, path, what, size, used, pages, apart, rounds):
     """What a round costs beyond the program's beginning."""
-    words = lambda count: [str(path), *map(str, (what, size, USED, pages, count))]
-    return (seconds(words(rounds)) - seconds(words(1))) / (rounds - 1) * 1e6
+    words = lambda count: [str(path), *map(str, (what, size, used, pages, apart, count))]
+    return (cost(words(rounds + 2)) - cost(words(2))) / rounds
+
+def time(path):
+    def microseconds(what, size, pages, rounds):
+        return a_round(seconds, path, what, size, 60, pages, 4, rounds) * 1e6
+    print("   KiB  whole copy  freeze 1       4      16  restore    pair  stride    fill")
+    for size in (256, 1024, 65536):
+        whole = microseconds(COPY, size, 0, 40 if size == 65536 else 5000)
+        rounds = 20000
+        freezes = [microseconds(FREEZE, size, pages, rounds) for pages in (1, 4, 16)]
+        both = [microseconds(RESTORE, size, 0, rounds) / 2, microseconds(PAIR, size, 0, rounds),
+                microseconds(STRIDE, size, 0, rounds) / 2, microseconds(FILL, size, 1, rounds)]
+        print(f"{size:6}{whole:12.1f}{freezes[0]:10.2f}{freezes[1]:8.2f}{freezes[2]:8.2f}"
+              f"{both[0]:9.2f}{both[1]:8.2f}{both[2]:8.2f}{both[3]:8.2f}", flush=True)
+
+def count(path):
+    print("pages     KiB   freeze     pair  restore   stride     fill")
+    for pages in (1, 16):
+        for size in (64, 1024, 65536):
+            of = lambda what: a_round(instructions, path, what, size, 4 * pages, pages, 1, 100)
+            changes = of(CHANGE)
+            print(f"{pages:5}{size:8}{of(FREEZE) - changes:9.0f}{of(PAIR):9.0f}{of(RESTORE) / 2 - changes:9.0f}"
+                  f"{of(STRIDE) / 2 - changes:9.0f}{of(FILL) - changes:9.0f}", flush=True)
 
 def main():
     with tempfile.TemporaryDirectory() as folder:
         path = build(folder)
-        print("   KiB  whole copy  freeze 1       4      16  restore    pair  stride    fill")
-        for size in (256, 1024, 65536):
-            whole = microseconds(path, COPY, size, 0, 40 if size == 65536 else 5000)
-            rounds = 20000
-            freezes = [microseconds(path, FREEZE, size, pages, rounds) for pages in (1, 4, 16)]
-            both = [microseconds(path, what, size, 0, rounds) for what in (RESTORE, PAIR, STRIDE, FILL)]
-            both[0] /= 2
-            both[2] /= 2
-            print(f"{size:6}{whole:12.1f}{freezes[0]:10.2f}{freezes[1]:8.2f}{freezes[2]:8.2f}"
-                  f"{both[0]:9.2f}{both[1]:8.2f}{both[2]:8.2f}{both[3]:8.2f}", flush=True)
+        count(path) if "--count" in sys.argv[1:] else time(path)
 
 if __name__ == "__main__":
     main()

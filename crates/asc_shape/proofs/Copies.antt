@@ -1,14 +1,13 @@
 -- Lemmas on the pages of snapshots.
-use Rattle.std.proofs.Common.{◌≡◌, ◌≢◌, inl, inr, ℕ, ◌+◌, ◌*◌, ◌-◌, ◌/◌, ◌%◌, ◌≤◌, ◌<◌, Option, Some, None, List, [], ◌∷◌, ◌++◌, length, take, refl, sym, ap, ◌∙◌, arith, min, subst, slice_index, slice_index_or, length-take, length-append}
+use Rattle.std.proofs.Common.{◌≡◌, ◌≢◌, inl, inr, ℕ, ◌+◌, ◌*◌, ◌-◌, ◌/◌, ◌%◌, ◌≤◌, ◌<◌, Bool, true, false, Option, None, List, [], ◌∷◌, ◌++◌, length, take, refl, sym, ap, ◌∙◌, arith, min, subst, slice_index, slice_index_or, length-take, length-append}
 use Rattle.std.proofs.lemmas.List.{get_or_past, get_or_default, get_or_append_left, get_or-append_right, ext_get_or}
 use Rattle.std.proofs.lemmas.List.FromFn.{length-map-range_with_len, get_or-map-range_with_len}
 use Rattle.std.proofs.lemmas.Bool.{cases_lt}
-use Rattle.std.specs.Global.{Vec}
 use borrow.Rule.Slice.PartMut.{put_mid}
 use Rattle.asc_model.specs.Shape.{Shape, length_of}
 use Rattle.asc_model.specs.State.{State}
 use Rattle.asc_model.proofs.Changes.{length-splice}
-use Rattle.asc_shape.specs.Pages.{Page, Group, page_bytes, group_pages, page_in, byte_in, bytes_in, Fits, HasPages, IsBlankGroup, IsPage, IsGroup, AreGroups}
+use Rattle.asc_shape.specs.Pages.{Page, Group, Span, held, page_in_group, page_in_span, page_in, byte_in, bytes_in, Fits, IsBlank, IsPage, ArePages, KeptPages, IsUnmarked}
 use Rattle.asc_shape.proofs.States.{put_mid-splice}
 use Rattle.asc_shape.proofs.Pages.{splice_beside}
 
@@ -21,16 +20,16 @@ unfolding bytes_in
 byte-bytes_in n i pages within = get_or-map-range_with_len (byte_in pages) 0 n i i 0 within (omega arith)
 
 -- past the end a page has nothing
-page_past : (n p i : ℕ) (page : List ℕ) → Fits n p page → i / 4096 ≡ p → n ≤ i → slice_index page (i % 4096) ≡ 0
+pub page_past : (n p i : ℕ) (page : List ℕ) → Fits n p page → i / 4096 ≡ p → n ≤ i → slice_index page (i % 4096) ≡ 0
 page_past n p i page fits here past = elim (cases_lt 0 (length page)) [
   | inl some ↦ get_or_past page (i % 4096) 0 (omega (arith, fits some))
   | inr none ↦ get_or_past page (i % 4096) 0 (omega arith)
 ]
 
 -- each of the pages is a page of their bytes
-pub page_is : (n p : ℕ) (pages : ℕ → List ℕ) → Fits n p (pages p) → IsPage (bytes_in n pages) p (pages p)
+pub page_is : (n p : ℕ) (pages : ℕ → List ℕ) → Fits n p (pages p) → IsPage n (bytes_in n pages) p (pages p)
 page_is n p pages fits = record {
-  fits = subst (λ k. Fits k p (pages p)) (sym (length-bytes_in n pages)) fits;
+  fits = fits;
   places = λ i here. elim (cases_lt i n) [
     | inl within ↦ byte-bytes_in n i pages within ∙ ap (λ k. slice_index (pages k) (i % 4096)) here
     | inr past ↦ get_or_past (bytes_in n pages) i 0 (omega (arith, length-bytes_in n pages)) ∙ sym (page_past n p i (pages p) fits here past)
@@ -38,94 +37,170 @@ page_is n p pages fits = record {
 }
 
 -- a page that is left out is part of any state
-no_page : (n p : ℕ) → Fits n p []
+pub no_page : (n p : ℕ) → Fits n p []
 no_page n p some = absurd (let h : ⊥ = omega arith in h)
 
--- the groups of some bytes are groups
-pub are_groups : (n : ℕ) (bytes : List ℕ) (groups : List (Option Group)) → length bytes ≡ n → length groups ≡ n / 4096 / 64 + 1
-    → ((g : ℕ) → g < length groups → IsGroup bytes g (slice_index_or groups g None)) → AreGroups n groups
-are_groups n bytes groups size count each = record {
-  count = count;
-  counts = λ g. elim (cases_lt g (length groups)) [
-    | inl within ↦ subst (λ k. HasPages k g (slice_index_or groups g None)) size (each g within).count
-    | inr past ↦ subst (λ (group : Option Group). HasPages n g group) (sym (get_or_past groups g None past)) tt
-  ];
-  fit = λ p. elim (cases_lt (p / 64) (length groups)) [
-    | inl within ↦ subst (λ k. Fits k p (page_in groups p)) size ((each (p / 64) within).pages p refl).fits
-    | inr past ↦ subst (λ (group : Option Group). Fits n p (page_bytes (slice_index_or (group_pages group) (p % 64) None))) (sym (get_or_past groups (p / 64) None past)) (no_page n p)
-  ];
+-- a list with nothing in it
+pub no_parts : {A : Type 0} (list : List A) → length list ≡ 0 → list ≡ []
+no_parts [] none = refl
+no_parts (part ∷ list) none = absurd (let h : ⊥ = omega arith in h)
+
+-- what is left out has no pages
+pub none_in_group : (k : ℕ) → page_in_group [] k ≡ []
+none_in_group k = ap (λ (page : Option Page). held page) (get_or_past [] k None (omega arith))
+
+pub none_in_span : (k : ℕ) → page_in_span [] k ≡ []
+none_in_span k = ap (λ (group : Option Group). page_in_group (held group) (k % 32)) (get_or_past [] (k / 32) None (omega arith)) ∙ none_in_group (k % 32)
+
+-- a page of zeros is left out
+pub page_of_zeros : (n : ℕ) (bytes : List ℕ) (p : ℕ) (page : List ℕ) → page ≡ [] → IsBlank bytes p → IsPage n bytes p page
+page_of_zeros n bytes p page none blank = record {
+  fits = subst (λ (l : List ℕ). Fits n p l) (sym none) (no_page n p);
+  places = λ i here. blank i here ∙ ap (λ (l : List ℕ). slice_index l (i % 4096)) (sym none);
 }
 
--- and they have these bytes
-pub bytes_of_groups : (n : ℕ) (bytes : List ℕ) (groups : List (Option Group)) → length bytes ≡ n → length groups ≡ n / 4096 / 64 + 1
-    → ((g : ℕ) → g < length groups → IsGroup bytes g (slice_index_or groups g None)) → bytes_in n (page_in groups) ≡ bytes
-bytes_of_groups n bytes groups size count each =
-    ext_get_or 0 (bytes_in n (page_in groups)) bytes (length-bytes_in n (page_in groups) ∙ sym size)
-    (λ i within. let inside : i < n = omega (arith, length-bytes_in n (page_in groups)) in
-    byte-bytes_in n i (page_in groups) inside ∙ sym (((each (i / 4096 / 64) (omega arith)).pages (i / 4096) refl).places i refl))
+-- a page with nothing in it is blank
+pub page_blank : (n : ℕ) (target : List ℕ) (p : ℕ) (page : List ℕ) → IsPage n target p page → length page ≡ 0 → IsBlank target p
+page_blank n target p page is none i here = is.places i here ∙ get_or_past page (i % 4096) 0 (omega arith)
 
--- a page of bytes that are the same there
-pub shared : (base bytes page : List ℕ) (p : ℕ) → IsPage base p page → length base ≡ length bytes
-    → ((i : ℕ) → i / 4096 ≡ p → slice_index bytes i ≡ slice_index base i) → IsPage bytes p page
-shared base bytes page p is size same = record {
-  fits = subst (λ n. Fits n p page) size is.fits;
-  places = λ i here. same i here ∙ is.places i here;
-}
+-- there is nothing past the end
+pub blank_past : (n : ℕ) (bytes : List ℕ) (p : ℕ) → length bytes ≡ n → n / 4096 + 1 ≤ p → IsBlank bytes p
+blank_past n bytes p size past i here = get_or_past bytes i 0 (omega arith)
 
--- a group of bytes that are the same there
-pub shared_group : (base bytes : List ℕ) (g : ℕ) (group : Option Group) → IsGroup base g group → length base ≡ length bytes
-    → ((i : ℕ) → i < length bytes → i / 4096 / 64 ≡ g → slice_index bytes i ≡ slice_index base i) → IsGroup bytes g group
-shared_group base bytes g group is size same = record {
-  count = subst (λ n. HasPages n g group) size is.count;
-  pages = λ p here. shared base bytes (page_bytes (slice_index_or (group_pages group) (p % 64) None)) p (is.pages p here) size
-      (λ i at. elim (cases_lt i (length bytes)) [
-        | inl within ↦ same i within (ap (λ k. k / 64) at ∙ here)
-        | inr past ↦ get_or_past bytes i 0 past ∙ sym (get_or_past base i 0 (omega arith))
-      ]);
-}
-
--- a page and a group of zeros are left out
-pub blank_page : (bytes : List ℕ) (p : ℕ) → ((i : ℕ) → i / 4096 ≡ p → slice_index bytes i ≡ 0) → IsPage bytes p []
-blank_page bytes p blank = record { fits = no_page (length bytes) p; places = blank }
-
-pub blank_group : (bytes : List ℕ) (g : ℕ) → ((i : ℕ) → i < length bytes → i / 4096 / 64 ≡ g → slice_index bytes i ≡ 0) → IsGroup bytes g None
-blank_group bytes g blank = record {
-  count = tt;
-  pages = λ p here. blank_page bytes p (λ i at. elim (cases_lt i (length bytes)) [
-    | inl within ↦ blank i within (ap (λ k. k / 64) at ∙ here)
-    | inr past ↦ get_or_past bytes i 0 past
-  ]);
-}
-
--- a group of its pages
-pub group_made : (bytes : List ℕ) (g : ℕ) (group : Group) → length group.value.items ≡ min 64 (length bytes / 4096 + 1 - 64 * g)
-    → ((k : ℕ) → k < length group.value.items → IsPage bytes (64 * g + k) (page_bytes (slice_index_or group.value.items k None)))
-    → IsGroup bytes g (Some group)
-group_made bytes g group count each = record {
-  count = count;
-  pages = λ p here. elim (cases_lt (p % 64) (length group.value.items)) [
-    | inl within ↦ subst (λ q. IsPage bytes q (page_bytes (slice_index_or group.value.items (p % 64) None))) (let e : 64 * g + p % 64 ≡ p = omega arith in e) (each (p % 64) within)
-    | inr past ↦ subst (λ (page : Option Page). IsPage bytes p (page_bytes page)) (sym (get_or_past group.value.items (p % 64) None past))
-        (blank_page bytes p (λ i at. get_or_past bytes i 0 (omega arith)))
-  ];
-}
-
--- a page more of a group
-pub pages_more : (bytes : List ℕ) (g p : ℕ) (pages new : List (Option Page)) (page : Option Page) → new ≡ pages ++ page ∷ [] → 64 * g + length pages ≡ p
-    → ((k : ℕ) → k < length pages → IsPage bytes (64 * g + k) (page_bytes (slice_index_or pages k None))) → IsPage bytes p (page_bytes page)
-    → (64 * g + length new ≡ p + 1) × ((k : ℕ) → k < length new → IsPage bytes (64 * g + k) (page_bytes (slice_index_or new k None)))
-pages_more bytes g p pages new page more count each is =
-    let size : length new ≡ length pages + 1 = ap (λ (l : List (Option Page)). length l) more ∙ length-append pages (page ∷ []) in (
-      omega arith,
-      (λ k within. subst (λ (l : List (Option Page)). IsPage bytes (64 * g + k) (page_bytes (slice_index_or l k None))) (sym more)
-          (elim (cases_lt k (length pages)) [
-            | inl below ↦ subst (λ (one : Option Page). IsPage bytes (64 * g + k) (page_bytes one)) (sym (get_or_append_left pages (page ∷ []) None k below)) (each k below)
-            | inr here ↦ let last : k ≡ length pages = omega arith in
-                subst (λ (one : Option Page). IsPage bytes (64 * g + k) (page_bytes one))
-                (sym (get_or-append_right pages (page ∷ []) (length pages) k None refl here ∙ ap (λ j. slice_index_or (page ∷ []) j None) (let e : k - length pages ≡ 0 = omega arith in e)))
-                (subst (λ q. IsPage bytes q (page_bytes page)) (let e : p ≡ 64 * g + k = omega arith in e) is)
+-- a part more of a list of parts
+pub each_more : {A : Type 0} (P : ℕ → Option A → Type 0) (list new : List (Option A)) (part : Option A) → new ≡ list ++ part ∷ []
+    → ((k : ℕ) → k < length list → P k (slice_index_or list k None)) → P (length list) part
+    → (length new ≡ length list + 1) × ((k : ℕ) → k < length new → P k (slice_index_or new k None))
+each_more {A} P list new part more each is =
+    let size : length new ≡ length list + 1 = ap (λ (l : List (Option A)). length l) more ∙ length-append list (part ∷ []) in (
+      size,
+      (λ k within. subst (λ (l : List (Option A)). P k (slice_index_or l k None)) (sym more)
+          (elim (cases_lt k (length list)) [
+            | inl below ↦ subst (λ (one : Option A). P k one) (sym (get_or_append_left list (part ∷ []) None k below)) (each k below)
+            | inr here ↦ let last : k ≡ length list = omega arith in
+                subst (λ (one : Option A). P k one)
+                (sym (get_or-append_right list (part ∷ []) (length list) k None refl here ∙ ap (λ j. slice_index_or (part ∷ []) j None) (let e : k - length list ≡ 0 = omega arith in e)))
+                (subst (λ j. P j part) (sym last) is)
           ])),
     )
+
+-- the pages of a group, where those behind them lie past the end
+pub group_made : (n : ℕ) (bytes : List ℕ) (g : ℕ) (pages : List (Option Page)) → length bytes ≡ n
+    → ((k : ℕ) → length pages ≤ k → k < 32 → n / 4096 + 1 ≤ 32 * g + k)
+    → ((k : ℕ) → k < length pages → IsPage n bytes (32 * g + k) (held (slice_index_or pages k None)))
+    → ArePages n bytes (32 * g) 32 (page_in_group pages)
+group_made n bytes g pages size all each k within = elim (cases_lt k (length pages)) [
+  | inl inside ↦ each k inside
+  | inr past ↦ page_of_zeros n bytes (32 * g + k) (page_in_group pages k) (ap (λ (page : Option Page). held page) (get_or_past pages k None past)) (blank_past n bytes (32 * g + k) size (all k past within))
+]
+
+-- the same of a span
+pub span_made : (n : ℕ) (bytes : List ℕ) (s : ℕ) (groups : List (Option Group)) → length bytes ≡ n
+    → ((k : ℕ) → length groups ≤ k → k < 32 → n / 4096 + 1 ≤ 32 * (32 * s + k))
+    → ((k : ℕ) → k < length groups → ArePages n bytes (32 * (32 * s + k)) 32 (page_in_group (held (slice_index_or groups k None))))
+    → ArePages n bytes (1024 * s) 1024 (page_in_span groups)
+span_made n bytes s groups size all each k within =
+    let place : 32 * (32 * s + k / 32) + k % 32 ≡ 1024 * s + k = omega arith in
+    elim (cases_lt (k / 32) (length groups)) [
+      | inl inside ↦ subst (λ p. IsPage n bytes p (page_in_span groups k)) place (each (k / 32) inside (k % 32) (omega arith))
+      | inr past ↦
+          let h = all (k / 32) past (omega arith) in
+          page_of_zeros n bytes (1024 * s + k) (page_in_span groups k)
+          (ap (λ (group : Option Group). page_in_group (held group) (k % 32)) (get_or_past groups (k / 32) None past) ∙ none_in_group (k % 32))
+          (blank_past n bytes (1024 * s + k) size (omega arith))
+    ]
+
+-- and of all spans
+pub spans_made : (n : ℕ) (bytes : List ℕ) (spans : List (Option Span)) → length bytes ≡ n → n / 4096 + 1 ≤ 1024 * length spans
+    → ((k : ℕ) → k < length spans → ArePages n bytes (1024 * k) 1024 (page_in_span (held (slice_index_or spans k None))))
+    → (p : ℕ) → IsPage n bytes p (page_in spans p)
+spans_made n bytes spans size all each p =
+    let place : 1024 * (p / 1024) + p % 1024 ≡ p = omega arith in
+    elim (cases_lt (p / 1024) (length spans)) [
+      | inl inside ↦ subst (λ q. IsPage n bytes q (page_in spans p)) place (each (p / 1024) inside (p % 1024) (omega arith))
+      | inr past ↦ page_of_zeros n bytes p (page_in spans p)
+          (ap (λ (span : Option Span). page_in_span (held span) (p % 1024)) (get_or_past spans (p / 1024) None past) ∙ none_in_span (p % 1024))
+          (blank_past n bytes p size (omega arith))
+    ]
+
+-- they have these bytes
+pub bytes_of_spans : (n : ℕ) (bytes : List ℕ) (spans : List (Option Span)) → length bytes ≡ n → ((p : ℕ) → IsPage n bytes p (page_in spans p))
+    → bytes_in n (page_in spans) ≡ bytes
+bytes_of_spans n bytes spans size each =
+    ext_get_or 0 (bytes_in n (page_in spans)) bytes (length-bytes_in n (page_in spans) ∙ sym size)
+    (λ i within. let inside : i < n = omega (arith, length-bytes_in n (page_in spans)) in
+    byte-bytes_in n i (page_in spans) inside ∙ sym ((each (i / 4096)).places i refl))
+
+-- what holds of each page of a span holds of each page of a group of it
+pub pages_of_span : (P : ℕ → List ℕ → Type 0) (s g k : ℕ) (groups : List (Option Group)) (pages : List (Option Page))
+    → ((j : ℕ) → j < 1024 → P (1024 * s + j) (page_in_span groups j)) → k < 32 → g ≡ 32 * s + k → pages ≡ held (slice_index_or groups k None)
+    → (j : ℕ) → j < 32 → P (32 * g + j) (page_in_group pages j)
+pages_of_span P s g k groups pages each within here is j inside =
+    let place : 1024 * s + (32 * k + j) ≡ 32 * g + j = omega arith in
+    let group : (32 * k + j) / 32 ≡ k = omega arith in
+    let page : (32 * k + j) % 32 ≡ j = omega arith in
+    subst (λ (l : List (Option Page)). P (32 * g + j) (page_in_group l j)) (sym is)
+    (subst (λ q. P q (page_in_group (held (slice_index_or groups k None)) j)) place
+    (subst (λ a. P (1024 * s + (32 * k + j)) (page_in_group (held (slice_index_or groups a None)) j)) group
+    (subst (λ b. P (1024 * s + (32 * k + j)) (page_in_group (held (slice_index_or groups ((32 * k + j) / 32) None)) b)) page
+    (each (32 * k + j) (omega arith)))))
+
+-- and what holds of each page of spans of each page of one
+pub pages_of_spans : (n : ℕ) (bytes : List ℕ) (s : ℕ) (spans : List (Option Span)) (groups : List (Option Group)) → ((p : ℕ) → IsPage n bytes p (page_in spans p))
+    → groups ≡ held (slice_index_or spans s None) → ArePages n bytes (1024 * s) 1024 (page_in_span groups)
+pages_of_spans n bytes s spans groups each is j inside =
+    let span : (1024 * s + j) / 1024 ≡ s = omega arith in
+    let page : (1024 * s + j) % 1024 ≡ j = omega arith in
+    subst (λ (l : List (Option Group)). IsPage n bytes (1024 * s + j) (page_in_span l j)) (sym is)
+    (subst (λ a. IsPage n bytes (1024 * s + j) (page_in_span (held (slice_index_or spans a None)) j)) span
+    (subst (λ b. IsPage n bytes (1024 * s + j) (page_in_span (held (slice_index_or spans ((1024 * s + j) / 1024) None)) b)) page
+    (each (1024 * s + j))))
+
+-- a page of a span, as it is read
+pub page_read : (n : ℕ) (bytes : List ℕ) (p : ℕ) (groups : List (Option Group)) (pages : List (Option Page)) (page : List ℕ)
+    → ArePages n bytes (1024 * (p / 1024)) 1024 (page_in_span groups)
+    → pages ≡ held (slice_index_or groups (p / 32 % 32) None) → page ≡ held (slice_index_or pages (p % 32) None) → IsPage n bytes p page
+page_read n bytes p groups pages page are group is =
+    let each = pages_of_span (IsPage n bytes) (p / 1024) (p / 32) (p / 32 % 32) groups pages are (omega arith) (omega arith) group in
+    let place : 32 * (p / 32) + p % 32 ≡ p = omega arith in
+    subst (λ (l : List ℕ). IsPage n bytes p l) (sym is)
+    (subst (λ q. IsPage n bytes q (page_in_group pages (p % 32))) place (each (p % 32) (omega arith)))
+
+-- pages of no bytes are left out
+pub none_are : (n from count : ℕ) (pages : ℕ → List ℕ) → ((k : ℕ) → pages k ≡ []) → ArePages n [] from count pages
+none_are n from count pages none k within = page_of_zeros n [] (from + k) (pages k) (none k) (λ i here. get_or_past [] i 0 (omega arith))
+
+-- pages of bytes that are the same where no page is marked
+pub kept_pages : (marks : List Bool) (n : ℕ) (base bytes : List ℕ) (from count : ℕ) (pages : ℕ → List ℕ) → length bytes ≡ n → length marks ≡ n / 4096 + 1
+    → ((i : ℕ) → from ≤ i / 4096 → slice_index_or marks (i / 4096) true ≡ false → slice_index bytes i ≡ slice_index base i)
+    → ArePages n base from count pages → KeptPages marks n bytes from count pages
+kept_pages marks n base bytes from count pages size marked same are k within free = record {
+  fits = (are k within).fits;
+  places = λ i here. elim (cases_lt (from + k) (length marks)) [
+    | inl inside ↦ same i (omega arith) (ap (λ p. slice_index_or marks p true) here ∙ get_or_default marks (from + k) true false inside ∙ free) ∙ (are k within).places i here
+    | inr past ↦ blank_past n bytes (from + k) size (omega arith) i here ∙ sym (page_past n (from + k) i (pages k) (are k within).fits here (omega arith))
+  ];
+}
+
+-- where none of them is marked
+pub kept_all : (marks : List Bool) (n : ℕ) (bytes : List ℕ) (from count : ℕ) (pages : ℕ → List ℕ)
+    → IsUnmarked marks from count → KeptPages marks n bytes from count pages → ArePages n bytes from count pages
+kept_all marks n bytes from count pages free kept k within = kept k within (elim (cases_lt (from + k) (length marks)) [
+  | inl inside ↦ get_or_default marks (from + k) false true inside ∙ free (from + k) (omega arith) (omega arith) inside
+  | inr past ↦ get_or_past marks (from + k) false past
+])
+
+-- a page that is read among the pages of a group
+pub page_here : (n : ℕ) (bytes : List ℕ) (g p k : ℕ) (pages : List (Option Page)) (page : List ℕ) → ArePages n bytes (32 * g) 32 (page_in_group pages) → k < 32 → p ≡ 32 * g + k
+    → page ≡ page_in_group pages k → IsPage n bytes p page
+page_here n bytes g p k pages page are within here is =
+    subst (λ (l : List ℕ). IsPage n bytes p l) (sym is) (subst (λ q. IsPage n bytes q (page_in_group pages k)) (sym here) (are k within))
+
+-- the pages of a snapshot
+pub snapshot_pages : (s : State) (shape : Shape) (spans : List (Option Span)) → record { shape = shape; bytes = bytes_in (length_of shape) (page_in spans) } ≡ s
+    → ((p : ℕ) → Fits (length_of shape) p (page_in spans p)) → (p : ℕ) → IsPage (length_of s.shape) s.bytes p (page_in spans p)
+snapshot_pages s shape spans is fit p =
+    subst (λ (t : State). IsPage (length_of t.shape) t.bytes p (page_in spans p)) is (page_is (length_of shape) p (page_in spans) (fit p))
 
 -- a byte of a part that was written over
 pub put_within : (bytes new : List ℕ) (at k i : ℕ) → length new ≡ k → at + k ≤ length bytes → at ≤ i → i < at + k → slice_index (put_mid at k bytes new) i ≡ slice_index new (i - at)
@@ -158,93 +233,3 @@ put_elsewhere bytes new p from to start end within size i other =
       | inl inside ↦ splice_beside bytes new from i (omega arith) (elim (cases_lt i from) [ inl below ↦ inl below | inr above ↦ inr (omega arith) ])
       | inr past ↦ splice_beside bytes new from i (omega arith) (inr (omega arith))
     ]
-
--- what is read as page p of a snapshot is page p of its bytes
-pub page_read : (s : State) (shape : Shape) (groups : List (Option Group)) (p : ℕ) → record { shape = shape; bytes = bytes_in (length_of shape) (page_in groups) } ≡ s
-    → AreGroups (length_of shape) groups → IsPage s.bytes p (page_in groups p)
-page_read s shape groups p is are =
-    subst (λ (t : State). IsPage t.bytes p (page_in groups p)) is (page_is (length_of shape) p (page_in groups) (are.fit p))
-
--- what is read as a group of a snapshot, if it is there
-pub group_read : (groups : List (Option Group)) (g : ℕ) (read group : Option Group) → g < length groups → read ≡ slice_index_or groups g read → read ≡ group
-    → slice_index_or groups g None ≡ group
-group_read groups g read group within here same = sym (here ∙ get_or_default groups g read None within) ∙ same
-
--- the page of a group that is left out
-pub page_none : (groups : List (Option Group)) (p : ℕ) → slice_index_or groups (p / 64) None ≡ None → page_in groups p ≡ []
-page_none groups p none = ap (λ (group : Option Group). page_bytes (slice_index_or (group_pages group) (p % 64) None)) none
-
--- the page that is read in a group
-pub page_some : (groups : List (Option Group)) (p : ℕ) (group : Group) (read page : Option Page) → slice_index_or groups (p / 64) None ≡ Some group
-    → p % 64 < length group.value.items → read ≡ slice_index_or group.value.items (p % 64) read → read ≡ page → page_in groups p ≡ page_bytes page
-page_some groups p group read page there within here same =
-    ap (λ (one : Option Group). page_bytes (slice_index_or (group_pages one) (p % 64) None)) there
-    ∙ ap page_bytes (sym (here ∙ get_or_default group.value.items (p % 64) read None within) ∙ same)
-
--- how many pages a group that is there has
-pub count_some : (n g : ℕ) (groups : List (Option Group)) (group : Group) → AreGroups n groups → slice_index_or groups g None ≡ Some group
-    → length group.value.items ≡ min 64 (n / 4096 + 1 - 64 * g)
-count_some n g groups group are there = subst (λ (one : Option Group). HasPages n g one) there (are.counts g)
-
--- a group that is left out is blank
-pub group_none : (s : State) (shape : Shape) (groups : List (Option Group)) (g : ℕ) → record { shape = shape; bytes = bytes_in (length_of shape) (page_in groups) } ≡ s
-    → AreGroups (length_of shape) groups → slice_index_or groups g None ≡ None → IsBlankGroup s.bytes g
-group_none s shape groups g is are none p here i at =
-    (page_read s shape groups p is are).places i at
-    ∙ ap (λ (l : List ℕ). slice_index l (i % 4096)) (page_none groups p (ap (λ k. slice_index_or groups k None) here ∙ none))
-
--- what is read as group g of a snapshot is group g of its bytes
-pub group_is : (s : State) (shape : Shape) (groups : List (Option Group)) (g : ℕ) (group : Option Group)
-    → record { shape = shape; bytes = bytes_in (length_of shape) (page_in groups) } ≡ s
-    → AreGroups (length_of shape) groups → slice_index_or groups g None ≡ group → IsGroup s.bytes g group
-group_is s shape groups g group is are there = record {
-  count = subst (λ (t : State). HasPages (length t.bytes) g group) is
-      (subst (λ n. HasPages n g group) (sym (length-bytes_in (length_of shape) (page_in groups)))
-      (subst (λ (one : Option Group). HasPages (length_of shape) g one) there (are.counts g)));
-  pages = λ p here. subst (λ (one : Option Group). IsPage s.bytes p (page_bytes (slice_index_or (group_pages one) (p % 64) None)))
-      (ap (λ k. slice_index_or groups k None) here ∙ there) (page_read s shape groups p is are);
-}
-
--- a group that is shared is the same one
-pub same_group : (bytes : List ℕ) (g : ℕ) (group again : Group) → again.value ≡ group.value → IsGroup bytes g (Some group) → IsGroup bytes g (Some again)
-same_group bytes g group again same is = record {
-  count = ap (λ (v : Vec (Option Page)). length v.items) same ∙ is.count;
-  pages = λ p here. subst (λ (v : Vec (Option Page)). IsPage bytes p (page_bytes (slice_index_or v.items (p % 64) None))) (sym same) (is.pages p here);
-}
-
--- how many groups a snapshot has
-groups_within : (s : State) (shape : Shape) (groups : List (Option Group)) (g : ℕ) → record { shape = shape; bytes = bytes_in (length_of shape) (page_in groups) } ≡ s
-    → AreGroups (length_of shape) groups → g < length_of s.shape / 4096 / 64 + 1 → g < length groups
-groups_within s shape groups g is are within =
-    let size = ap (λ (t : State). length_of t.shape) is in omega (arith, are.count)
-
--- what group g of a snapshot is, as it is read
-pub group_here : (s : State) (shape : Shape) (groups : List (Option Group)) (g : ℕ) (read group : Option Group)
-    → record { shape = shape; bytes = bytes_in (length_of shape) (page_in groups) } ≡ s
-    → AreGroups (length_of shape) groups → g < length_of s.shape / 4096 / 64 + 1 → read ≡ slice_index_or groups g read → read ≡ group → slice_index_or groups g None ≡ group
-group_here s shape groups g read group is are within here same = group_read groups g read group (groups_within s shape groups g is are within) here same
-
--- page p of a snapshot in a group that is left out
-pub page_none_is : (s : State) (shape : Shape) (groups : List (Option Group)) (p : ℕ) (read : Option Group)
-    → record { shape = shape; bytes = bytes_in (length_of shape) (page_in groups) } ≡ s
-    → AreGroups (length_of shape) groups → p < length_of s.shape / 4096 + 1 → read ≡ slice_index_or groups (p / 64) read → read ≡ None → IsPage s.bytes p []
-page_none_is s shape groups p read is are within here same =
-    subst (λ (l : List ℕ). IsPage s.bytes p l)
-    (page_none groups p (group_here s shape groups (p / 64) read None is are (omega arith) here same)) (page_read s shape groups p is are)
-
--- page p of a snapshot in a group that is there
-pub page_some_is : (s : State) (shape : Shape) (groups : List (Option Group)) (p : ℕ) (one : Option Group) (group : Group) (pages : Vec (Option Page)) (two page : Option Page)
-    → record { shape = shape; bytes = bytes_in (length_of shape) (page_in groups) } ≡ s
-    → AreGroups (length_of shape) groups → p < length_of s.shape / 4096 + 1 → one ≡ slice_index_or groups (p / 64) one → one ≡ Some group
-    → pages ≡ group.value → two ≡ slice_index_or pages.items (p % 64) two → two ≡ page → IsPage s.bytes p (page_bytes page)
-page_some_is s shape groups p one group pages two page is are within here same value read is_page =
-    let there = group_here s shape groups (p / 64) one (Some group) is are (omega arith) here same in
-    let size = ap (λ (t : State). length_of t.shape) is in
-    let count = count_some (length_of shape) (p / 64) groups group are there in
-    subst (λ (l : List ℕ). IsPage s.bytes p l)
-    (page_some groups p group two page there (omega arith) (read ∙ ap (λ (v : Vec (Option Page)). slice_index_or v.items (p % 64) two) value) is_page)
-    (page_read s shape groups p is are)
-
--- a page that is shared is the same one
-pub same_page : (bytes : List ℕ) (p : ℕ) (page again : Page) → again.value ≡ page.value → IsPage bytes p (page_bytes (Some page)) → IsPage bytes p (page_bytes (Some again))
-same_page bytes p page again same is = subst (λ (v : Vec ℕ). IsPage bytes p v.items) (sym same) is

@@ -1,11 +1,11 @@
 -- Lemmas on the pages in which two states differ, and on striding them one by one.
-use Rattle.std.proofs.Common.{◌≡◌, ◌≢◌, ◌⊎◌, inl, inr, ℕ, zero, suc, ◌^◌, add-zero, ◌+◌, ◌*◌, ◌-◌, ◌/◌, ◌%◌, ◌≤◌, ◌<◌, List, [], ◌∷◌, ◌++◌, length, refl, sym, ap, ◌∙◌, arith, slice_index, length-append}
+use Rattle.std.proofs.Common.{◌≡◌, ◌≢◌, ◌⊎◌, inl, inr, ℕ, zero, suc, ◌^◌, add-zero, ◌+◌, ◌*◌, ◌-◌, ◌/◌, ◌%◌, ◌≤◌, ◌<◌, List, [], ◌∷◌, ◌++◌, length, min, refl, sym, ap, ◌∙◌, arith, slice_index, length-append}
 use Rattle.std.proofs.lemmas.List.{get_or_past, get_or_append_left, get_or-append_right, ext_get_or}
 use Rattle.std.proofs.lemmas.Bool.{cases_eq, cases_lt}
 use Rattle.asc_model.specs.Number.{AreBytes, word_at, bytes_of}
 use native.Mathlib.Nat.{mul-zero}
 use Rattle.asc_model.proofs.Numbers.{word_at-from_le_bytes, bytes_of-number_of, word_at-below}
-use Rattle.asc_shape.specs.Pages.{Differ}
+use Rattle.asc_shape.specs.Pages.{Differ, IsPage, ListsOn}
 use Rattle.asc_shape.specs.Stride.{strided, strided_byte, strided_word}
 use Rattle.asc_shape.proofs.Strides.{length-strided, byte-strided, word_same}
 
@@ -13,6 +13,11 @@ use Rattle.asc_shape.proofs.Strides.{length-strided, byte-strided, word_same}
 abbrev pub IsStrided : ℕ → List ℕ → List ℕ → ℕ → List ℕ → List ℕ → Type 0
 IsStrided ahead last prev k pages bytes = (i : ℕ) → (slice_index bytes i ≡ slice_index (strided ahead last prev) i)
     ⊎ ((slice_index bytes i ≡ slice_index last i) × ((j : ℕ) × (k ≤ j) × (j < length pages) × (slice_index pages j ≡ i / 4096)))
+
+-- pages that are the same
+pub same_page : (n : ℕ) (first second : List ℕ) (p : ℕ) (one other : List ℕ) → IsPage n first p one → IsPage n second p other → one ≡ other
+    → (i : ℕ) → i / 4096 ≡ p → slice_index first i ≡ slice_index second i
+same_page n first second p one other is are same i here = is.places i here ∙ ap (λ (l : List ℕ). slice_index l (i % 4096)) same ∙ sym (are.places i here)
 
 -- a page more that is the same
 pub differ_same : (first second : List ℕ) (p : ℕ) (pages : List ℕ) → Differ first second p pages
@@ -59,6 +64,15 @@ differ_blank first second p q pages so least same = record {
     | inr here ↦ inl (same r here below)
   ];
 }
+
+-- pages that are left out in both
+pub lists_none : (from count most : ℕ) (one two : ℕ → List ℕ) (old : List ℕ) → from ≤ most → ((k : ℕ) → one k ≡ []) → ((k : ℕ) → two k ≡ []) → ListsOn from count most one two old old
+lists_none from count most one two old within none empty n first second are also so =
+    differ_blank first second from (min (from + count) most) old so (omega arith)
+    (λ r least below i at.
+    let inside : r - from < count = omega arith in
+    let here : i / 4096 ≡ from + (r - from) = omega arith in
+    same_page n first second (from + (r - from)) (one (r - from)) (two (r - from)) (are (r - from) inside) (also (r - from) inside) (none (r - from) ∙ sym (empty (r - from))) i here)
 
 -- a word that did not change stays
 stay_word : (ahead word : ℕ) → word < 2 ^ 32 → strided_word ahead word word ≡ word

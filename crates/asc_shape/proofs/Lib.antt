@@ -4,6 +4,7 @@ pub mod Made
 pub mod Covers
 pub mod Pages
 pub mod Copies
+pub mod Puts
 pub mod Restores
 pub mod Snapshots
 pub mod Strides

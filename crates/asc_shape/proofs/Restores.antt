@@ -1,56 +1,39 @@
--- Lemmas on a state that is made equal to a snapshot, page by page.
-use Rattle.std.proofs.Common.{refl, min, not, ◌*◌, ◌%◌, ◌≡◌, ◌≢◌, inl, inr, ℕ, ◌+◌, ◌/◌, ◌≤◌, ◌<◌, Bool, true, false, None, List, [], replicate, length, sym, subst, ap, ◌∙◌, arith, slice_index, slice_index_or, slice_set}
-use Rattle.std.proofs.lemmas.List.{length-set, get_or_past, get_or-set_same, get_or-set_other, ext_get_or, with_items_is, length-replicate, get_or-replicate}
-use Rattle.std.proofs.lemmas.Bool.{cases_eq, cases_lt, false≢true}
+-- Lemmas on a state that is made equal to a snapshot, span by span.
+use Rattle.std.proofs.Common.{not, ◌*◌, ◌-◌, ◌≡◌, inl, inr, ℕ, ◌+◌, ◌/◌, ◌≤◌, ◌<◌, Bool, true, false, None, List, [], replicate, length, refl, sym, subst, ap, ◌∙◌, arith, slice_index_or, slice_set}
+use Rattle.std.proofs.lemmas.List.{length-set, get_or_past, get_or-set_same, ext_get_or, with_items_is, length-replicate, get_or-replicate}
+use Rattle.std.proofs.lemmas.Bool.{cases_lt, false≢true}
 use Rattle.std.specs.Vec.{with_items}
 use Rattle.std.specs.Global.{Vec}
 use Rattle.asc_model.specs.Shape.{Shape, IsShape, length_of}
-use Rattle.asc_shape.specs.Pages.{IsBlank, IsBlankGroup, IsPage, IsUnmarked, IsRestored}
+use Rattle.asc_shape.specs.Pages.{ArePages, IsPut, IsRestored}
 use Rattle.asc_shape.specs.Inside.{IsInside}
 use Rattle.asc_shape.proofs.Pages.{unmarked}
-
--- a page more
-pub restored_more : (target base bytes new : List ℕ) (marks : List Bool) (p : ℕ) (mark : Bool) → IsRestored target p base bytes marks → p < length marks
-    → ((i : ℕ) → i / 4096 ≡ p → slice_index new i ≡ slice_index target i)
-    → ((i : ℕ) → i / 4096 ≢ p → slice_index new i ≡ slice_index bytes i)
-    → (mark ≡ false → IsBlank target p)
-    → IsRestored target (p + 1) base new (slice_set marks p mark)
-restored_more target base bytes new marks p mark so within page others blank = record {
-  done = λ i below. elim (cases_eq (i / 4096) p) [
-    | inl here ↦ page i here
-    | inr other ↦ others i other ∙ so.done i (omega arith)
-  ];
-  blank = λ i below free. elim (cases_eq (i / 4096) p) [
-    | inl here ↦ page i here ∙ blank (sym (get_or-set_same marks p mark true within) ∙ ap (λ k. slice_index_or (slice_set marks p mark) k true) (sym here) ∙ free) i here
-    | inr other ↦ others i other ∙ so.blank i (omega arith) (sym (get_or-set_other marks p (i / 4096) mark true other) ∙ free)
-  ];
-  left = λ i above free.
-      let other : i / 4096 ≢ p = λ here. elim (let h : ⊥ = omega arith in h) [ ] in
-      others i other ∙ so.left i (omega arith) (sym (get_or-set_other marks p (i / 4096) mark true other) ∙ free);
-}
-
--- a group more that is blank in both, and is left as it is
-pub restored_skipped : (target base bytes : List ℕ) (marks : List Bool) (g : ℕ) → IsRestored target (min (64 * g) (length marks)) base bytes marks
-    → IsUnmarked marks g → IsBlankGroup base g → IsBlankGroup target g
-    → IsRestored target (min (64 * g + 64) (length marks)) base bytes marks
-restored_skipped target base bytes marks g so unmarked blank same =
-    let zero : (i : ℕ) → 64 * g ≤ i / 4096 → i / 4096 < 64 * g + 64 → i / 4096 < length marks → slice_index bytes i ≡ 0 = λ i least most within.
-    so.left i (omega arith) (unmarked (i / 4096) (omega arith) within) ∙ blank (i / 4096) (omega arith) i refl in
-    record {
-      done = λ i below. elim (cases_lt (i / 4096) (64 * g)) [
-        | inl before ↦ so.done i (omega arith)
-        | inr here ↦ zero i here (omega arith) (omega arith) ∙ sym (same (i / 4096) (omega arith) i refl)
-      ];
-      blank = λ i below free. elim (cases_lt (i / 4096) (64 * g)) [
-        | inl before ↦ so.blank i (omega arith) free
-        | inr here ↦ zero i here (omega arith) (omega arith)
-      ];
-      left = λ i above free. so.left i (omega arith) free;
-    }
 
 -- what a `Vec` holds once all of it was written over
 pub items_over : (v : Vec ℕ) (new : List ℕ) → length new ≡ length v.items → (with_items v new).items ≡ new
 items_over v new same = with_items_is v new (same ∙ sym v.ok.0)
+
+-- a span that was put, in the fields of a state
+pub restored_put : (n : ℕ) (target base : List ℕ) (bytes : Vec ℕ) (new : List ℕ) (before marks : List Bool) (s : ℕ) (pages : ℕ → List ℕ) → IsRestored target (1024 * s) base bytes.items before
+    → IsPut n (1024 * s) 1024 pages bytes.items new before marks → ArePages n target (1024 * s) 1024 pages → length new ≡ length bytes.items
+    → IsRestored target (1024 * (s + 1)) base (with_items bytes new).items marks
+restored_put n target base bytes new before marks s pages so put are size =
+    subst (λ (l : List ℕ). IsRestored target (1024 * (s + 1)) base l marks) (sym (items_over bytes new size)) (record {
+      done = λ i below. elim (cases_lt (i / 4096) (1024 * s)) [
+        | inl first ↦ put.others i (inl first) ∙ so.done i first
+        | inr here ↦
+            let within : i / 4096 - 1024 * s < 1024 = omega arith in
+            let at : i / 4096 ≡ 1024 * s + (i / 4096 - 1024 * s) = omega arith in
+            (put.done (i / 4096 - 1024 * s) within).places i at ∙ sym ((are (i / 4096 - 1024 * s) within).places i at)
+      ];
+      blank = λ i below free. elim (cases_lt (i / 4096) (1024 * s)) [
+        | inl first ↦ put.others i (inl first) ∙ so.blank i first (sym (put.rest (i / 4096) (inl first)) ∙ free)
+        | inr here ↦
+            let at : i / 4096 ≡ 1024 * s + (i / 4096 - 1024 * s) = omega arith in
+            put.blank (i / 4096 - 1024 * s) (omega arith) (ap (λ p. slice_index_or marks p true) (sym at) ∙ free) i at
+      ];
+      left = λ i above free. put.others i (inr (omega arith)) ∙ so.left i (omega arith) (sym (put.rest (i / 4096) (inr (omega arith))) ∙ free);
+    })
 
 -- where all pages were put, the bytes are those of the target
 pub restored_all : (target base bytes : List ℕ) (marks : List Bool) (n p : ℕ) → IsRestored target p base bytes marks → length bytes ≡ n → length target ≡ n → n / 4096 + 1 ≤ p
@@ -80,28 +63,10 @@ inside_restored shape bytes changed marked target base p so good size marks all 
   ];
 }
 
--- a page that is left out is blank
-pub page_blank : (target : List ℕ) (p : ℕ) (page : List ℕ) → IsPage target p page → length page ≡ 0 → IsBlank target p
-page_blank target p page is none i here = is.places i here ∙ get_or_past page (i % 4096) 0 (omega arith)
-
 pub not_false : (b : Bool) → not b ≡ false → b ≡ true
 not_false true e = refl
 not_false false e = absurd (false≢true (sym e))
 
--- where all groups were put, all pages were
-pub restored_up_to : (target base bytes : List ℕ) (marks : List Bool) (pages count : ℕ) → IsRestored target (min pages (length marks)) base bytes marks
-    → length marks ≡ count → count ≤ pages → IsRestored target count base bytes marks
-restored_up_to target base bytes marks pages count so size all =
-    subst (λ p. IsRestored target p base bytes marks) (let e : min pages (length marks) ≡ count = omega arith in e) so
-
--- the same of marks
+-- what a `Vec` of marks holds once all of it was written over
 pub marks_over : (v : Vec Bool) (new : List Bool) → length new ≡ length v.items → (with_items v new).items ≡ new
 marks_over v new same = with_items_is v new (same ∙ sym v.ok.0)
-
--- a group that was put, in the fields of a state
-pub restored_put : (target base : List ℕ) (bytes : Vec ℕ) (new : List ℕ) (before marks : List Bool) (g : ℕ)
-    → IsRestored target (min (64 * g + 64) (length before)) base new marks → length new ≡ length bytes.items → length marks ≡ length before
-    → IsRestored target (min (64 * (g + 1)) (length marks)) base (with_items bytes new).items marks
-restored_put target base bytes new before marks g so size count =
-    subst (λ (l : List ℕ). IsRestored target (min (64 * (g + 1)) (length marks)) base l marks) (sym (items_over bytes new size))
-    (subst (λ p. IsRestored target p base new marks) (let e : min (64 * g + 64) (length before) ≡ min (64 * (g + 1)) (length marks) = omega arith in e) so)

@@ -1,4 +1,4 @@
--- Pages: 4096 places each, the last one as many as are left. Groups: 64 pages each, the last one as many as are left.
+-- Pages: 4096 places each, the last one as many as are left. Groups: 32 pages each. Spans: 32 groups each.
 use Rattle.std.specs.Prelude.{◌≡◌, ◌⊎◌, ℕ, ◌+◌, ◌*◌, ◌-◌, ◌/◌, ◌%◌, ◌<◌, ◌≤◌, Bool, true, false, List, [], length, map, min, slice_index, slice_index_or, Option, Some, None}
 use Rattle.std.specs.List.{range_with_len}
 use Rattle.std.specs.declared.sync.Arc.{Arc}
@@ -14,19 +14,26 @@ Page = Arc (Vec ℕ) Global
 abbrev pub Group : Type 0
 Group = Arc (Vec (Option Page)) Global
 
--- the bytes of a page; a page that is left out is blank
-abbrev pub page_bytes : Option Page → List ℕ
-page_bytes None = []
-page_bytes (Some page) = page.value.items
+-- a span of groups that is there, shared
+abbrev pub Span : Type 0
+Span = Arc (Vec (Option Group)) Global
 
--- the pages of a group; in a group that is left out each page is
-abbrev pub group_pages : Option Group → List (Option Page)
-group_pages None = []
-group_pages (Some group) = group.value.items
+-- what a page, a group or a span has; nothing where it is left out
+abbrev pub held : {A : Type 0} → Option (Arc (Vec A) Global) → List A
+held None = []
+held (Some part) = part.value.items
 
--- the bytes of page p of groups
-abbrev pub page_in : List (Option Group) → ℕ → List ℕ
-page_in groups p = page_bytes (slice_index_or (group_pages (slice_index_or groups (p / 64) None)) (p % 64) None)
+-- the bytes of page k of a list; a page that is left out is blank
+abbrev pub page_in_group : List (Option Page) → ℕ → List ℕ
+page_in_group pages k = held (slice_index_or pages k None)
+
+-- the bytes of page k of groups
+abbrev pub page_in_span : List (Option Group) → ℕ → List ℕ
+page_in_span groups k = page_in_group (held (slice_index_or groups (k / 32) None)) (k % 32)
+
+-- the bytes of page p of spans
+abbrev pub page_in : List (Option Span) → ℕ → List ℕ
+page_in spans p = page_in_span (held (slice_index_or spans (p / 1024) None)) (p % 1024)
 
 -- the byte at a place of pages
 abbrev pub byte_in : (ℕ → List ℕ) → ℕ → ℕ
@@ -40,34 +47,36 @@ bytes_in n pages = map (byte_in pages) (range_with_len 0 n)
 abbrev pub Fits : ℕ → ℕ → List ℕ → Type 0
 Fits n p page = 0 < length page → length page ≡ min 4096 (n - 4096 * p)
 
--- group g of the pages of n bytes has 64 of them, the last one as many as are left, unless it is left out
-abbrev pub HasPages : ℕ → ℕ → Option Group → Type 0
-HasPages n g None = Unit {0}
-HasPages n g (Some group) = length group.value.items ≡ min 64 (n / 4096 + 1 - 64 * g)
-
 -- all bytes of page p are 0
 abbrev pub IsBlank : List ℕ → ℕ → Type 0
 IsBlank bytes p = (i : ℕ) → i / 4096 ≡ p → slice_index bytes i ≡ 0
 
--- all bytes of group g are 0
-abbrev pub IsBlankGroup : List ℕ → ℕ → Type 0
-IsBlankGroup bytes g = (p : ℕ) → p / 64 ≡ g → IsBlank bytes p
-
--- this is page p of these bytes
-pub record IsPage (bytes : List ℕ) (p : ℕ) (page : List ℕ) : Type 0 where
-  pub fits : Fits (length bytes) p page
+-- this is page p of n bytes, which are these
+pub record IsPage (n : ℕ) (bytes : List ℕ) (p : ℕ) (page : List ℕ) : Type 0 where
+  pub fits : Fits n p page
   pub places : (i : ℕ) → i / 4096 ≡ p → slice_index bytes i ≡ slice_index page (i % 4096)
 
--- this is group g of these bytes
-pub record IsGroup (bytes : List ℕ) (g : ℕ) (group : Option Group) : Type 0 where
-  pub count : HasPages (length bytes) g group
-  pub pages : (p : ℕ) → p / 64 ≡ g → IsPage bytes p (page_bytes (slice_index_or (group_pages group) (p % 64) None))
+-- these are so many pages of n bytes, from page `from` on
+abbrev pub ArePages : ℕ → List ℕ → ℕ → ℕ → (ℕ → List ℕ) → Type 0
+ArePages n bytes from count pages = (k : ℕ) → k < count → IsPage n bytes (from + k) (pages k)
 
--- these are the groups of the pages of n bytes
-pub record AreGroups (n : ℕ) (groups : List (Option Group)) : Type 0 where
-  pub count : length groups ≡ n / 4096 / 64 + 1
-  pub counts : (g : ℕ) → HasPages n g (slice_index_or groups g None)
-  pub fit : (p : ℕ) → Fits n p (page_in groups p)
+-- where they are not marked
+abbrev pub KeptPages : List Bool → ℕ → List ℕ → ℕ → ℕ → (ℕ → List ℕ) → Type 0
+KeptPages marks n bytes from count pages =
+    (k : ℕ) → k < count → slice_index_or marks (from + k) false ≡ false → IsPage n bytes (from + k) (pages k)
+
+-- so many pages fit as those from page `from` on
+abbrev pub FitPages : ℕ → ℕ → ℕ → (ℕ → List ℕ) → Type 0
+FitPages n from count pages = (k : ℕ) → k < count → Fits n (from + k) (pages k)
+
+-- So many pages, from page `from` on, were written over what was there, and each is blank where it is not marked.
+-- Nothing else changed.
+pub record IsPut (n from count : ℕ) (pages : ℕ → List ℕ) (before after : List ℕ) (marks new : List Bool) : Type 0 where
+  pub size : length new ≡ length marks
+  pub done : ArePages n after from count pages
+  pub blank : (k : ℕ) → k < count → slice_index_or new (from + k) true ≡ false → IsBlank after (from + k)
+  pub others : (i : ℕ) → (i / 4096 < from) ⊎ (from + count ≤ i / 4096) → slice_index after i ≡ slice_index before i
+  pub rest : (p : ℕ) → (p < from) ⊎ (from + count ≤ p) → slice_index_or new p true ≡ slice_index_or marks p true
 
 -- the bytes of a base; where there is none, all bytes are 0
 abbrev pub base_bytes : Option (Arc State Global) → List ℕ
@@ -84,16 +93,18 @@ abbrev pub KeepsBase : List Bool → List ℕ → List ℕ → Type 0
 KeepsBase changed base bytes =
     (i : ℕ) → slice_index_or changed (i / 4096) true ≡ false → slice_index bytes i ≡ slice_index base i
 
--- no page of group g is marked
-abbrev pub IsUnmarked : List Bool → ℕ → Type 0
-IsUnmarked changed g = (p : ℕ) → p / 64 ≡ g → p < length changed → slice_index_or changed p true ≡ false
+-- none of so many, from one on, is marked
+abbrev pub IsUnmarked : List Bool → ℕ → ℕ → Type 0
+IsUnmarked marks from count =
+    (p : ℕ) → from ≤ p → p < from + count → p < length marks → slice_index_or marks p true ≡ false
 
--- marks of groups cover the marks of pages, of which there are some: where a group is not marked, no page of it is
+-- Marks of groups cover the marks of pages, and marks of spans those of groups. There are some. Where a group is not
+-- marked, no page of it is.
 pub record Cover (groups pages : List Bool) : Type 0 where
   pub some : 0 < length pages
-  pub least : length pages ≤ 64 * length groups
-  pub most : 64 * length groups < length pages + 64
-  pub free : (g : ℕ) → slice_index_or groups g true ≡ false → IsUnmarked pages g
+  pub least : length pages ≤ 32 * length groups
+  pub most : 32 * length groups < length pages + 32
+  pub free : (g : ℕ) → slice_index_or groups g true ≡ false → IsUnmarked pages (32 * g) 32
 
 -- the pages of the n places from a place on are marked, and no mark is taken away
 pub record IsMarked (from n : ℕ) (before after : List Bool) : Type 0 where
@@ -118,3 +129,10 @@ pub record Differ (first second : List ℕ) (count : ℕ) (pages : List ℕ) : T
   pub within : (j : ℕ) → j < length pages → slice_index pages j < count
   pub others : (p : ℕ) → p < count
       → ((i : ℕ) → i / 4096 ≡ p → slice_index first i ≡ slice_index second i) ⊎ IsListed pages p
+
+-- A list goes on over so many pages from page `from` on, of those below `most`. Where these are the pages of two lists
+-- of bytes, and it lists those before in which the bytes differ, it lists these too.
+abbrev pub ListsOn : ℕ → ℕ → ℕ → (ℕ → List ℕ) → (ℕ → List ℕ) → List ℕ → List ℕ → Type 0
+ListsOn from count most one two old new =
+    (n : ℕ) → (first second : List ℕ) → ArePages n first from count one → ArePages n second from count two
+    → Differ first second from old → Differ first second (min (from + count) most) new

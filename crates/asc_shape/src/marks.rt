@@ -1,12 +1,12 @@
-ghost use Rattle.std.specs.Prelude.{◌≡◌, ◌*◌, ◌^◌, ◌<◌, List, Bool, true, false, IfOk, length, replicate, slice_index_or, slice_set};
+ghost use Rattle.std.specs.Prelude.{◌≡◌, ◌+◌, ◌*◌, ◌^◌, ◌<◌, List, Bool, true, false, IfOk, length, replicate, slice_index_or, slice_set};
 ghost use Rattle.asc_shape.specs.Pages.{IsUnmarked};
 
 use crate::Memory;
-use crate::page::{GROUP, group_ends};
+use crate::page::{PART, part_ends};
 use std::alloc::Global;
 use std::marker::Model;
 
-/// A mark for each page of a state, at least one. What is not marked is told group by group.
+/// A mark for each page of a state, at least one. What is not marked is told group by group, and span by span.
 ///
 /// Contracts see it as the list of them.
 #[derive(Drop)]
@@ -14,6 +14,8 @@ pub(crate) struct Marks {
     pages: Vec<bool>,
     // For each group, whether a page of it may be marked.
     groups: Vec<bool>,
+    // For each span, whether a group of it may be marked.
+    spans: Vec<bool>,
 }
 
 impl Model for Marks {
@@ -24,7 +26,7 @@ impl Model for Marks {
 
     ghost view = { λ m. m.pages.items };
 
-    ghost invariant = { λ m. Cover m.groups.items m.pages.items };
+    ghost invariant = { λ m. Cover m.groups.items m.pages.items × Cover m.spans.items m.groups.items };
 }
 
 impl Marks {
@@ -35,10 +37,16 @@ impl Marks {
         ensures { IfOk result (λ marks. marks ≡ slice_set (replicate count false) 0 true) }
     {
         let mut pages = vec![in alloc; false; count]?;
-        let mut groups = vec![in alloc; false; (count - 1) / GROUP + 1]?;
+        let mut groups = vec![in alloc; false; (count - 1) / PART + 1]?;
+        let mut spans = vec![in alloc; false; (count - 1) / PART / PART + 1]?;
         pages[0] = true;
         groups[0] = true;
-        Ok(Marks { pages, groups })
+        spans[0] = true;
+        Ok(Marks {
+            pages,
+            groups,
+            spans,
+        })
     }
 
     /// How many pages there are.
@@ -61,23 +69,44 @@ impl Marks {
     /// Whether no page of group g is known to be marked.
     #[inline]
     pub(crate) fn is_unmarked(&self, g: usize) -> bool
-        requires { 64 * g < length self.now }
-        ensures { result ≡ true → IsUnmarked self.now g }
+        requires { 32 * g < length self.now }
+        ensures { result ≡ true → IsUnmarked self.now (32 * g) 32 }
     {
         !self.groups[g]
     }
 
-    /// Marks page p.
+    /// Whether no page of span s is known to be marked.
     #[inline]
+    pub(crate) fn is_unmarked_span(&self, s: usize) -> bool
+        requires { 1024 * s < length self.now }
+        ensures { result ≡ true → IsUnmarked self.now (1024 * s) 1024 }
+    {
+        !self.spans[s]
+    }
+
+    /// Marks page p.
+    #[inline(always)]
     pub(crate) fn mark(&mut self, p: usize)
         requires { p < length self.old }
         ensures { self.new ≡ slice_set self.old p true }
     {
         // Mostly it is marked, and then nothing is written.
         if !self.pages[p] {
-            self.pages[p] = true;
-            self.groups[p / GROUP] = true;
+            self.mark_new(p);
         }
+    }
+
+    // Marks page p, which was not marked. It stands out of the loops that mark a page at each store.
+    #[cold]
+    #[inline(never)]
+    fn mark_new(&mut self, p: usize)
+        requires { p < length self.old }
+        ensures { self.new ≡ slice_set self.old p true }
+    {
+        let g = p / PART;
+        self.pages[p] = true;
+        self.groups[g] = true;
+        self.spans[g / PART] = true;
     }
 
     /// Marks page p, or takes its mark away.
@@ -96,11 +125,25 @@ impl Marks {
     /// Looks at the marks of group g, so that a group without any is known as one.
     pub(crate) fn settle(&mut self, g: usize)
         requires most { length self.old < 2 ^ 32 }
-        requires group { 64 * g < length self.old }
+        requires group { 32 * g < length self.old }
         ensures { self.new ≡ self.old }
     {
-        let (from, to) = group_ends(g, self.pages.len());
-        self.groups[g] = self.pages[from..to].contains(&true);
+        let (from, to) = part_ends(g, self.pages.len());
+        if !self.pages[from..to].contains(&true) {
+            self.groups[g] = false;
+        }
+    }
+
+    /// Looks at the marks of the groups of span s, so that a span without any is known as one.
+    pub(crate) fn settle_span(&mut self, s: usize)
+        requires most { length self.old < 2 ^ 32 }
+        requires span { 1024 * s < length self.old }
+        ensures { self.new ≡ self.old }
+    {
+        let (from, to) = part_ends(s, self.groups.len());
+        if !self.groups[from..to].contains(&true) {
+            self.spans[s] = false;
+        }
     }
 
     /// Marks all pages.
@@ -109,6 +152,7 @@ impl Marks {
     {
         self.pages.fill(true);
         self.groups.fill(true);
+        self.spans.fill(true);
     }
 
     /// Takes marks away, but for that of the first page.
@@ -117,22 +161,38 @@ impl Marks {
         ensures len { length self.new ≡ length self.old }
         ensures first { slice_index_or self.new 0 true ≡ true }
     {
-        for g in 0..self.groups.len() {
+        for s in 0..self.spans.len() {
+            if self.spans[s] {
+                self.clear_span(s);
+            }
+        }
+        self.mark(0);
+    }
+
+    // Takes the marks of span s away.
+    #[inline(never)]
+    fn clear_span(&mut self, s: usize)
+        requires most { length self.old < 2 ^ 32 }
+        requires span { 1024 * s < length self.old }
+        ensures { length self.new ≡ length self.old }
+    {
+        let (from, to) = part_ends(s, self.groups.len());
+        for g in from..to {
             if self.groups[g] {
                 self.clear_group(g);
             }
         }
-        self.mark(0);
+        self.settle_span(s);
     }
 
     // Takes the marks of group g away.
     #[inline(never)]
     fn clear_group(&mut self, g: usize)
         requires most { length self.old < 2 ^ 32 }
-        requires group { 64 * g < length self.old }
+        requires group { 32 * g < length self.old }
         ensures { length self.new ≡ length self.old }
     {
-        let (from, to) = group_ends(g, self.pages.len());
+        let (from, to) = part_ends(g, self.pages.len());
         self.pages[from..to].fill(false);
         self.groups[g] = false;
     }

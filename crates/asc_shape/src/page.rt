@@ -1,4 +1,4 @@
-// Pages of bytes, and groups of pages.
+// Pages of bytes, groups of pages, and spans of groups.
 ghost use Rattle.std.specs.Prelude.{◌≡◌, ◌≢◌, ◌+◌, ◌*◌, ◌-◌, ◌/◌, ◌^◌, ◌%◌, ◌<◌, ◌≤◌, ℕ, List, [], min, true, length, slice_index};
 ghost use Rattle.asc_model.specs.Number.{AreBytes, word_at};
 ghost use Rattle.asc_shape.specs.Stride.{strided_byte, strided_word};
@@ -10,8 +10,8 @@ use crate::shape::PAGE_SIZE;
 /// How many places a page has.
 pub(crate) const PAGE: usize = PAGE_SIZE as usize;
 
-/// How many pages a group has.
-pub(crate) const GROUP: usize = 64;
+/// How many pages a group has, and how many groups a span has.
+pub(crate) const PART: usize = 32;
 
 // A page of zeros.
 static BLANK: [u8; PAGE] = [0; PAGE];
@@ -28,16 +28,16 @@ pub(crate) fn ends(p: usize, len: usize) -> (usize, usize)
     (from, len.min(from + PAGE))
 }
 
-/// The first page of group g, and the page behind its last one, of so many pages.
+/// The first page of a group and the page behind its last one, of so many pages. It serves the groups of a span too.
 #[inline]
-pub(crate) fn group_ends(g: usize, pages: usize) -> (usize, usize)
-    requires pages { pages < 2 ^ 32 }
-    requires group { 64 * g < pages }
-    ensures from { result.0 ≡ 64 * g }
-    ensures to { result.1 ≡ min (64 * g + 64) pages }
+pub(crate) fn part_ends(part: usize, count: usize) -> (usize, usize)
+    requires count { count < 2 ^ 32 }
+    requires part { 32 * part < count }
+    ensures from { result.0 ≡ 32 * part }
+    ensures to { result.1 ≡ min (32 * part + 32) count }
 {
-    let from = g * GROUP;
-    (from, pages.min(from + GROUP))
+    let from = part * PART;
+    (from, count.min(from + PART))
 }
 
 /// Writes a page over page p. It does nothing where both are known to be blank.
@@ -55,6 +55,14 @@ pub(crate) fn put_page(bytes: &mut [u8], p: usize, page: &[u8], blank: bool)
     } else if !blank {
         bytes[from..to].fill(0);
     }
+}
+
+/// Whether two pages have the same bytes. Two that are left out have.
+#[inline]
+pub(crate) fn is_same_page(one: &[u8], other: &[u8]) -> bool
+    ensures { result ≡ true → one.now ≡ other.now }
+{
+    (one.is_empty() && other.is_empty()) || one == other
 }
 
 /// Strides the words of page p by those of another page.

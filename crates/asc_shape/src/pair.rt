@@ -1,9 +1,10 @@
-ghost use Rattle.std.specs.Prelude.{◌≡◌, ◌⊎◌, ◌+◌, ◌*◌, ◌/◌, ◌^◌, ◌<◌, ℕ, true, min, IfOk, length, slice_index};
+ghost use Rattle.std.specs.Prelude.{◌≡◌, ◌+◌, ◌*◌, ◌/◌, ◌^◌, ◌<◌, IfOk};
 ghost use Rattle.asc_model.specs.Shape.{length_of};
 ghost use Rattle.asc_model.specs.State.{IsState};
-ghost use Rattle.asc_shape.specs.Pages.{Differ};
+ghost use Rattle.asc_shape.specs.Pages.{Differ, ListsOn, page_in_group, page_in_span};
 
-use crate::page::{GROUP, PAGE, group_ends};
+use crate::page::{PAGE, PART, is_same_page, part_ends};
+use crate::snapshot::{Group, Page, part_at};
 use crate::{Memory, Snapshot};
 use std::alloc::Global;
 use std::marker::Model;
@@ -76,64 +77,97 @@ fn differing(alloc: Global, prev: &Snapshot, last: &Snapshot) -> Result<Vec<usiz
     let _ = shape.base();
     let pages = (shape.start() + shape.size()) as usize / PAGE + 1;
     let mut differ = Vec::with_capacity(alloc, 0)?;
-    for g in 0..(pages - 1) / GROUP + 1 {
-        add_differing(&mut differ, prev, last, g, pages)?;
+    for s in 0..(pages - 1) / (PART * PART) + 1 {
+        add_groups(&mut differ, prev.groups(s), last.groups(s), s, pages)?;
     }
     Ok(differ)
 }
 
-// Lists the pages of group g in which they differ too.
-fn add_differing(
+// Lists the pages of span s in which they differ too.
+fn add_groups(
     differ: &mut Vec<usize>,
-    prev: &Snapshot,
-    last: &Snapshot,
-    g: usize,
+    earlier: &[Group],
+    later: &[Group],
+    s: usize,
     pages: usize,
 ) -> Result<(), Memory>
-    requires same { prev.now.shape ≡ last.now.shape }
-    requires pages { pages ≡ length_of last.now.shape / 4096 + 1 }
     requires most { pages < 2 ^ 32 }
-    requires group { 64 * g < pages }
-    requires listed { Differ last.now.bytes prev.now.bytes (min (64 * g) pages) differ.old.items }
-    ensures { IfOk result (λ _. Differ last.now.bytes prev.now.bytes (min (64 * g + 64) pages) differ.new.items) }
+    requires span { 1024 * s < pages }
+    ensures { IfOk result (λ _. ListsOn (1024 * s) 1024 pages (page_in_span later.now) (page_in_span earlier.now)
+        differ.old.items differ.new.items) }
 {
-    if last.is_blank_group(g) && prev.is_blank_group(g) {
+    if later.is_empty() && earlier.is_empty() {
         return Ok(());
     }
-    list_differing(differ, prev, last, g, pages)
+    list_groups(differ, earlier, later, s, pages)
 }
 
-// Lists the pages of group g in which they differ too, page by page.
+// Lists the pages of span s in which they differ too, group by group.
 #[inline(never)]
-fn list_differing(
+fn list_groups(
     differ: &mut Vec<usize>,
-    prev: &Snapshot,
-    last: &Snapshot,
-    g: usize,
+    earlier: &[Group],
+    later: &[Group],
+    s: usize,
     pages: usize,
 ) -> Result<(), Memory>
-    requires same { prev.now.shape ≡ last.now.shape }
-    requires pages { pages ≡ length_of last.now.shape / 4096 + 1 }
     requires most { pages < 2 ^ 32 }
-    requires group { 64 * g < pages }
-    requires listed { Differ last.now.bytes prev.now.bytes (min (64 * g) pages) differ.old.items }
-    ensures { IfOk result (λ _. Differ last.now.bytes prev.now.bytes (min (64 * g + 64) pages) differ.new.items) }
+    requires span { 1024 * s < pages }
+    ensures { IfOk result (λ _. ListsOn (1024 * s) 1024 pages (page_in_span later.now) (page_in_span earlier.now)
+        differ.old.items differ.new.items) }
 {
-    let (from, to) = group_ends(g, pages);
-    for p in from..to {
-        if !is_same(prev, last, p) {
-            differ.push(p)?;
-        }
+    let (from, to) = part_ends(s, (pages - 1) / PART + 1);
+    for g in from..to {
+        add_pages(
+            differ,
+            part_at(earlier, g - from),
+            part_at(later, g - from),
+            g,
+            pages,
+        )?;
     }
     Ok(())
 }
 
-// Whether page p is known to be the same in both.
-fn is_same(prev: &Snapshot, last: &Snapshot, p: usize) -> bool
-    requires last { p < length_of last.now.shape / 4096 + 1 }
-    requires prev { p < length_of prev.now.shape / 4096 + 1 }
-    ensures { result ≡ true → (i : ℕ) → i / 4096 ≡ p → slice_index last.now.bytes i ≡ slice_index prev.now.bytes i }
+// Lists the pages of group g in which they differ too.
+#[inline]
+fn add_pages(
+    differ: &mut Vec<usize>,
+    earlier: &[Page],
+    later: &[Page],
+    g: usize,
+    pages: usize,
+) -> Result<(), Memory>
+    requires most { pages < 2 ^ 32 }
+    requires group { 32 * g < pages }
+    ensures { IfOk result (λ _. ListsOn (32 * g) 32 pages (page_in_group later.now) (page_in_group earlier.now)
+        differ.old.items differ.new.items) }
 {
-    let (last, prev) = (last.page(p), prev.page(p));
-    (last.is_empty() && prev.is_empty()) || last == prev
+    if later.is_empty() && earlier.is_empty() {
+        return Ok(());
+    }
+    list_pages(differ, earlier, later, g, pages)
+}
+
+// Lists the pages of group g in which they differ too, page by page.
+#[inline(never)]
+fn list_pages(
+    differ: &mut Vec<usize>,
+    earlier: &[Page],
+    later: &[Page],
+    g: usize,
+    pages: usize,
+) -> Result<(), Memory>
+    requires most { pages < 2 ^ 32 }
+    requires group { 32 * g < pages }
+    ensures { IfOk result (λ _. ListsOn (32 * g) 32 pages (page_in_group later.now) (page_in_group earlier.now)
+        differ.old.items differ.new.items) }
+{
+    let (from, to) = part_ends(g, pages);
+    for p in from..to {
+        if !is_same_page(part_at(later, p - from), part_at(earlier, p - from)) {
+            differ.push(p)?;
+        }
+    }
+    Ok(())
 }

@@ -1,11 +1,11 @@
-ghost use Rattle.std.specs.Prelude.{◌≡◌, ◌+◌, ◌*◌, ◌/◌, ◌<◌, true, false, IfOk, length, slice_index, ℕ};
+ghost use Rattle.std.specs.Prelude.{◌≡◌, ◌+◌, ◌*◌, ◌/◌, ◌^◌, ◌<◌, false, IfOk, None, length, slice_index_or};
 ghost use Rattle.asc_model.specs.Shape.{length_of};
 ghost use Rattle.asc_model.specs.State.{IsState};
 ghost use Rattle.asc_model.specs.Machine.{view_of};
-ghost use Rattle.asc_shape.specs.Pages.{IsPage, IsGroup, IsBlankGroup, IsBaseOf, KeepsBase, base_bytes, page_bytes};
+ghost use Rattle.asc_shape.specs.Pages.{IsPage, ArePages, KeptPages, IsUnmarked, IsBaseOf, KeepsBase, base_bytes, held, page_in_group, page_in_span};
 
 use crate::marks::Marks;
-use crate::page::{GROUP, elements_are_bytes, ends, group_ends, word_in};
+use crate::page::{PART, elements_are_bytes, ends, part_ends, word_in};
 use crate::{Memory, Shape, State};
 use std::alloc::Global;
 use std::marker::Model;
@@ -17,6 +17,9 @@ pub(crate) type Page = Option<Arc<Vec<u8>>>;
 /// A group of pages that is left out is blank.
 pub(crate) type Group = Option<Arc<Vec<Page>>>;
 
+/// A span of groups that is left out is blank.
+pub(crate) type Span = Option<Arc<Vec<Group>>>;
+
 /// A copy of a state that does not change. It can be shared, also by threads, and shares what it has in common with
 /// others.
 ///
@@ -24,7 +27,7 @@ pub(crate) type Group = Option<Arc<Vec<Page>>>;
 #[derive(Drop)]
 pub struct Snapshot {
     shape: Shape,
-    groups: Vec<Group>,
+    spans: Vec<Span>,
 }
 
 impl Model for Snapshot {
@@ -33,14 +36,15 @@ impl Model for Snapshot {
 
     ghost Value = { model.State };
 
-    ghost use Rattle.asc_shape.specs.Pages.{bytes_in, page_in, AreGroups};
+    ghost use Rattle.asc_shape.specs.Pages.{bytes_in, page_in, Fits};
+    ghost use Rattle.std.specs.Prelude.{ℕ};
 
-    ghost view = { λ s. record { shape = s.shape; bytes = bytes_in (length_of s.shape) (page_in s.groups.items) } };
+    ghost view = { λ s. record { shape = s.shape; bytes = bytes_in (length_of s.shape) (page_in s.spans.items) } };
 
     ghost invariant = { λ s. model.IsState (record {
       shape = s.shape;
-      bytes = bytes_in (length_of s.shape) (page_in s.groups.items);
-    }) × AreGroups (length_of s.shape) s.groups.items };
+      bytes = bytes_in (length_of s.shape) (page_in s.spans.items);
+    }) × ((p : ℕ) → Fits (length_of s.shape) p (page_in s.spans.items p)) };
 }
 
 impl Snapshot {
@@ -68,12 +72,12 @@ impl Snapshot {
     {
         let _ = shape.base();
         elements_are_bytes(bytes);
-        let count = (changed.len() - 1) / GROUP + 1;
-        let mut groups = Vec::with_capacity(alloc, count)?;
-        for g in 0..count {
-            groups.push(group_of(alloc, shape, bytes, changed, base, g)?)?;
+        let count = (changed.len() - 1) / (PART * PART) + 1;
+        let mut spans = Vec::with_capacity(alloc, count)?;
+        for s in 0..count {
+            spans.push(span_of(alloc, shape, bytes, changed, base, s)?)?;
         }
-        Ok(Snapshot { shape, groups })
+        Ok(Snapshot { shape, spans })
     }
 
     /// The shape. A caller's proof learns from it that this is a state.
@@ -100,162 +104,192 @@ impl Snapshot {
     /// Page p, or nothing where it is left out.
     #[inline]
     pub(crate) fn page(&self, p: usize) -> &[u8]
-        requires { p < length_of self.now.shape / 4096 + 1 }
-        ensures { IsPage self.now.bytes p result.now }
+        ensures { IsPage (length_of self.now.shape) self.now.bytes p result.now }
     {
-        match &self.groups[p / GROUP] {
-            None => &[],
-            Some(group) => match &group[p % GROUP] {
-                None => &[],
-                Some(page) => &page[..],
-            },
-        }
+        let groups = self.groups(p / (PART * PART));
+        part_at(part_at(groups, p / PART % PART), p % PART)
     }
 
-    /// Whether group g is left out, so that it is blank.
+    /// The groups of span s, or none where it is left out.
     #[inline]
-    pub(crate) fn is_blank_group(&self, g: usize) -> bool
-        requires { 64 * g < length_of self.now.shape / 4096 + 1 }
-        ensures { result ≡ true → IsBlankGroup self.now.bytes g }
+    pub(crate) fn groups(&self, s: usize) -> &[Group]
+        ensures { ArePages (length_of self.now.shape) self.now.bytes (1024 * s) 1024 (page_in_span result.now) }
     {
-        match &self.groups[g] {
-            None => true,
-            Some(_) => false,
-        }
+        part_at(&self.spans, s)
     }
 
-    // Page p, shared.
+    // Span s, shared.
     #[inline]
-    fn share_page(&self, p: usize) -> Result<Page, Memory>
-        requires { p < length_of self.now.shape / 4096 + 1 }
-        ensures { IfOk result (λ page. IsPage self.now.bytes p (page_bytes page)) }
+    fn share_span(&self, s: usize) -> Result<Span, Memory>
+        ensures { IfOk result (λ span.
+            ArePages (length_of self.now.shape) self.now.bytes (1024 * s) 1024 (page_in_span (held span))) }
     {
-        match &self.groups[p / GROUP] {
-            None => Ok(None),
-            Some(group) => match &group[p % GROUP] {
-                None => Ok(None),
-                Some(page) => Ok(Some(Arc::try_clone(page)?)),
-            },
-        }
-    }
-
-    // Group g, shared.
-    #[inline]
-    fn share_group(&self, g: usize) -> Result<Group, Memory>
-        requires { 64 * g < length_of self.now.shape / 4096 + 1 }
-        ensures { IfOk result (IsGroup self.now.bytes g) }
-    {
-        match &self.groups[g] {
-            None => Ok(None),
-            Some(group) => Ok(Some(Arc::try_clone(group)?)),
-        }
+        share_part(&self.spans, s)
     }
 }
 
-// Group g of a state: the base's, shared, where no page of it is changed.
-fn group_of(
+/// What part k of a list has: a page, a group or a span. It is nothing where that is left out.
+#[inline]
+pub(crate) fn part_at<T>(parts: &[Option<Arc<Vec<T>>>], k: usize) -> &[T]
+    ensures { result.now ≡ held (slice_index_or parts.now k None) }
+{
+    match parts.get(k) {
+        Some(Some(part)) => &part[..],
+        _ => &[],
+    }
+}
+
+// Part k of a list, shared.
+#[inline]
+fn share_part<T>(parts: &[Option<Arc<Vec<T>>>], k: usize) -> Result<Option<Arc<Vec<T>>>, Memory>
+    ensures { IfOk result (λ part. held part ≡ held (slice_index_or parts.now k None)) }
+{
+    match parts.get(k) {
+        Some(Some(part)) => Ok(Some(Arc::try_clone(part)?)),
+        _ => Ok(None),
+    }
+}
+
+/// The groups of span s of a base, or none where there is no base or it leaves the span out.
+#[inline]
+pub(crate) fn base_groups(shape: Shape, base: &Option<Arc<Snapshot>>, s: usize) -> &[Group]
+    requires { IsBaseOf shape base.now }
+    ensures { ArePages (length_of shape) (base_bytes base.now) (1024 * s) 1024 (page_in_span result.now) }
+{
+    match base {
+        None => &[],
+        Some(base) => base.groups(s),
+    }
+}
+
+// Span s of a state: the base's, shared, where no page of it is changed.
+fn span_of(
     alloc: Global,
     shape: Shape,
     bytes: &[u8],
     changed: &Marks,
     base: &Option<Arc<Snapshot>>,
-    g: usize,
-) -> Result<Group, Memory>
+    s: usize,
+) -> Result<Span, Memory>
     requires length { length bytes.now ≡ length_of shape }
     requires marks { length changed.now ≡ length_of shape / 4096 + 1 }
-    requires group { 64 * g < length changed.now }
+    requires span { 1024 * s < length changed.now }
     requires base { IsBaseOf shape base.now }
     requires kept { KeepsBase changed.now (base_bytes base.now) bytes.now }
-    ensures { IfOk result (IsGroup bytes.now g) }
+    ensures { IfOk result (λ span.
+        ArePages (length_of shape) bytes.now (1024 * s) 1024 (page_in_span (held span))) }
 {
     // That it is a shape bounds how many bytes there are.
     let _ = shape.base();
-    if changed.is_unmarked(g) {
-        return kept_group(shape, bytes, base, g);
+    if changed.is_unmarked_span(s) {
+        return kept_span(shape, base, s);
     }
-    copied_group(alloc, shape, bytes, changed, base, g)
+    copied_span(alloc, bytes, changed, base_groups(shape, base, s), s)
 }
 
-// Group g of a state: copies of the pages that are changed, and the base's others.
+// Span s of a base, shared. It is left out where there is no base.
+#[inline]
+fn kept_span(shape: Shape, base: &Option<Arc<Snapshot>>, s: usize) -> Result<Span, Memory>
+    requires { IsBaseOf shape base.now }
+    ensures { IfOk result (λ span.
+        ArePages (length_of shape) (base_bytes base.now) (1024 * s) 1024 (page_in_span (held span))) }
+{
+    match base {
+        None => Ok(None),
+        Some(base) => base.share_span(s),
+    }
+}
+
+// Span s of a state: groups of which a page is changed, and the others of those that are kept, shared.
+#[inline(never)]
+fn copied_span(
+    alloc: Global,
+    bytes: &[u8],
+    changed: &Marks,
+    kept: &[Group],
+    s: usize,
+) -> Result<Span, Memory>
+    requires most { length bytes.now < 2 ^ 32 }
+    requires marks { length changed.now ≡ length bytes.now / 4096 + 1 }
+    requires span { 1024 * s < length changed.now }
+    requires kept { KeptPages changed.now (length bytes.now) bytes.now (1024 * s) 1024 (page_in_span kept.now) }
+    ensures { IfOk result (λ span.
+        ArePages (length bytes.now) bytes.now (1024 * s) 1024 (page_in_span (held span))) }
+{
+    let (from, to) = part_ends(s, (changed.len() - 1) / PART + 1);
+    let mut groups = Vec::with_capacity(alloc, to - from)?;
+    for g in from..to {
+        groups.push(group_of(alloc, bytes, changed, g, kept, g - from)?)?;
+    }
+    Ok(Some(Arc::new(alloc, groups)?))
+}
+
+// Group g of a state: group k of those that are kept, shared, where no page of it is changed.
+#[inline]
+fn group_of(
+    alloc: Global,
+    bytes: &[u8],
+    changed: &Marks,
+    g: usize,
+    kept: &[Group],
+    k: usize,
+) -> Result<Group, Memory>
+    requires most { length bytes.now < 2 ^ 32 }
+    requires marks { length changed.now ≡ length bytes.now / 4096 + 1 }
+    requires group { 32 * g < length changed.now }
+    requires kept { KeptPages changed.now (length bytes.now) bytes.now (32 * g) 32
+        (page_in_group (held (slice_index_or kept.now k None))) }
+    ensures { IfOk result (λ group. ArePages (length bytes.now) bytes.now (32 * g) 32 (page_in_group (held group))) }
+{
+    if changed.is_unmarked(g) {
+        return share_part(kept, k);
+    }
+    copied_group(alloc, bytes, changed, part_at(kept, k), g)
+}
+
+// Group g of a state: copies of the pages that are changed, and the others of those that are kept, shared.
 #[inline(never)]
 fn copied_group(
     alloc: Global,
-    shape: Shape,
     bytes: &[u8],
     changed: &Marks,
-    base: &Option<Arc<Snapshot>>,
+    kept: &[Page],
     g: usize,
 ) -> Result<Group, Memory>
-    requires length { length bytes.now ≡ length_of shape }
-    requires marks { length changed.now ≡ length_of shape / 4096 + 1 }
-    requires group { 64 * g < length changed.now }
-    requires base { IsBaseOf shape base.now }
-    requires kept { KeepsBase changed.now (base_bytes base.now) bytes.now }
-    ensures { IfOk result (IsGroup bytes.now g) }
+    requires most { length bytes.now < 2 ^ 32 }
+    requires marks { length changed.now ≡ length bytes.now / 4096 + 1 }
+    requires group { 32 * g < length changed.now }
+    requires kept { KeptPages changed.now (length bytes.now) bytes.now (32 * g) 32 (page_in_group kept.now) }
+    ensures { IfOk result (λ group. ArePages (length bytes.now) bytes.now (32 * g) 32 (page_in_group (held group))) }
 {
-    // That it is a shape bounds how many bytes there are.
-    let _ = shape.base();
-    let (from, to) = group_ends(g, changed.len());
+    let (from, to) = part_ends(g, changed.len());
     let mut pages = Vec::with_capacity(alloc, to - from)?;
     for p in from..to {
-        pages.push(page_of(alloc, shape, bytes, p, changed.is_marked(p), base)?)?;
+        pages.push(page_of(alloc, bytes, p, changed.is_marked(p), kept, p - from)?)?;
     }
     Ok(Some(Arc::new(alloc, pages)?))
 }
 
-// Group g of a state that has the base's bytes there.
-#[inline]
-fn kept_group(
-    shape: Shape,
-    _bytes: &[u8],
-    base: &Option<Arc<Snapshot>>,
-    g: usize,
-) -> Result<Group, Memory>
-    requires length { length _bytes.now ≡ length_of shape }
-    requires group { 64 * g < length_of shape / 4096 + 1 }
-    requires base { IsBaseOf shape base.now }
-    requires kept { (i : ℕ) → i < length _bytes.now → i / 4096 / 64 ≡ g
-        → slice_index _bytes.now i ≡ slice_index (base_bytes base.now) i }
-    ensures { IfOk result (IsGroup _bytes.now g) }
-{
-    match base {
-        None => Ok(None),
-        Some(base) => {
-            let _ = base.shape();
-            base.share_group(g)
-        }
-    }
-}
-
-// Page p of a state: a copy where it is changed, and else the base's, shared.
+// Page p of a state: a copy where it is changed, and else page k of those that are kept, shared.
 #[inline]
 fn page_of(
     alloc: Global,
-    shape: Shape,
     bytes: &[u8],
     p: usize,
     changed: bool,
-    base: &Option<Arc<Snapshot>>,
+    kept: &[Page],
+    k: usize,
 ) -> Result<Page, Memory>
-    requires length { length bytes.now ≡ length_of shape }
-    requires page { p < length_of shape / 4096 + 1 }
-    requires base { IsBaseOf shape base.now }
-    requires kept { changed ≡ false → (i : ℕ) → i / 4096 ≡ p
-        → slice_index bytes.now i ≡ slice_index (base_bytes base.now) i }
-    ensures { IfOk result (λ page. IsPage bytes.now p (page_bytes page)) }
+    requires length { length bytes.now < 2 ^ 32 }
+    requires page { p < length bytes.now / 4096 + 1 }
+    requires kept { changed ≡ false
+        → IsPage (length bytes.now) bytes.now p (held (slice_index_or kept.now k None)) }
+    ensures { IfOk result (λ page. IsPage (length bytes.now) bytes.now p (held page)) }
 {
-    // That it is a shape bounds how many bytes there are.
-    let _ = shape.base();
     if changed {
         let (from, to) = ends(p, bytes.len());
         let copy = Vec::from_slice(alloc, &bytes[from..to])?;
         return Ok(Some(Arc::new(alloc, copy)?));
     }
-    match base {
-        None => Ok(None),
-        Some(base) => {
-            let _ = base.shape();
-            base.share_page(p)
-        }
-    }
+    share_part(kept, k)
 }

@@ -1,4 +1,4 @@
-ghost use Rattle.std.specs.Prelude.{◌≡◌, ◌≢◌, ℕ, List, [], ◌+◌, ◌-◌, ◌*◌, ◌/◌, ◌^◌, ◌<◌, ◌≤◌, min, true, false, IfOk, IsTrue, length, replicate, slice_index, slice_index_or, slice_set};
+ghost use Rattle.std.specs.Prelude.{◌≡◌, ◌≢◌, ℕ, List, [], ◌+◌, ◌-◌, ◌*◌, ◌/◌, ◌^◌, ◌<◌, ◌≤◌, true, false, IfOk, IsTrue, length, replicate, slice_index, slice_index_or, slice_set};
 ghost use Rattle.asc_model.specs.Shape.{length_of, place_of, holds};
 ghost use Rattle.asc_model.specs.Number.{word_at, bytes_of};
 ghost use Rattle.asc_model.specs.Places.{cells, bytes_after};
@@ -8,14 +8,15 @@ ghost use Rattle.asc_model.specs.Machine as machine;
 ghost use Rattle.asc_shape.specs.Face.{Untold};
 ghost use Rattle.std.specs.Borrow.{Lends, Array, sem, u8 as byte};
 ghost use Rattle.asc_shape.specs.contracts.state.State.{the_row};
-ghost use Rattle.asc_shape.specs.Pages.{IsMarked, IsBaseOf, IsBlank, IsBlankGroup, IsUnmarked, IsRestored, base_bytes};
+ghost use Rattle.asc_shape.specs.Pages.{IsMarked, FitPages, KeptPages, IsPut, held, page_in_group, page_in_span};
 ghost use Rattle.asc_shape.specs.Stride.{strided};
 ghost use Rattle.asc_outside.specs.Outside.{HasCause, IsAtEnd};
 ghost use Rattle.asc_shape.specs.TakesIn.{TakesIn};
 ghost use Rattle.asc_shape.specs.State.{with_memory, zero_state, state_after, memory_at};
 
 use crate::marks::Marks;
-use crate::page::{GROUP, PAGE, elements_are_bytes, group_ends, put_page, stride_page};
+use crate::page::{PAGE, PART, elements_are_bytes, part_ends, put_page, stride_page};
+use crate::snapshot::{Group, Page, base_groups, part_at};
 use crate::{Bytes, Failed, Memory, Pair, Shape, Snapshot, Source, Words};
 use std::alloc::Global;
 use std::marker::Model;
@@ -226,14 +227,9 @@ impl State {
     {
         // That it is a shape bounds how many bytes there are.
         let _ = self.shape.base();
-        for g in 0..(self.changed.len() - 1) / GROUP + 1 {
-            blank_group(
-                self.shape,
-                &self.base,
-                &mut self.bytes,
-                &mut self.changed,
-                g,
-            );
+        for s in 0..(self.changed.len() - 1) / (PART * PART) + 1 {
+            let kept = base_groups(self.shape, &self.base, s);
+            put_span(&[], kept, &mut self.bytes, &mut self.changed, s);
         }
         self.changed.mark(0);
         self.base = None;
@@ -277,8 +273,9 @@ impl State {
     {
         // That its shape is one, which bounds how many bytes it has.
         let _ = from.shape().base();
-        for g in 0..(self.changed.len() - 1) / GROUP + 1 {
-            put_group(from, &self.base, &mut self.bytes, &mut self.changed, g);
+        for s in 0..(self.changed.len() - 1) / (PART * PART) + 1 {
+            let kept = base_groups(self.shape, &self.base, s);
+            put_span(from.groups(s), kept, &mut self.bytes, &mut self.changed, s);
         }
         self.changed.mark(0);
         self.base = None;
@@ -335,7 +332,7 @@ impl State {
         u32::from_le_bytes([bytes[0], bytes[1], bytes[2], bytes[3]])
     }
 
-    #[inline]
+    #[inline(always)]
     fn set_word(&mut self, place: u32, word: u32)
         requires { place + 4 ≤ length_of self.old.shape }
         ensures { self.new ≡ record self.old { bytes = bytes_after self.old.bytes (cells place (bytes_of 4 word)) } }
@@ -381,7 +378,7 @@ impl Words for State {
         self.word(place)
     }
 
-    #[inline]
+    #[inline(always)]
     fn put_word(&mut self, place: u32, word: u32) {
         let _ = State::shape(self);
         self.set_word(place, word);
@@ -389,7 +386,9 @@ impl Words for State {
 }
 
 // Marks the pages of the word at a place. The first page, in which the registers are, is always marked.
-#[inline]
+//
+// It is always taken into its caller: where that puts a register, the compiler then sees that nothing is to be marked.
+#[inline(always)]
 fn mark_word(changed: &mut Marks, at: usize)
     requires within { at + 4 < 2 ^ 32 }
     requires pages { (at + 3) / 4096 < length changed.old }
@@ -416,125 +415,93 @@ fn mark(changed: &mut Marks, from: usize, n: usize)
     }
 }
 
-// Whether page p is known to be blank, where it is not changed.
+// Whether a page is known to be blank that is page k of those that are kept, where it is not changed.
 #[inline]
-fn is_blank(shape: Shape, base: &Option<Arc<Snapshot>>, p: usize, changed: bool) -> bool
-    requires base { IsBaseOf shape base.now }
-    requires page { p < length_of shape / 4096 + 1 }
+fn is_blank(kept: &[Page], k: usize, changed: bool) -> bool
     ensures changed { result ≡ true → changed ≡ false }
-    ensures blank { result ≡ true → IsBlank (base_bytes base.now) p }
+    ensures blank { result ≡ true → length (page_in_group kept.now k) ≡ 0 }
 {
-    match base {
-        None => !changed,
-        Some(base) => !changed && base.page(p).is_empty(),
-    }
+    !changed && part_at(kept, k).is_empty()
 }
 
-// Whether group g is known to be blank in a state with this base and these marks.
-fn is_blank_group(shape: Shape, base: &Option<Arc<Snapshot>>, changed: &Marks, g: usize) -> bool
-    requires base { IsBaseOf shape base.now }
-    requires marks { length changed.now ≡ length_of shape / 4096 + 1 }
-    requires group { 64 * g < length changed.now }
-    ensures changed { result ≡ true → IsUnmarked changed.now g }
-    ensures base { result ≡ true → IsBlankGroup (base_bytes base.now) g }
+// Writes groups over span s, where those that are kept are what its pages have that are not marked.
+fn put_span(copy: &[Group], kept: &[Group], bytes: &mut [u8], changed: &mut Marks, s: usize)
+    requires most { length bytes.old < 2 ^ 32 }
+    requires marks { length changed.old ≡ length bytes.old / 4096 + 1 }
+    requires span { 1024 * s < length changed.old }
+    requires copy { FitPages (length bytes.old) (1024 * s) 1024 (page_in_span copy.now) }
+    requires kept { KeptPages changed.old (length bytes.old) bytes.old (1024 * s) 1024 (page_in_span kept.now) }
+    ensures { IsPut (length bytes.old) (1024 * s) 1024 (page_in_span copy.now)
+        bytes.old bytes.new changed.old changed.new }
 {
-    // That it is a shape bounds how many marks there are.
-    let _ = shape.base();
-    changed.is_unmarked(g)
-        && match base {
-            None => true,
-            Some(base) => base.is_blank_group(g),
-        }
-}
-
-// Writes zeros over group g of a state with this base and these bytes and marks.
-fn blank_group(
-    shape: Shape,
-    base: &Option<Arc<Snapshot>>,
-    bytes: &mut [u8],
-    changed: &mut Marks,
-    g: usize,
-)
-    requires base { IsBaseOf shape base.now }
-    requires length { length bytes.old ≡ length_of shape }
-    requires marks { length changed.old ≡ length_of shape / 4096 + 1 }
-    requires group { 64 * g < length changed.old }
-    requires restored { IsRestored [] (min (64 * g) (length changed.old)) (base_bytes base.now) bytes.old changed.old }
-    ensures marks { length changed.new ≡ length changed.old }
-    ensures group { IsRestored [] (min (64 * g + 64) (length changed.old)) (base_bytes base.now) bytes.new changed.new }
-{
-    if is_blank_group(shape, base, changed, g) {
+    if copy.is_empty() && kept.is_empty() && changed.is_unmarked_span(s) {
         return;
     }
-    // That it is a shape bounds how many marks there are.
-    let _ = shape.base();
-    let (first, end) = group_ends(g, changed.len());
-    for p in first..end {
-        let blank = is_blank(shape, base, p, changed.is_marked(p));
-        put_page(bytes, p, &[], blank);
-        changed.put(p, false);
-    }
-    changed.settle(g);
+    put_groups(copy, kept, bytes, changed, s);
 }
 
-// Writes group g of a copy of a state over that of another state with this base and these bytes and marks.
-fn put_group(
-    from: &Snapshot,
-    base: &Option<Arc<Snapshot>>,
-    bytes: &mut [u8],
-    changed: &mut Marks,
-    g: usize,
-)
-    requires base { IsBaseOf from.now.shape base.now }
-    requires length { length bytes.old ≡ length_of from.now.shape }
-    requires marks { length changed.old ≡ length_of from.now.shape / 4096 + 1 }
-    requires group { 64 * g < length changed.old }
-    requires restored { IsRestored from.now.bytes (min (64 * g) (length changed.old)) (base_bytes base.now)
-        bytes.old changed.old }
-    ensures marks { length changed.new ≡ length changed.old }
-    ensures group { IsRestored from.now.bytes (min (64 * g + 64) (length changed.old)) (base_bytes base.now)
-        bytes.new changed.new }
-{
-    // That it is a shape bounds how many marks there are.
-    let shape = from.shape();
-    let _ = shape.base();
-    if from.is_blank_group(g) && is_blank_group(shape, base, changed, g) {
-        return;
-    }
-    put_pages(from, base, bytes, changed, g);
-}
-
-// Writes the pages of group g of a copy of a state over those of another state with this base and these bytes and
-// marks.
+// The same, group by group.
 #[inline(never)]
-fn put_pages(
-    from: &Snapshot,
-    base: &Option<Arc<Snapshot>>,
-    bytes: &mut [u8],
-    changed: &mut Marks,
-    g: usize,
-)
-    requires base { IsBaseOf from.now.shape base.now }
-    requires length { length bytes.old ≡ length_of from.now.shape }
-    requires marks { length changed.old ≡ length_of from.now.shape / 4096 + 1 }
-    requires group { 64 * g < length changed.old }
-    requires restored { IsRestored from.now.bytes (min (64 * g) (length changed.old)) (base_bytes base.now)
-        bytes.old changed.old }
-    ensures marks { length changed.new ≡ length changed.old }
-    ensures group { IsRestored from.now.bytes (min (64 * g + 64) (length changed.old)) (base_bytes base.now)
-        bytes.new changed.new }
+fn put_groups(copy: &[Group], kept: &[Group], bytes: &mut [u8], changed: &mut Marks, s: usize)
+    requires most { length bytes.old < 2 ^ 32 }
+    requires marks { length changed.old ≡ length bytes.old / 4096 + 1 }
+    requires span { 1024 * s < length changed.old }
+    requires copy { FitPages (length bytes.old) (1024 * s) 1024 (page_in_span copy.now) }
+    requires kept { KeptPages changed.old (length bytes.old) bytes.old (1024 * s) 1024 (page_in_span kept.now) }
+    ensures { IsPut (length bytes.old) (1024 * s) 1024 (page_in_span copy.now)
+        bytes.old bytes.new changed.old changed.new }
 {
-    // That it is a shape bounds how many marks there are.
-    let shape = from.shape();
-    let _ = shape.base();
-    let (first, end) = group_ends(g, changed.len());
-    for p in first..end {
-        let page = from.page(p);
-        let blank = is_blank(shape, base, p, changed.is_marked(p));
+    let (from, to) = part_ends(s, (changed.len() - 1) / PART + 1);
+    for g in from..to {
+        put_group(
+            part_at(copy, g - from),
+            part_at(kept, g - from),
+            bytes,
+            changed,
+            g,
+        );
+    }
+    if copy.is_empty() {
+        changed.settle_span(s);
+    }
+}
+
+// Writes pages over group g, where those that are kept are what its pages have that are not marked.
+#[inline]
+fn put_group(copy: &[Page], kept: &[Page], bytes: &mut [u8], changed: &mut Marks, g: usize)
+    requires most { length bytes.old < 2 ^ 32 }
+    requires marks { length changed.old ≡ length bytes.old / 4096 + 1 }
+    requires group { 32 * g < length changed.old }
+    requires copy { FitPages (length bytes.old) (32 * g) 32 (page_in_group copy.now) }
+    requires kept { KeptPages changed.old (length bytes.old) bytes.old (32 * g) 32 (page_in_group kept.now) }
+    ensures { IsPut (length bytes.old) (32 * g) 32 (page_in_group copy.now)
+        bytes.old bytes.new changed.old changed.new }
+{
+    if copy.is_empty() && kept.is_empty() && changed.is_unmarked(g) {
+        return;
+    }
+    put_pages(copy, kept, bytes, changed, g);
+}
+
+// The same, page by page.
+#[inline(never)]
+fn put_pages(copy: &[Page], kept: &[Page], bytes: &mut [u8], changed: &mut Marks, g: usize)
+    requires most { length bytes.old < 2 ^ 32 }
+    requires marks { length changed.old ≡ length bytes.old / 4096 + 1 }
+    requires group { 32 * g < length changed.old }
+    requires copy { FitPages (length bytes.old) (32 * g) 32 (page_in_group copy.now) }
+    requires kept { KeptPages changed.old (length bytes.old) bytes.old (32 * g) 32 (page_in_group kept.now) }
+    ensures { IsPut (length bytes.old) (32 * g) 32 (page_in_group copy.now)
+        bytes.old bytes.new changed.old changed.new }
+{
+    let (from, to) = part_ends(g, changed.len());
+    for p in from..to {
+        let page = part_at(copy, p - from);
+        let blank = is_blank(kept, p - from, changed.is_marked(p));
         put_page(bytes, p, page, blank);
         changed.put(p, !page.is_empty());
     }
-    if from.is_blank_group(g) {
+    if copy.is_empty() {
         changed.settle(g);
     }
 }

@@ -103,7 +103,7 @@ fn edges_of_memory(rt: HostRuntime) {
 }
 
 // Runs beside plain lists of bytes: the size of memory, the number that they begin with, and how many rounds they have.
-static RUNS: [(u32, u32, u32); 3] = [(65_536, 1, 24), (65_536, 2, 24), (1_048_576, 3, 4)];
+static RUNS: [(u32, u32, u32); 3] = [(65_536, 1, 24), (65_536, 2, 24), (4_259_840, 3, 2)];
 
 // Where memory is refused, what comes after it goes on from what was there before.
 #[test]
@@ -178,15 +178,16 @@ impl Run {
         }
     }
 
-    // A word or a byte in the first or the last page, across two pages, or anywhere.
+    // A word or a byte in the first or the last page, across two pages or two spans, or anywhere.
     fn put(&mut self) {
         let shape = self.state.shape();
         let _ = shape.base();
         let len = shape.start() + shape.size();
-        let place = match self.next() % 4 {
+        let place = match self.next() % 5 {
             0 => self.next() % 4096,
             1 => len.saturating_sub(4 + self.next() % 64),
             2 => (4096 * (self.next() % 64)).saturating_sub(self.next() % 4),
+            3 => 4_194_304 - self.next() % 4,
             _ => self.next().saturating_mul(4) % len.max(1),
         };
         let word = self.next().wrapping_mul(257);

@@ -1,20 +1,31 @@
-use Rattle.std.proofs.Common.{arith, ◌≡◌, ◌+◌, ◌*◌, None, Option, length, slice_index_or, sym, ap, subst, ◌∙◌}
+use Rattle.std.proofs.Common.{◌≡◌, ◌∙◌, ◌+◌, ◌*◌, ◌-◌, Option, None, true, false, length, slice_index_or, refl, sym, ap, subst, arith}
+use Rattle.std.proofs.lemmas.List.{get_or_default}
 use Rattle.std.specs.Global.{Vec}
-use Rattle.asc_shape.specs.Pages.{Page, IsPage, page_bytes}
-use Rattle.asc_shape.proofs.Copies.{group_made, pages_more}
+use Rattle.asc_shape.specs.Pages.{Page, IsPage, ArePages, held, page_in_group}
+use Rattle.asc_shape.proofs.Copies.{each_more, group_made}
 use Rattle.asc_shape.proofs.snapshot.copied_group.Goals as goal
+
+pub page_of-requires-clause-kept : goal.page_of-requires-clause-kept
+page_of-requires-clause-kept c free =
+    let k = c.loop-p.p - c.part_ends-from.result.0 in
+    let place : 32 * c.args.g + k ≡ c.loop-p.p = omega arith in
+    subst (λ p. IsPage (length c.args.bytes.now) c.args.bytes.now p (held (slice_index_or c.args.kept.now k None))) place
+    (c.requires.kept k (omega arith)
+    (ap (λ p. slice_index_or c.args.changed.now p false) place ∙ get_or_default c.args.changed.now c.loop-p.p false true (omega arith) ∙ sym c.is_marked.ensures ∙ free))
 
 pub loop-p-preserved : goal.loop-p-preserved
 loop-p-preserved c =
-    let more = pages_more c.args.bytes.now c.args.g c.loop-p.p c.loop-p.pages.items c.push.new.self.items c.in_ok-page_of.field-0
-    c.in_ok-push.ensures.items c.loop-p.invariant.count c.loop-p.invariant.each c.in_ok-page_of.ensures in
-    record { count = more.0; each = more.1 }
+    let bytes = c.args.bytes.now in
+    let place : c.loop-p.p ≡ 32 * c.args.g + length c.loop-p.pages.items = sym c.loop-p.invariant.count in
+    let more = each_more (λ k (page : Option Page). IsPage (length bytes) bytes (32 * c.args.g + k) (held page)) c.loop-p.pages.items c.push.new.self.items c.in_ok-page_of.field-0
+    c.in_ok-push.ensures.items c.loop-p.invariant.each
+    (subst (λ p. IsPage (length bytes) bytes p (held c.in_ok-page_of.field-0)) place c.in_ok-page_of.ensures) in
+    record { count = omega (arith, more.0, c.loop-p.invariant.count); each = more.1 }
 
 pub returns : goal.returns
 returns c =
-    let made = c.in_ok-new.ensures.ok in
-    let count : length c.in_ok-new.field-0.value.items ≡ length c.loop-p.pages.items = ap (λ (v : Vec (Option Page)). length v.items) made in
-    group_made c.args.bytes.now c.args.g c.in_ok-new.field-0
-    (count ∙ omega (arith, c.loop-p.invariant.count, c.requires.length, c.requires.marks, c.group_ends-from.ensures.to))
-    (λ k within. subst (λ (v : Vec (Option Page)). IsPage c.args.bytes.now (64 * c.args.g + k) (page_bytes (slice_index_or v.items k None))) (sym made)
-    (c.loop-p.invariant.each k (omega arith)))
+    let bytes = c.args.bytes.now in
+    subst (λ (v : Vec (Option Page)). ArePages (length bytes) bytes (32 * c.args.g) 32 (page_in_group v.items)) (sym c.in_ok-new.ensures.ok)
+    (group_made (length bytes) bytes c.args.g c.loop-p.pages.items refl
+    (λ k past within. omega (arith, c.loop-p.invariant.count, c.requires.marks, c.part_ends-from.ensures.to))
+    c.loop-p.invariant.each)

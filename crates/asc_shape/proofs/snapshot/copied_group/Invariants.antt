@@ -1,10 +1,10 @@
 use Rattle.std.proofs.Common.{◌≡◌, ◌<◌, ◌+◌, ◌*◌, ℕ, None, length, slice_index_or}
-use Rattle.asc_shape.specs.Pages.{IsPage, page_bytes}
+use Rattle.asc_shape.specs.Pages.{IsPage, held}
 use Rattle.asc_shape.proofs.snapshot.copied_group.Given as goal
 
 -- the pages so far
 abbrev pub invariant-loop-p : goal.invariant-loop-p
 invariant-loop-p l = record {
-  count : 64 * l.g + length l.pages.items ≡ l.p;
-  each : (k : ℕ) → k < length l.pages.items → IsPage l.bytes (64 * l.g + k) (page_bytes (slice_index_or l.pages.items k None));
+  count : 32 * l.g + length l.pages.items ≡ l.p;
+  each : (k : ℕ) → k < length l.pages.items → IsPage (length l.bytes) l.bytes (32 * l.g + k) (held (slice_index_or l.pages.items k None));
 }

@@ -1,46 +1,52 @@
-use Rattle.std.proofs.Common.{◌≡◌, ◌∙◌, ◌+◌, ◌*◌, min, true, false, length, slice_index_or, refl, sym, ap, List, Bool, subst, arith}
+use Rattle.std.proofs.Common.{◌≡◌, ◌∙◌, ◌+◌, ◌*◌, ◌-◌, Bool, List, length, refl, sym, ap, subst, arith}
 use Rattle.std.proofs.lemmas.Bool.{eqb-true}
-use Rattle.std.proofs.lemmas.List.{length-set}
-use Rattle.asc_shape.specs.Pages.{IsRestored, base_bytes}
-use Rattle.asc_shape.proofs.Restores.{restored_more, page_blank, not_false}
+use Rattle.asc_shape.specs.Pages.{IsPut, page_in_group}
+use Rattle.asc_shape.proofs.Puts.{put_none, put_one, put_more, put_whole, kept_blank, fits_here}
+use Rattle.asc_shape.proofs.Restores.{not_false}
 use Rattle.asc_shape.proofs.state.put_pages.Goals as goal
 
 pub put_page-requires-clause-blank : goal.put_page-requires-clause-blank
-put_page-requires-clause-blank c blank i here =
-    let free : slice_index_or c.loop-p.changed c.loop-p.p true ≡ false =
-    sym c.is_marked.ensures ∙ c.is_blank-blank.ensures.changed blank in
-    c.loop-p.invariant.pages.left i (omega arith) (subst (λ p. slice_index_or c.loop-p.changed p true ≡ false) (sym here) free) ∙ c.is_blank-blank.ensures.blank blank i here
+put_page-requires-clause-blank c blank =
+    let k = c.loop-p.p - c.part_ends-from.result.0 in
+    kept_blank (length c.args.bytes.now) (32 * c.args.g) k 32 c.loop-p.p (page_in_group c.args.copy.now) (page_in_group c.args.kept.now) c.args.bytes.now c.loop-p.bytes c.args.changed.now c.loop-p.changed
+    c.loop-p.invariant c.requires.kept (omega arith) (omega arith) (omega (arith, c.loop-p.invariant.size))
+    (sym c.is_marked.ensures ∙ c.is_blank-blank.ensures.changed blank) (c.is_blank-blank.ensures.blank blank)
+
+pub put_page-requires-clause-fits : goal.put_page-requires-clause-fits
+put_page-requires-clause-fits c =
+    fits_here (length c.args.bytes.now) (length c.loop-p.bytes) (32 * c.args.g) 32 c.loop-p.p (c.loop-p.p - c.part_ends-from.result.0) (page_in_group c.args.copy.now) c.part_at-page.result.now
+    c.requires.copy (omega arith) (omega arith) (omega arith) c.part_at-page.ensures
 
 pub loop-p-init : goal.loop-p-init
-loop-p-init c = record {
-  size = refl;
-  pages = subst (λ p. IsRestored c.args.from.now.bytes p (base_bytes c.args.base.now) c.args.bytes.now c.args.changed.now)
-      (let e : min (64 * c.args.g) (length c.args.changed.now) ≡ c.group_ends-first.result.0 = omega (arith, c.requires.group, c.group_ends-first.ensures.from) in e)
-      c.requires.restored;
-}
+loop-p-init c =
+    subst (λ a. IsPut (length c.args.bytes.now) (32 * c.args.g) a (page_in_group c.args.copy.now) c.args.bytes.now c.args.bytes.now c.args.changed.now c.args.changed.now)
+    (let e : 0 ≡ c.part_ends-from.result.0 - c.part_ends-from.result.0 = omega arith in e)
+    (put_none (length c.args.bytes.now) (32 * c.args.g) (page_in_group c.args.copy.now) c.args.bytes.now c.args.changed.now)
 
 pub loop-p-preserved : goal.loop-p-preserved
-loop-p-preserved c = record {
-  size = ap (λ (l : List Bool). length l) c.put.ensures ∙ length-set c.loop-p.changed c.loop-p.p _ ∙ c.loop-p.invariant.size;
-  pages = subst (λ (l : List Bool). IsRestored c.args.from.now.bytes (c.loop-p.p + 1) (base_bytes c.args.base.now) c.put_page.new.bytes l) (sym c.put.ensures)
-      (restored_more c.args.from.now.bytes (base_bytes c.args.base.now) c.loop-p.bytes c.put_page.new.bytes c.loop-p.changed c.loop-p.p _ c.loop-p.invariant.pages (omega arith)
-      (λ i here. c.put_page.ensures.page i here ∙ sym (c.page-page.ensures.places i here)) c.put_page.ensures.others
-      (λ free. page_blank c.args.from.now.bytes c.loop-p.p c.page-page.result.now c.page-page.ensures
-      (eqb-true _ _ (sym c.is_empty.ensures ∙ not_false c.is_empty.result free))));
-}
+loop-p-preserved c =
+    let n = length c.args.bytes.now in
+    let p = c.loop-p.p in
+    let from = c.part_ends-from.result.0 in
+    let pages = page_in_group c.args.copy.now in
+    let page = c.part_at-page.result.now in
+    let fits = fits_here n n (32 * c.args.g) 32 p (p - from) pages page c.requires.copy (omega arith) (omega arith) refl c.part_at-page.ensures in
+    let one = put_one n p page c.loop-p.bytes c.put_page.new.bytes c.loop-p.changed _ fits c.put_page.ensures.page c.put_page.ensures.others (omega (arith, c.loop-p.invariant.size))
+    (λ free. eqb-true _ _ (sym c.is_empty.ensures ∙ not_false c.is_empty.result free)) in
+    subst (λ a. IsPut n (32 * c.args.g) a pages c.args.bytes.now c.put_page.new.bytes c.args.changed.now c.put.new.self) (let e : p - from + 1 ≡ p + 1 - from = omega arith in e)
+    (subst (λ (l : List Bool). IsPut n (32 * c.args.g) (p - from + 1) pages c.args.bytes.now c.put_page.new.bytes c.args.changed.now l) (sym c.put.ensures)
+    (put_more n (32 * c.args.g) (p - from) 1 p pages (λ k. page) c.args.bytes.now c.loop-p.bytes c.put_page.new.bytes c.args.changed.now c.loop-p.changed _ c.loop-p.invariant one (omega arith)
+    (λ k within. c.part_at-page.ensures ∙ ap (λ j. pages j) (let e : p - from ≡ p - from + k = omega arith in e))))
 
-pub returns-then-is_blank_group : goal.returns-then-is_blank_group
-returns-then-is_blank_group c = record {
-  marks = ap (λ (l : List Bool). length l) c.settle.ensures ∙ c.loop-p.invariant.size;
-  group = subst (λ p. IsRestored c.args.from.now.bytes p (base_bytes c.args.base.now) c.loop-p.bytes c.settle.new.self)
-      (let e : c.loop-p.p ≡ min (64 * c.args.g + 64) (length c.args.changed.now) = omega (arith, c.group_ends-first.ensures.to, c.loop-p.auto.p-end) in e)
-      (subst (λ (l : List Bool). IsRestored c.args.from.now.bytes c.loop-p.p (base_bytes c.args.base.now) c.loop-p.bytes l) (sym c.settle.ensures) c.loop-p.invariant.pages);
-}
+pub returns-then-is_empty : goal.returns-then-is_empty
+returns-then-is_empty c =
+    let n = length c.args.bytes.now in
+    subst (λ (l : List Bool). IsPut n (32 * c.args.g) 32 (page_in_group c.args.copy.now) c.args.bytes.now c.loop-p.bytes c.args.changed.now l) (sym c.settle.ensures)
+    (put_whole n (32 * c.args.g) (c.loop-p.p - c.part_ends-from.result.0) 32 (page_in_group c.args.copy.now) c.args.bytes.now c.loop-p.bytes c.args.changed.now c.loop-p.changed
+    c.loop-p.invariant (omega arith) c.requires.marks (omega arith) (λ k behind within. omega (arith, c.part_ends-from.ensures.to)) c.requires.copy)
 
-pub returns-else-is_blank_group : goal.returns-else-is_blank_group
-returns-else-is_blank_group c = record {
-  marks = c.loop-p.invariant.size;
-  group = subst (λ p. IsRestored c.args.from.now.bytes p (base_bytes c.args.base.now) c.loop-p.bytes c.loop-p.changed)
-      (let e : c.loop-p.p ≡ min (64 * c.args.g + 64) (length c.args.changed.now) = omega (arith, c.group_ends-first.ensures.to, c.loop-p.auto.p-end) in e)
-      c.loop-p.invariant.pages;
-}
+pub returns-else-is_empty : goal.returns-else-is_empty
+returns-else-is_empty c =
+    let n = length c.args.bytes.now in
+    put_whole n (32 * c.args.g) (c.loop-p.p - c.part_ends-from.result.0) 32 (page_in_group c.args.copy.now) c.args.bytes.now c.loop-p.bytes c.args.changed.now c.loop-p.changed
+    c.loop-p.invariant (omega arith) c.requires.marks (omega arith) (λ k behind within. omega (arith, c.part_ends-from.ensures.to)) c.requires.copy

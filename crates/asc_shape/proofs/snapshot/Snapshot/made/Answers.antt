@@ -1,26 +1,32 @@
-use Rattle.std.proofs.Common.{sym, subst, ap, arith, List, ℕ, ◌≡◌, ◌+◌, ◌/◌, ◌<◌, length, None, slice_index_or}
+use Rattle.std.proofs.Common.{◌*◌, List, ℕ, Option, sym, subst, ap, arith}
 use Rattle.asc_model.specs.Shape.{length_of}
 use Rattle.asc_model.specs.State.{State, IsState}
-use Rattle.asc_shape.specs.Pages.{IsGroup}
-use Rattle.asc_shape.proofs.Copies.{bytes_of_groups, are_groups}
+use Rattle.asc_shape.specs.Pages.{Span, ArePages, held, page_in_span}
+use Rattle.asc_shape.proofs.Copies.{each_more, spans_made, bytes_of_spans}
 use Rattle.asc_shape.proofs.snapshot.Snapshot.made.Goals as goal
+
+pub loop-s-preserved : goal.loop-s-preserved
+loop-s-preserved c =
+    let more = each_more (λ k (span : Option Span). ArePages (length_of c.args.shape) c.args.bytes.now (1024 * k) 1024 (page_in_span (held span))) c.loop-s.spans.items c.push.new.self.items
+    c.in_ok-span_of.field-0 c.in_ok-push.ensures.items c.loop-s.invariant.each
+    (subst (λ a. ArePages (length_of c.args.shape) c.args.bytes.now (1024 * a) 1024 (page_in_span (held c.in_ok-span_of.field-0))) (sym c.loop-s.invariant.count) c.in_ok-span_of.ensures) in
+    record { count = omega (arith, more.0, c.loop-s.invariant.count); each = more.1 }
 
 pub invariant_of-result : goal.invariant_of-result
 invariant_of-result c =
-    let groups = c.loop-g.groups.items in
-    let count : length groups ≡ c.loop-g.g = c.loop-g.invariant.count in
-    let all : length groups ≡ length_of c.args.shape / 4096 / 64 + 1 = omega arith in
-    let each : (h : ℕ) → h < length groups → IsGroup c.args.bytes.now h (slice_index_or groups h None) = λ h within. c.loop-g.invariant.each h (omega arith) in (
+    let n = length_of c.args.shape in
+    let spans = c.loop-s.spans.items in
+    let pages = spans_made n c.args.bytes.now spans c.requires.length (omega (arith, c.loop-s.invariant.count)) c.loop-s.invariant.each in (
       subst (λ (bytes : List ℕ). IsState (record { shape = c.args.shape; bytes = bytes }))
-          (sym (bytes_of_groups (length_of c.args.shape) c.args.bytes.now groups c.requires.length all each))
+          (sym (bytes_of_spans n c.args.bytes.now spans c.requires.length pages))
           (record { shape = c.base.ensures.good; length = c.requires.length; bytes = c.elements_are_bytes.ensures }),
-      are_groups (length_of c.args.shape) c.args.bytes.now groups c.requires.length all each,
+      (λ p. (pages p).fits),
     )
 
 pub returns : goal.returns
 returns c =
-    let groups = c.loop-g.groups.items in
-    let count : length groups ≡ c.loop-g.g = c.loop-g.invariant.count in
-    let all : length groups ≡ length_of c.args.shape / 4096 / 64 + 1 = omega arith in
+    let n = length_of c.args.shape in
+    let spans = c.loop-s.spans.items in
     ap (λ (bytes : List ℕ). let s : State = record { shape = c.args.shape; bytes = bytes } in s)
-    (bytes_of_groups (length_of c.args.shape) c.args.bytes.now groups c.requires.length all (λ h within. c.loop-g.invariant.each h (omega arith)))
+    (bytes_of_spans n c.args.bytes.now spans c.requires.length
+    (spans_made n c.args.bytes.now spans c.requires.length (omega (arith, c.loop-s.invariant.count)) c.loop-s.invariant.each))

@@ -1,10 +1,12 @@
-use Rattle.std.proofs.Common.{◌≡◌, ◌<◌, ℕ, None, length, slice_index_or}
-use Rattle.asc_shape.specs.Pages.{IsGroup}
+use Rattle.std.proofs.Common.{◌≡◌, ◌<◌, ◌*◌, ℕ, None, length, slice_index_or}
+use Rattle.asc_model.specs.Shape.{length_of}
+use Rattle.asc_shape.specs.Pages.{ArePages, held, page_in_span}
 use Rattle.asc_shape.proofs.snapshot.Snapshot.made.Given as goal
 
--- the groups so far
-abbrev pub invariant-loop-g : goal.invariant-loop-g
-invariant-loop-g l = record {
-  count : length l.groups.items ≡ l.g;
-  each : (h : ℕ) → h < l.g → IsGroup l.bytes h (slice_index_or l.groups.items h None);
+-- the spans so far
+abbrev pub invariant-loop-s : goal.invariant-loop-s
+invariant-loop-s l = record {
+  count : length l.spans.items ≡ l.s;
+  each : (k : ℕ) → k < length l.spans.items
+      → ArePages (length_of l.shape) l.bytes (1024 * k) 1024 (page_in_span (held (slice_index_or l.spans.items k None)));
 }

@@ -1,14 +1,14 @@
-use Rattle.std.proofs.Common.{◌≡◌, ◌+◌, ◌*◌, ◌/◌, [], min, length}
+use Rattle.std.proofs.Common.{◌≡◌, ◌+◌, ◌*◌, ◌/◌, [], length}
 use Rattle.asc_model.specs.Shape.{length_of}
 use Rattle.asc_shape.specs.Pages.{IsBaseOf, IsRestored, base_bytes}
 use Rattle.asc_shape.proofs.state.State.fill.Given as goal
 
--- the groups so far are blank; the others are as they were
-abbrev pub invariant-loop-g : goal.invariant-loop-g
-invariant-loop-g l = record {
+-- the spans so far are blank; the others are as they were
+abbrev pub invariant-loop-s : goal.invariant-loop-s
+invariant-loop-s l = record {
   shape : l.self-inside.shape ≡ l.fn.self.shape;
   size : length l.self-inside.bytes.items ≡ length_of l.fn.self.shape;
   marks : length l.self-inside.changed ≡ length_of l.fn.self.shape / 4096 + 1;
   base : IsBaseOf l.self-inside.shape l.self-inside.base;
-  pages : IsRestored [] (min (64 * l.g) (length l.self-inside.changed)) (base_bytes l.self-inside.base) l.self-inside.bytes.items l.self-inside.changed;
+  pages : IsRestored [] (1024 * l.s) (base_bytes l.self-inside.base) l.self-inside.bytes.items l.self-inside.changed;
 }

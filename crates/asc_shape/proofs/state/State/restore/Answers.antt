@@ -1,12 +1,13 @@
 use Rattle.std.proofs.Common.{Bool, ◌≡◌, ◌∙◌, ◌+◌, ◌*◌, ◌-◌, ◌/◌, ◌≤◌, sym, ap, arith, length, List, ℕ, subst}
 use Rattle.asc_model.specs.Shape.{Shape, IsShape, length_of}
 use Rattle.asc_model.specs.State.{State}
-use Rattle.asc_shape.specs.Pages.{base_bytes}
-use Rattle.asc_shape.proofs.Restores.{restored_all, inside_restored, restored_up_to, restored_put, items_over}
+use Rattle.asc_shape.specs.Pages.{base_bytes, FitPages, KeptPages, ArePages, IsPut, page_in_span}
+use Rattle.asc_shape.proofs.Copies.{kept_pages}
+use Rattle.asc_shape.proofs.Restores.{restored_all, inside_restored, restored_put, items_over}
 use Rattle.asc_shape.proofs.state.State.restore.Goals as goal
 
-pub loop-g-init : goal.loop-g-init
-loop-g-init c =
+pub loop-s-init : goal.loop-s-init
+loop-s-init c =
     let shaped : c.self.inside.shape ≡ c.args.from.now.shape = ap (λ (s : State). s.shape) c.self.view_is ∙ c.requires in
     record {
       shape = shaped;
@@ -16,46 +17,70 @@ loop-g-init c =
       pages = record { done = λ i below. absurd (omega arith); blank = λ i below free. absurd (omega arith); left = λ i above free. c.self.invariant.kept i free };
     }
 
-pub loop-g-preserved : goal.loop-g-preserved
-loop-g-preserved c =
-    let inside = c.loop-g.self-inside in
-    let size : length c.put_group.new.bytes ≡ length inside.bytes.items = c.put_group.auto.bytes ∙ ap (λ (l : List ℕ). length l) c.deref_mut.ensures.value in
+pub put_span-requires-clause-copy : goal.put_span-requires-clause-copy
+put_span-requires-clause-copy c =
+    let inside = c.loop-s.self-inside in
+    let n = length_of c.args.from.now.shape in
+    let size : n ≡ length c.deref_mut.result.now = sym (ap (λ (l : List ℕ). length l) c.deref_mut.ensures.value ∙ c.loop-s.invariant.size) in
+    let are : ArePages n c.args.from.now.bytes (1024 * c.loop-s.s) 1024 (page_in_span c.groups.result.now) = c.groups.ensures in
+    subst (λ m. FitPages m (1024 * c.loop-s.s) 1024 (page_in_span c.groups.result.now)) size (λ k within. (are k within).fits)
+
+pub put_span-requires-clause-kept : goal.put_span-requires-clause-kept
+put_span-requires-clause-kept c =
+    let inside = c.loop-s.self-inside in
+    let n = length_of c.args.from.now.shape in
+    let there = c.deref_mut.ensures.value in
+    let size : n ≡ length c.deref_mut.result.now = sym (ap (λ (l : List ℕ). length l) there ∙ c.loop-s.invariant.size) in
+    let kept = page_in_span c.base_groups-kept.result.now in
+    let are : ArePages n (base_bytes inside.base) (1024 * c.loop-s.s) 1024 kept = subst (λ (s : Shape). ArePages (length_of s) (base_bytes inside.base) (1024 * c.loop-s.s) 1024 kept) c.loop-s.invariant.shape c.base_groups-kept.ensures in
+    subst (λ m. KeptPages inside.changed m c.deref_mut.result.now (1024 * c.loop-s.s) 1024 kept) size
+    (subst (λ (l : List ℕ). KeptPages inside.changed n l (1024 * c.loop-s.s) 1024 kept) (sym there)
+    (kept_pages inside.changed n (base_bytes inside.base) inside.bytes.items (1024 * c.loop-s.s) 1024 kept c.loop-s.invariant.size c.loop-s.invariant.marks c.loop-s.invariant.pages.left are))
+
+pub loop-s-preserved : goal.loop-s-preserved
+loop-s-preserved c =
+    let inside = c.loop-s.self-inside in
+    let n = length_of c.args.from.now.shape in
+    let there = c.deref_mut.ensures.value in
+    let size : length c.put_span.new.bytes ≡ length inside.bytes.items = c.put_span.auto.bytes ∙ ap (λ (l : List ℕ). length l) there in
+    let whole : length c.deref_mut.result.now ≡ n = ap (λ (l : List ℕ). length l) there ∙ c.loop-s.invariant.size in
+    let are : ArePages n c.args.from.now.bytes (1024 * c.loop-s.s) 1024 (page_in_span c.groups.result.now) = c.groups.ensures in
+    let put : IsPut n (1024 * c.loop-s.s) 1024 (page_in_span c.groups.result.now) inside.bytes.items c.put_span.new.bytes inside.changed c.put_span.new.changed =
+    subst (λ (l : List ℕ). IsPut n (1024 * c.loop-s.s) 1024 (page_in_span c.groups.result.now) l c.put_span.new.bytes inside.changed c.put_span.new.changed) there
+    (subst (λ m. IsPut m (1024 * c.loop-s.s) 1024 (page_in_span c.groups.result.now) c.deref_mut.result.now c.put_span.new.bytes inside.changed c.put_span.new.changed) whole c.put_span.ensures) in
     record {
-      shape = c.loop-g.invariant.shape;
-      size = ap (λ (l : List ℕ). length l) (items_over inside.bytes c.put_group.new.bytes size) ∙ size ∙ c.loop-g.invariant.size;
-      marks = c.put_group.ensures.marks ∙ c.loop-g.invariant.marks;
-      base = c.loop-g.invariant.base;
-      pages = restored_put c.args.from.now.bytes (base_bytes inside.base) inside.bytes c.put_group.new.bytes inside.changed c.put_group.new.changed c.loop-g.g
-          c.put_group.ensures.group size c.put_group.ensures.marks;
+      shape = c.loop-s.invariant.shape;
+      size = ap (λ (l : List ℕ). length l) (items_over inside.bytes c.put_span.new.bytes size) ∙ size ∙ c.loop-s.invariant.size;
+      marks = put.size ∙ c.loop-s.invariant.marks;
+      base = c.loop-s.invariant.base;
+      pages = restored_put n c.args.from.now.bytes (base_bytes inside.base) inside.bytes c.put_span.new.bytes inside.changed c.put_span.new.changed c.loop-s.s (page_in_span c.groups.result.now)
+          c.loop-s.invariant.pages put are size;
     }
 
--- the groups that were put have all pages
-all_pages : (n len g : ℕ) (changed : List Bool) → length changed ≡ n / 4096 + 1 → len ≡ length changed → (len - 1) / 64 + 1 ≤ g → n / 4096 + 1 ≤ 64 * g
-all_pages n len g changed size is all = omega arith
+-- the spans that were put have all pages
+all_pages : (n len s : ℕ) (changed : List Bool) → length changed ≡ n / 4096 + 1 → len ≡ length changed → (len - 1) / 1024 + 1 ≤ s → n / 4096 + 1 ≤ 1024 * s
+all_pages n len s changed size is all = omega arith
 
 pub invariant_of-self : goal.invariant_of-self
 invariant_of-self c =
-    let inside = c.loop-g.self-inside in
-    let shaped = c.loop-g.invariant.shape in
+    let inside = c.loop-s.self-inside in
+    let shaped = c.loop-s.invariant.shape in
     let n = length_of c.args.from.now.shape in
-    let marks : length inside.changed ≡ n / 4096 + 1 = c.loop-g.invariant.marks in
-    let first : length c.self.inside.changed ≡ n / 4096 + 1 =
-    c.self.invariant.marks ∙ ap (λ (s : State). length_of s.shape / 4096 + 1) c.self.view_is ∙ ap (λ (s : Shape). length_of s / 4096 + 1) c.requires in
-    inside_restored inside.shape inside.bytes inside.changed c.mark.new.self c.args.from.now.bytes (base_bytes inside.base) (n / 4096 + 1)
-    (restored_up_to c.args.from.now.bytes (base_bytes inside.base) inside.bytes.items inside.changed (64 * c.loop-g.g) (n / 4096 + 1) c.loop-g.invariant.pages marks (all_pages n c.len.result c.loop-g.g c.self.inside.changed first c.len.ensures c.loop-g-test.false))
+    let marks : length inside.changed ≡ n / 4096 + 1 = c.loop-s.invariant.marks in
+    let first : length c.self.inside.changed ≡ n / 4096 + 1 = c.self.invariant.marks ∙ ap (λ (s : State). length_of s.shape / 4096 + 1) c.self.view_is ∙ ap (λ (s : Shape). length_of s / 4096 + 1) c.requires in
+    let all = all_pages n c.len.result c.loop-s.s c.self.inside.changed first c.len.ensures c.loop-s-test.false in
+    inside_restored inside.shape inside.bytes inside.changed c.mark.new.self c.args.from.now.bytes (base_bytes inside.base) (1024 * c.loop-s.s) c.loop-s.invariant.pages
     (subst (λ (s : Shape). IsShape s) (sym shaped) c.shape.ensures.state.shape)
-    (c.loop-g.invariant.size ∙ sym (ap (λ (s : Shape). length_of s) shaped)) (marks ∙ sym (ap (λ (s : Shape). length_of s / 4096 + 1) shaped))
-    (omega (arith, ap (λ (s : Shape). length_of s) shaped)) c.mark.ensures
+    (c.loop-s.invariant.size ∙ sym (ap (λ (s : Shape). length_of s) shaped)) (marks ∙ sym (ap (λ (s : Shape). length_of s / 4096 + 1) shaped))
+    (omega (arith, all, ap (λ (s : Shape). length_of s) shaped)) c.mark.ensures
 
 pub returns : goal.returns
 returns c =
-    let inside = c.loop-g.self-inside in
+    let inside = c.loop-s.self-inside in
     let n = length_of c.args.from.now.shape in
-    let marks : length inside.changed ≡ n / 4096 + 1 = c.loop-g.invariant.marks in
-    let first : length c.self.inside.changed ≡ n / 4096 + 1 =
-    c.self.invariant.marks ∙ ap (λ (s : State). length_of s.shape / 4096 + 1) c.self.view_is ∙ ap (λ (s : Shape). length_of s / 4096 + 1) c.requires in
-    ap (λ (s : Shape). let t : State = record { shape = s; bytes = inside.bytes.items } in t) c.loop-g.invariant.shape
+    let first : length c.self.inside.changed ≡ n / 4096 + 1 = c.self.invariant.marks ∙ ap (λ (s : State). length_of s.shape / 4096 + 1) c.self.view_is ∙ ap (λ (s : Shape). length_of s / 4096 + 1) c.requires in
+    let all = all_pages n c.len.result c.loop-s.s c.self.inside.changed first c.len.ensures c.loop-s-test.false in
+    ap (λ (s : Shape). let t : State = record { shape = s; bytes = inside.bytes.items } in t) c.loop-s.invariant.shape
     ∙ ap (λ (bytes : List ℕ). let t : State = record { shape = c.args.from.now.shape; bytes = bytes } in t)
-    (restored_all c.args.from.now.bytes (base_bytes inside.base) inside.bytes.items inside.changed n (n / 4096 + 1)
-    (restored_up_to c.args.from.now.bytes (base_bytes inside.base) inside.bytes.items inside.changed (64 * c.loop-g.g) (n / 4096 + 1) c.loop-g.invariant.pages marks (all_pages n c.len.result c.loop-g.g c.self.inside.changed first c.len.ensures c.loop-g-test.false))
-    c.loop-g.invariant.size c.shape.ensures.state.length (omega arith))
+    (restored_all c.args.from.now.bytes (base_bytes inside.base) inside.bytes.items inside.changed n (1024 * c.loop-s.s) c.loop-s.invariant.pages
+    c.loop-s.invariant.size c.shape.ensures.state.length all)

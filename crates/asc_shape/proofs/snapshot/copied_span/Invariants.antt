@@ -1,0 +1,11 @@
+use Rattle.std.proofs.Common.{◌≡◌, ◌<◌, ◌+◌, ◌*◌, ℕ, None, length, slice_index_or}
+use Rattle.asc_shape.specs.Pages.{ArePages, held, page_in_group}
+use Rattle.asc_shape.proofs.snapshot.copied_span.Given as goal
+
+-- the groups so far
+abbrev pub invariant-loop-g : goal.invariant-loop-g
+invariant-loop-g l = record {
+  count : 32 * l.s + length l.groups.items ≡ l.g;
+  each : (k : ℕ) → k < length l.groups.items
+      → ArePages (length l.bytes) l.bytes (32 * (32 * l.s + k)) 32 (page_in_group (held (slice_index_or l.groups.items k None)));
+}
