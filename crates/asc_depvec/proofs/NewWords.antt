@@ -15,8 +15,8 @@ use Rattle.asc_model.proofs.Numbers.{number_at-suc}
 use Rattle.asc_shape.specs.Face.{Face, Untold, Told, is_untouched, status_after_read, status_after_write, face_after_read, face_after_put, face_after_reads, face_after_puts, room_of}
 use Rattle.asc_shape.proofs.Faces.{state-reads}
 use Rattle.asc_depvec.specs.declared.tracer.Tracer.TheInside.{Inside}
-use Rattle.asc_depvec.specs.Tracer.{Tracing, cap_of, face_of}
-use Rattle.asc_depvec.specs.Inside.{HaveStatus, IsTracer, status_of, statuses_of, tracing_of, with_statuses}
+use Rattle.asc_depvec.specs.Tracer.{HaveStatus, Tracing, cap_of, face_of}
+use Rattle.asc_depvec.specs.Inside.{IsTracer, status_of, statuses_of, tracing_of, with_statuses}
 use Rattle.asc_depvec.proofs.Marking.{Fits, FitPlaces-touch}
 use Rattle.asc_depvec.proofs.Insides.{IsPlace-from, room_for, tracing_of-own}
 

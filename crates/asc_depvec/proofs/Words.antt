@@ -15,8 +15,8 @@ use Rattle.asc_model.proofs.Numbers.{number_at-suc}
 use Rattle.asc_shape.specs.Face.{Face, Marks, Untold, Told, status_at, is_untouched, status_after_read, status_after_write, marks_after, face_after_read, face_after_put, face_after_reads, face_after_puts, untouched_count}
 use Rattle.asc_shape.proofs.Faces.{state-reads, state-puts, untouched_count-cons}
 use Rattle.asc_depvec.specs.declared.tracer.Tracer.TheInside.{Inside}
-use Rattle.asc_depvec.specs.Tracer.{Tracing, cap_of, face_of}
-use Rattle.asc_depvec.specs.Inside.{AreWritten, HaveStatus, status_of, statuses_of, tracing_of, IsTracer}
+use Rattle.asc_depvec.specs.Tracer.{HaveStatus, Tracing, cap_of, face_of}
+use Rattle.asc_depvec.specs.Inside.{AreWritten, status_of, statuses_of, tracing_of, IsTracer}
 use Rattle.asc_depvec.proofs.Insides.{HasRoom, tracing_of-own, untouched_count-one}
 use Rattle.asc_depvec.proofs.UndoneReads.{after_read_touched}
 

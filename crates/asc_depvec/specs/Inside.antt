@@ -1,5 +1,5 @@
 -- How a tracer's fields stand for a tracer, and words of private contracts.
-use Rattle.std.specs.Prelude.{◌≡◌, ℕ, zero, suc, ◌+◌, ◌<◌, ◌≤◌, false, ◌==◌, List, [], length, map, replicate, slice_set, All, vec_capacity, if◌then◌else◌}
+use Rattle.std.specs.Prelude.{◌≡◌, ℕ, zero, suc, ◌+◌, ◌≤◌, false, ◌==◌, List, [], length, map, replicate, slice_set, All, vec_capacity, if◌then◌else◌}
 use Rattle.asc_model.specs.declared.status.Status.{Status}
 use Rattle.asc_model.specs.declared.status.Status.TheVariants.{Untouched, Read, Written, ReadWritten}
 use Rattle.asc_model.specs.Shape.{length_of, is_same_shape}
@@ -38,10 +38,6 @@ pub record IsTracer (t : Inside) : Type 0 where
 abbrev pub AreWritten : List Status → List ℕ → Type 0
 AreWritten statuses places = All (λ place. status_after_write (status_at statuses place) ≡ status_at statuses place
     × is_untouched (status_at statuses place) ≡ false) places
-
--- the n places from a place on have this status
-abbrev pub HaveStatus : List Status → Status → (place n : ℕ) → Type 0
-HaveStatus statuses status place n = (k : ℕ) → place ≤ k → k < place + n → status_at statuses k ≡ status
 
 -- the statuses once the n places from a place on have this one
 abbrev pub with_statuses : List Status → (place : ℕ) → Status → (n : ℕ) → List Status

@@ -1,12 +1,12 @@
 -- What a tracer is to contracts: a state that tells how each of its places was touched.
-use Rattle.std.specs.Prelude.{◌≡◌, ℕ, ◌<◌, ◌≤◌, List, [], ◌∷◌, length, take, drop, replicate, slice_set, if◌then◌else◌}
+use Rattle.std.specs.Prelude.{◌≡◌, ℕ, ◌+◌, ◌<◌, ◌≤◌, List, [], ◌∷◌, length, take, drop, replicate, slice_set, if◌then◌else◌}
 use Rattle.asc_model.specs.declared.status.Status.{Status}
 use Rattle.asc_model.specs.declared.status.Status.TheVariants.{Untouched}
 use Rattle.asc_model.specs.Shape.{Shape, length_of, is_same_shape}
 use Rattle.asc_model.specs.State.{State}
 use Rattle.asc_model.specs.Places.{bytes_after}
 use Rattle.asc_model.specs.Reach.{step_room}
-use Rattle.asc_shape.specs.Face.{Face, Marks, Untold, Told}
+use Rattle.asc_shape.specs.Face.{Face, Marks, Untold, Told, status_at}
 
 -- The shape that it was made with, at most how many places may be touched, the state, the status of each place of it,
 -- and each touched place with its byte before its first touch, in the order of those touches.
@@ -49,6 +49,10 @@ fresh shape cap state = record {
   statuses = replicate (length_of state.shape) Untouched;
   touched = [];
 }
+
+-- the n places from a place on have this status
+abbrev pub HaveStatus : List Status → Status → (place n : ℕ) → Type 0
+HaveStatus statuses status place n = (k : ℕ) → place ≤ k → k < place + n → status_at statuses k ≡ status
 
 -- statuses with the places of a list untouched again
 abbrev pub untouch : List Status → List (ℕ × ℕ) → List Status

@@ -1,13 +1,15 @@
-ghost use Rattle.std.specs.Prelude.{◌≡◌, true, ◌+◌, ◌^◌, ◌<◌, ◌≤◌, [], ◌∷◌, ◌++◌, All, IfOk, length, vec_len, vec_capacity, if◌then◌else◌};
+ghost use Rattle.std.specs.Prelude.{◌≡◌, true, ◌+◌, ◌^◌, ◌<◌, ◌≤◌, [], ◌∷◌, ◌++◌, All, IfOk, IfSome, IsNone, length, vec_len, vec_capacity, if◌then◌else◌};
 ghost use Rattle.std.specs.Borrow.{Lends, sem};
+ghost use Rattle.asc_model.specs.declared.status.Status.{Status};
 ghost use Rattle.asc_model.specs.Number.{AreBytes, bytes_of, word_at};
 ghost use Rattle.asc_model.specs.Places.{cells, places_from};
+ghost use Rattle.asc_model.specs.Shape.{length_of};
 ghost use Rattle.asc_shape.specs.Face.{Told, status_at, is_untouched, status_after_read, status_after_write, face_after_reads, face_after_puts, untouched_count, room_of};
 ghost use Rattle.asc_shape.specs.State.{zero_state};
 ghost use Rattle.asc_shape.specs.contracts.state.State as state;
 ghost use Rattle.asc_depvec.specs.contracts.tracer.Tracer.{the_row};
-ghost use Rattle.asc_depvec.specs.Tracer.{IsTracing, least_cap, most_cap, face_of, fresh, undone, untouch};
-ghost use Rattle.asc_depvec.specs.Inside.{AreWritten, HaveStatus, status_of, statuses_of, with_statuses};
+ghost use Rattle.asc_depvec.specs.Tracer.{HaveStatus, IsTracing, least_cap, most_cap, face_of, fresh, undone, untouch};
+ghost use Rattle.asc_depvec.specs.Inside.{AreWritten, status_of, statuses_of, with_statuses};
 
 use asc_shape::{Bytes, Memory, Shape, State, Status, Words, get_by_bytes, put_by_bytes};
 use std::alloc::Global;
@@ -111,6 +113,48 @@ impl Tracer {
     {
         let mark = self.marks.get(place as usize);
         status_of(mark.copied().unwrap_or(UNTOUCHED))
+    }
+
+    /// The status that the four places from a place on have, where it is one.
+    #[inline]
+    pub fn word_status(&self, place: u32) -> Option<Status>
+        requires place { place + 4 ≤ length_of self.now.state.shape }
+        requires own { self.now.state.shape ≡ self.now.shape }
+        ensures one { IfSome result (λ status. HaveStatus self.now.statuses status place 4) }
+        ensures none { IsNone result → (status : Status) → HaveStatus self.now.statuses status place 4 → ⊥ }
+    {
+        // That its state is one, and its marks fit it.
+        let _ = Bytes::shape(self);
+        if have_mark(&self.marks, place, READ) {
+            Some(Status::Read)
+        } else if have_mark(&self.marks, place, READ_WRITTEN) {
+            Some(Status::ReadWritten)
+        } else if have_mark(&self.marks, place, WRITTEN) {
+            Some(Status::Written)
+        } else {
+            self.one_status(place)
+        }
+    }
+
+    // The status that four places have, where it is one, place by place.
+    #[cold]
+    #[inline(never)]
+    fn one_status(&self, place: u32) -> Option<Status>
+        requires { place + 4 ≤ 2 ^ 32 }
+        ensures one { IfSome result (λ status. HaveStatus self.now.statuses status place 4) }
+        ensures none { IsNone result → (status : Status) → HaveStatus self.now.statuses status place 4 → ⊥ }
+    {
+        let status = self.status(place);
+        if self.status(place + 1) != status {
+            return None;
+        }
+        if self.status(place + 2) != status {
+            return None;
+        }
+        if self.status(place + 3) != status {
+            return None;
+        }
+        Some(status)
     }
 
     /// Each touched place with its byte before its first touch, in the order of those touches.

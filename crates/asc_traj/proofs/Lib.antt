@@ -9,3 +9,4 @@ pub mod Looks
 pub mod Finding
 pub mod HaltSteps
 pub mod HaltShared
+pub mod Splits

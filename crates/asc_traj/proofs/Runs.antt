@@ -1,10 +1,10 @@
 -- Cells put together run by run, in whatever order of the runs.
-use Rattle.std.proofs.Common.{◌≡◌, ℕ, zero, suc, ◌+◌, ◌-◌, ◌<◌, ◌≤◌, ◌==◌, Bool, cond, List, [], ◌∷◌, ◌++◌, length, take, drop, get_or, refl, sym, ap, subst, ◌∙◌, inl, inr, arith}
+use Rattle.std.proofs.Common.{◌≡◌, ℕ, zero, suc, ◌+◌, ◌-◌, ◌<◌, ◌≤◌, ◌==◌, Bool, cond, List, [], ◌∷◌, ◌++◌, length, take, drop, refl, sym, ap, subst, ◌∙◌, inl, inr, arith}
 use Rattle.std.specs.Prelude.{All, Contains, count_by}
 use Rattle.std.specs.List.{flat_map, sum_by}
 use Rattle.std.specs.List.Sorted.{IsPermutation, IsNonDecreasingBy}
 use Rattle.std.proofs.lemmas.Bool.{cases_eq, cases_lt, eq-eqb}
-use Rattle.std.proofs.lemmas.List.{append-nil, drop-take, get_or-drop, map-append, take-append-drop, take-take, take_more, length-drop}
+use Rattle.std.proofs.lemmas.List.{append-nil, drop-drop, drop-take, map-append, take-append-drop, take-take}
 use Rattle.std.proofs.lemmas.List.Concat.{flat_map-append, length-flat_map}
 use Rattle.std.proofs.lemmas.List.Elements.{All-append, All-contains, All-contains_itself, All-drop, All-head, All-nil, All-push, All-tail, All-take}
 use Rattle.std.proofs.lemmas.List.Sorted.{sum_by-IsPermutation}
@@ -65,7 +65,7 @@ pub record AreRuns (cells : List (ℕ × ℕ)) (from : ℕ) (runs : List Run) : 
   pub each : All (IsRun cells) runs
   pub whole : flat_map (cells_of cells) runs ≡ take from cells
 
-take-further : (from to : ℕ) (cells : List (ℕ × ℕ)) → from ≤ to → take from cells ++ take (to - from) (drop from cells) ≡ take to cells
+pub take-further : (from to : ℕ) (cells : List (ℕ × ℕ)) → from ≤ to → take from cells ++ take (to - from) (drop from cells) ≡ take to cells
 take-further from to cells le =
     let e : from + (to - from) ≡ to = omega arith in
     ap (λ (list : List (ℕ × ℕ)). take from cells ++ list) (sym (drop-take from (to - from) cells) ∙ ap (λ (n : ℕ). drop from (take n cells)) e)
@@ -87,31 +87,37 @@ AreRuns-more cells from runs run are is one = record {
 
 -- ---- a run that grows
 
--- places in a row, and one more
-places_from-last : (place n : ℕ) → places_from place (suc n) ≡ places_from place n ++ (place + n) ∷ []
-places_from-last place zero = let same : place ≡ place + 0 = omega arith in ap (λ (p : ℕ). p ∷ []) same
-places_from-last place (suc n) =
+-- places in a row, and more of them
+places_from-append : (place n m : ℕ) → places_from place (n + m) ≡ places_from place n ++ places_from (place + n) m
+places_from-append place zero m =
+    let none : zero + m ≡ m = omega arith in
+    let same : place ≡ place + 0 = omega arith in
+    ap (places_from place) none ∙ ap (λ (p : ℕ). places_from p m) same
+places_from-append place (suc n) m =
+    let more : suc n + m ≡ suc (n + m) = omega arith in
     let last : place + 1 + n ≡ place + suc n = omega arith in
-    ap (λ (list : List ℕ). place ∷ list) (places_from-last (place + 1) n) ∙ ap (λ (p : ℕ). place ∷ (places_from (place + 1) n ++ p ∷ [])) last
+    ap (places_from place) more
+    ∙ ap (λ (list : List ℕ). place ∷ list) (places_from-append (place + 1) n m)
+    ∙ ap (λ (p : ℕ). place ∷ (places_from (place + 1) n ++ places_from p m)) last
 
--- a cell at the place behind a row makes the row longer
-pub row-more : (cells : List (ℕ × ℕ)) (place from to : ℕ) → from ≤ to → to < length cells → places_of (take (to - from) (drop from cells)) ≡ places_from place (to - from)
-    → (get_or cells to (0, 0)).0 ≡ place + (to - from) → places_of (take (to + 1 - from) (drop from cells)) ≡ places_from place (to + 1 - from)
-row-more cells place from to le lt row is =
+-- a row behind a row makes it longer
+pub row-further : (cells : List (ℕ × ℕ)) (place from to m : ℕ) → from ≤ to → places_of (take (to - from) (drop from cells)) ≡ places_from place (to - from)
+    → places_of (take m (drop to cells)) ≡ places_from (place + (to - from)) m → places_of (take (to + m - from) (drop from cells)) ≡ places_from place (to + m - from)
+row-further cells place from to m le row piece =
     let n = to - from in
-    let more : to + 1 - from ≡ suc n = omega arith in
-    let within : n < length (drop from cells) = omega (arith, length-drop from cells) in
+    let more : to + m - from ≡ n + m = omega arith in
+    let behind : n + m - n ≡ m = omega arith in
     let there : from + n ≡ to = omega arith in
-    let behind : suc n ≡ n + 1 = omega arith in
-    let at : get_or (drop from cells) n (0, 0) ≡ get_or cells to (0, 0) = get_or-drop from cells n (0, 0) ∙ ap (λ (k : ℕ). get_or cells k (0, 0)) there in
-    let longer : take (suc n) (drop from cells) ≡ take n (drop from cells) ++ get_or cells to (0, 0) ∷ [] =
-    ap (λ (k : ℕ). take k (drop from cells)) behind ∙ take_more (drop from cells) n (0, 0) within ∙ ap (λ (cell : ℕ × ℕ). take n (drop from cells) ++ cell ∷ []) at in
+    let parts : take (n + m) (drop from cells) ≡ take n (drop from cells) ++ take m (drop to cells) =
+    sym (take-further n (n + m) (drop from cells) (omega arith))
+    ∙ ap (λ (k : ℕ). take n (drop from cells) ++ take k (drop n (drop from cells))) behind
+    ∙ ap (λ (list : List (ℕ × ℕ)). take n (drop from cells) ++ take m list) (drop-drop n from cells ∙ ap (λ (k : ℕ). drop k cells) there) in
     ap (λ (k : ℕ). places_of (take k (drop from cells))) more
-    ∙ ap places_of longer
-    ∙ map-append (λ (cell : ℕ × ℕ). cell.0) (take n (drop from cells)) (get_or cells to (0, 0) ∷ [])
-    ∙ ap (λ (list : List ℕ). list ++ (get_or cells to (0, 0)).0 ∷ []) row
-    ∙ ap (λ (p : ℕ). places_from place n ++ p ∷ []) is
-    ∙ sym (places_from-last place n)
+    ∙ ap places_of parts
+    ∙ map-append (λ (cell : ℕ × ℕ). cell.0) (take n (drop from cells)) (take m (drop to cells))
+    ∙ ap (λ (list : List ℕ). list ++ places_of (take m (drop to cells))) row
+    ∙ ap (λ (list : List ℕ). places_from place n ++ list) piece
+    ∙ sym (places_from-append place n m)
     ∙ ap (places_from place) (sym more)
 
 -- ---- runs by rising place

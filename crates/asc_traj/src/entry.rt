@@ -1,14 +1,15 @@
-ghost use Rattle.std.specs.Prelude.{◌≡◌, ◌+◌, ◌≤◌, ◌<◌, ◌^◌, ◌==◌, ◌++◌, true, false, All, IfOk, Some, flat_map, length, map, filter, slice_index, slice_index_or, vec_capacity, vec_len};
+ghost use Rattle.std.specs.Prelude.{◌≡◌, ◌+◌, ◌≤◌, ◌<◌, ◌^◌, ◌==◌, ◌++◌, true, false, All, IfOk, Some, flat_map, length, map, slice_index, slice_index_or, take, drop, vec_capacity, vec_len};
 ghost use Rattle.std.specs.List.{list_all};
 ghost use Rattle.std.specs.Arc.{arc_value};
 ghost use Rattle.asc_model.specs.Shape.{length_of};
 ghost use Rattle.asc_model.specs.Entry.{IsTrueEntry, Matches, put_entry, entry_of};
 ghost use Rattle.asc_model.specs.Step.{At};
 ghost use Rattle.asc_model.specs.Plain.{plain};
-ghost use Rattle.asc_shape.specs.Face.{status_at};
+ghost use Rattle.asc_model.specs.Places.{places_from};
+ghost use Rattle.asc_depvec.specs.Tracer.{IsTracing};
 ghost use Rattle.asc_traj.specs.Content.{matches};
 ghost use Rattle.asc_traj.specs.Trace.{StandsFor, origin_of};
-ghost use Rattle.asc_traj.specs.Inside.{IsRun, cells_of, is_read_first, is_written};
+ghost use Rattle.asc_traj.specs.Inside.{HasRoom, IsRow, IsRun, Splits, cells_of, read_first, written};
 
 use crate::tracing::known;
 use asc_depvec::Tracer;
@@ -179,13 +180,33 @@ fn end_of(cells: &[(u32, u8)], from: usize, place: u32) -> usize
     requires place { (slice_index_or cells.now from (0, 0)).0 ≡ place }
     ensures { IsRun cells.now (record { place = place; from = from; to = result }) }
 {
-    let mut to = from + 1;
-    let mut next = place as usize + 1;
+    let mut to = from + piece_of(cells, from);
+    let mut next = place as usize + (to - from);
     while to < cells.len() && cells[to].0 as usize == next {
-        to += 1;
-        next += 1;
+        let piece = piece_of(cells, to);
+        to += piece;
+        next += piece;
     }
     to
+}
+
+/// How many of the cells from there on are looked at together: the four of a word, or one.
+#[inline]
+fn piece_of(cells: &[(u32, u8)], at: usize) -> usize
+    requires { at < length cells.now }
+    ensures some { 0 < result }
+    ensures most { at + result ≤ length cells.now }
+    ensures row { map (λ cell. cell.0) (take result (drop at cells.now))
+        ≡ places_from (slice_index_or cells.now at (0, 0)).0 result }
+{
+    let place = cells[at].0 as usize;
+    if cells.len() - at < 4 {
+        return 1;
+    }
+    let is_word = cells[at + 1].0 as usize == place + 1
+        && cells[at + 2].0 as usize == place + 2
+        && cells[at + 3].0 as usize == place + 3;
+    if is_word { 4 } else { 1 }
 }
 
 /// The cells of a run.
@@ -205,16 +226,14 @@ fn split(
     tracer: &Tracer,
     runs: &[Run],
 ) -> Result<(Vec<(u32, u8)>, Vec<(u32, u8)>), AllocError>
+    requires tracer { IsTracing tracer.now }
     requires places { All (λ cell. cell.0 < length_of tracer.now.state.shape) tracer.now.touched }
     requires runs { All (IsRun tracer.now.touched) runs.now }
     requires most { length (flat_map (cells_of tracer.now.touched) runs.now) ≤ length tracer.now.touched }
     ensures reads { IfOk result (λ lists. lists.0.items
-        ≡ filter (λ cell. is_read_first (status_at tracer.now.statuses cell.0))
-        (flat_map (cells_of tracer.now.touched) runs.now)) }
+        ≡ read_first tracer.now (flat_map (cells_of tracer.now.touched) runs.now)) }
     ensures writes { IfOk result (λ lists. lists.1.items
-        ≡ map (λ cell. (cell.0, slice_index tracer.now.state.bytes cell.0))
-        (filter (λ cell. is_written (status_at tracer.now.statuses cell.0))
-        (flat_map (cells_of tracer.now.touched) runs.now))) }
+        ≡ written tracer.now (flat_map (cells_of tracer.now.touched) runs.now)) }
 {
     let touched = tracer.touched();
     let mut reads = Vec::with_capacity(alloc, touched.len())?;
@@ -233,18 +252,85 @@ fn split_run(
     reads: &mut Vec<(u32, u8)>,
     writes: &mut Vec<(u32, u8)>,
 )
+    requires own { tracer.now.state.shape ≡ tracer.now.shape }
     requires places { All (λ cell. cell.0 < length_of tracer.now.state.shape) cells.now }
-    requires reads_room { vec_len reads.old + length cells.now ≤ vec_capacity reads.old }
-    requires writes_room { vec_len writes.old + length cells.now ≤ vec_capacity writes.old }
-    ensures reads { reads.new.items ≡ reads.old.items
-        ++ filter (λ cell. is_read_first (status_at tracer.now.statuses cell.0)) cells.now }
-    ensures writes { writes.new.items ≡ writes.old.items
-        ++ map (λ cell. (cell.0, slice_index tracer.now.state.bytes cell.0))
-        (filter (λ cell. is_written (status_at tracer.now.statuses cell.0)) cells.now) }
-    ensures reads_len { vec_len reads.new ≤ vec_len reads.old + length cells.now }
-    ensures writes_len { vec_len writes.new ≤ vec_len writes.old + length cells.now }
-    ensures reads_room { vec_capacity reads.new ≡ vec_capacity reads.old }
-    ensures writes_room { vec_capacity writes.new ≡ vec_capacity writes.old }
+    requires row { IsRow cells.now }
+    requires room { HasRoom reads.old writes.old (length cells.now) }
+    ensures { Splits tracer.now cells.now reads.old writes.old reads.new writes.new }
+{
+    let mut at = 0;
+    while cells.len() - at >= 4 {
+        split_word(tracer, &cells[at..at + 4], reads, writes);
+        at += 4;
+    }
+    split_cells(tracer, &cells[at..], reads, writes);
+}
+
+/// Puts the four cells of a word behind the lists, at once where their places have one status.
+#[inline]
+fn split_word(
+    tracer: &Tracer,
+    cells: &[(u32, u8)],
+    reads: &mut Vec<(u32, u8)>,
+    writes: &mut Vec<(u32, u8)>,
+)
+    requires own { tracer.now.state.shape ≡ tracer.now.shape }
+    requires places { All (λ cell. cell.0 < length_of tracer.now.state.shape) cells.now }
+    requires row { IsRow cells.now }
+    requires four { length cells.now ≡ 4 }
+    requires room { HasRoom reads.old writes.old 4 }
+    ensures { Splits tracer.now cells.now reads.old writes.old reads.new writes.new }
+{
+    match tracer.word_status(cells[0].0) {
+        Some(Status::Read) => push_read(cells, reads),
+        Some(Status::Written) => push_written(tracer, cells, writes),
+        Some(Status::ReadWritten) => {
+            push_read(cells, reads);
+            push_written(tracer, cells, writes);
+        }
+        Some(Status::Untouched) | None => split_cells(tracer, cells, reads, writes),
+    }
+}
+
+/// Puts these cells behind a list, where there is room for them.
+#[inline]
+fn push_read(cells: &[(u32, u8)], reads: &mut Vec<(u32, u8)>)
+    requires { vec_len reads.old + length cells.now ≤ vec_capacity reads.old }
+    ensures items { reads.new.items ≡ reads.old.items ++ cells.now }
+    ensures len { vec_len reads.new ≡ vec_len reads.old + length cells.now }
+    ensures room { vec_capacity reads.new ≡ vec_capacity reads.old }
+{
+    for &cell in cells {
+        reads.push_reserved(cell);
+    }
+}
+
+/// Puts these cells, each with the byte that it has now, behind a list, where there is room for them.
+#[inline]
+fn push_written(tracer: &Tracer, cells: &[(u32, u8)], writes: &mut Vec<(u32, u8)>)
+    requires places { All (λ cell. cell.0 < length_of tracer.now.state.shape) cells.now }
+    requires room { vec_len writes.old + length cells.now ≤ vec_capacity writes.old }
+    ensures items { writes.new.items ≡ writes.old.items
+        ++ map (λ cell. (cell.0, slice_index tracer.now.state.bytes cell.0)) cells.now }
+    ensures len { vec_len writes.new ≡ vec_len writes.old + length cells.now }
+    ensures room { vec_capacity writes.new ≡ vec_capacity writes.old }
+{
+    for cell in cells {
+        writes.push_reserved((cell.0, tracer.state().get(cell.0)));
+    }
+}
+
+/// Puts cells behind the lists one by one, where there is room for them.
+#[inline]
+fn split_cells(
+    tracer: &Tracer,
+    cells: &[(u32, u8)],
+    reads: &mut Vec<(u32, u8)>,
+    writes: &mut Vec<(u32, u8)>,
+)
+    requires places { All (λ cell. cell.0 < length_of tracer.now.state.shape) cells.now }
+    requires room { HasRoom reads.old writes.old (length cells.now) }
+    ensures { Splits tracer.now cells.now reads.old writes.old reads.new writes.new }
 {
     for cell in cells {
         match tracer.status(cell.0) {

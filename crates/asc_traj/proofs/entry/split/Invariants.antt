@@ -1,16 +1,13 @@
 -- The cells of so many runs are listed, and there is room for the others.
-use Rattle.std.proofs.Common.{◌≡◌, ◌≤◌, length, take, map, slice_index, vec_len, vec_capacity}
-use Rattle.std.specs.Prelude.{filter}
+use Rattle.std.proofs.Common.{◌≡◌, ◌≤◌, length, take, vec_len, vec_capacity}
 use Rattle.std.specs.List.{flat_map}
-use Rattle.asc_shape.specs.Face.{status_at}
-use Rattle.asc_traj.specs.Inside.{cells_of, is_read_first, is_written}
+use Rattle.asc_traj.specs.Inside.{cells_of, read_first, written}
 use Rattle.asc_traj.proofs.entry.split.Given as goal
 
 abbrev pub invariant-loop-run : goal.invariant-loop-run
 invariant-loop-run l = record {
-  reads : l.reads.items ≡ filter (λ cell. is_read_first (status_at l.fn.tracer.statuses cell.0)) (flat_map (cells_of l.fn.tracer.touched) (take l.run-index l.fn.runs));
-  writes : l.writes.items ≡ map (λ cell. (cell.0, slice_index l.fn.tracer.state.bytes cell.0))
-      (filter (λ cell. is_written (status_at l.fn.tracer.statuses cell.0)) (flat_map (cells_of l.fn.tracer.touched) (take l.run-index l.fn.runs)));
+  reads : l.reads.items ≡ read_first l.fn.tracer (flat_map (cells_of l.fn.tracer.touched) (take l.run-index l.fn.runs));
+  writes : l.writes.items ≡ written l.fn.tracer (flat_map (cells_of l.fn.tracer.touched) (take l.run-index l.fn.runs));
   reads_len : vec_len l.reads ≤ length (flat_map (cells_of l.fn.tracer.touched) (take l.run-index l.fn.runs));
   writes_len : vec_len l.writes ≤ length (flat_map (cells_of l.fn.tracer.touched) (take l.run-index l.fn.runs));
   reads_room : length l.fn.tracer.touched ≤ vec_capacity l.reads;
