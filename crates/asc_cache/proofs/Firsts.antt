@@ -1,7 +1,12 @@
 -- Readers of which one after another is asked.
-use Rattle.std.proofs.Common.{◌≡◌, ℕ, zero, suc, ◌<◌, List, [], ◌∷◌, length, get_or, set, Option, Some, None, refl, ap, sym, ◌∙◌, subst, arith, IfNone, IfSome}
+use Rattle.std.proofs.Common.{◌≡◌, ℕ, zero, suc, ◌<◌, ◌≤◌, Bool, true, false, List, [], ◌∷◌, length, fold, get_or, set, Option, Some, None, refl, ap, sym, ◌∙◌, subst, arith, IfNone, IfSome}
+use Rattle.std.specs.Prelude.{All, nat_le, if◌then◌else◌}
+use Rattle.std.proofs.lemmas.Bool.{lt-leb}
+use Rattle.std.proofs.lemmas.List.Elements.{All-head, All-tail}
 use Rattle.std.specs.Option.{option_or}
 use Rattle.asc_model.specs.State.{State}
+use Rattle.asc_model.specs.Entry.{Entry, IsTrueEntry}
+use Rattle.asc_traj.specs.Content.{longest, longer_of, matches}
 use Rattle.asc_cache.specs.Cache.{ShardReader, IsLater, AreLater, found_by, first_found}
 use Rattle.asc_cache.proofs.Fronts.{prefix_self, prefix_trans}
 use Rattle.asc_cache.proofs.Rows.{pick, any_default}
@@ -28,6 +33,24 @@ is-first s left m xs (Some n) same none some = sym (one-first s left n xs some.0
 
 pub unchanged : (x y : ShardReader) → x ≡ y → IsLater x y
 unchanged x y e = subst (IsLater x) e (record { shard = refl; capacity = refl; seen = prefix_self x.seen })
+
+-- ---- within no steps
+
+too-long : (fits le : Bool) (n : ℕ) → le ≡ false → (if fits then (if le then Some n else None) else None) ≡ None
+too-long true true n e = absurd (cc)
+too-long true false n e = refl
+too-long false le n e = refl
+
+-- no entry has 0 steps
+pub none-within : (held : List Entry) (s : State) → All IsTrueEntry held → longest held s 0 ≡ None
+none-within [] s are = refl
+none-within (e ∷ held) s are =
+    let some = (All-head IsTrueEntry e held are).entry.steps in
+    ap (λ best. fold (λ (best : Option ℕ) (e : Entry). if matches s e then longer_of 0 best e.steps else best) best held)
+    (too-long (matches s e) (nat_le e.steps 0) e.steps (lt-leb e.steps 0 (omega (arith, some))))
+    ∙ none-within held s (All-tail IsTrueEntry e held are)
+
+-- ---- one after another
 
 -- one of them is a later one
 pub one-later : (xs : List ShardReader) (i : ℕ) (e y : ShardReader) → i < length xs → IsLater (get_or xs i e) y → (k : ℕ) (d : ShardReader) → IsLater (get_or xs k d) (get_or (set xs i y) k d)

@@ -1,5 +1,6 @@
 ghost use Rattle.std.specs.Prelude.{◌≡◌, ◌<◌, ◌≤◌, ◌^◌, ℕ, [], ◌∷◌, length, slice_index_or, IfNone, IfSome, Some, None};
 ghost use mathlib.Core.List.{IsPrefix};
+ghost use Rattle.asc_model.specs.State.{State};
 ghost use Rattle.asc_traj.specs.Finder.{IsJump, Tells, tally_after};
 ghost use Rattle.asc_shard.specs.Content.{IsContent};
 ghost use Rattle.asc_cache.specs.LogRule.{AreOfOneList};
@@ -63,7 +64,17 @@ fn jump_all<R: Wait>(
     None
 }
 
-/// The same, with what is found as one equation.
+/// It does nothing. A caller's proof learns from it that nothing is found within no steps, since each entry has some.
+fn finds_no_step(readers: &[ShardReader])
+    ensures { (state : State) (i : ℕ) (d : ShardReader) → i < length readers.now
+        → found_by state 0 (slice_index_or readers.now i d) ≡ None }
+{
+    for reader in readers {
+        reader.truth();
+    }
+}
+
+/// The same, with what is found as one equation. Within no steps no shard is looked into.
 fn jump_first<R: Wait>(
     rt: &R,
     readers: &mut [ShardReader],
@@ -74,6 +85,10 @@ fn jump_first<R: Wait>(
     ensures later { AreLater readers.old readers.new }
     ensures first { result ≡ first_found state.old left readers.new }
 {
+    if left == 0 {
+        finds_no_step(readers);
+        return None;
+    }
     jump_all(rt, readers, state, left)
 }
 

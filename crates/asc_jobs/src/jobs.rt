@@ -176,6 +176,13 @@ impl Giver {
         self.next
     }
 
+    /// How many jobs the queue may hold.
+    pub fn capacity(&self) -> usize
+        ensures { result ≡ self.now.capacity }
+    {
+        self.queue.capacity()
+    }
+
     /// Pushes a job, and answers its ticket: 0, 1, 2 and so on. Where the queue is full, nothing is pushed and no
     /// ticket is used. Past 2^62 jobs the queue below would wait for ever.
     pub fn push<R: Wait>(

@@ -67,6 +67,7 @@ fn two_jobs(rt: HostRuntime) -> Result<(), Fail> {
     let (mut giver, mut takers) = Jobs::open(rt.alloc(), 2, 2)?;
     let mut other = takers.pop().expect(&rt, "two takers");
     let mut taker = takers.pop().expect(&rt, "two takers");
+    assert_eq!(rt; giver.capacity(), 2);
     assert_eq!(rt; push(&rt, &mut giver, &pair), Ok(0));
     assert_eq!(rt; push(&rt, &mut giver, &pair), Ok(1));
     assert_eq!(rt; push(&rt, &mut giver, &pair), Err(Full));

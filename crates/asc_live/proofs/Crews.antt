@@ -1,5 +1,5 @@
 -- What a walk beside workers comes to.
-use Rattle.std.proofs.Common.{◌≡◌, ℕ, ◌+◌, ◌<◌, List, [], All, get_or, subst, Option, Some, None, sym, ap, ◌∙◌, arith, length}
+use Rattle.std.proofs.Common.{◌≡◌, ℕ, ◌+◌, ◌<◌, List, [], All, get_or, subst, Option, Some, None, refl, sym, ap, ◌∙◌, arith, length}
 use Rattle.asc_traj.specs.declared.guessing.Guessing.{Guessing}
 use Rattle.asc_traj.specs.Finder.{Plan, Queue}
 use Rattle.asc_jobs.specs.Jobs.{Giver}
@@ -9,7 +9,7 @@ use Rattle.asc_run.specs.Helped.{Aid, aid}
 use Rattle.asc_run.specs.Walk.{Walk, tally}
 use Rattle.asc_cache.specs.Cache.{AreOpened, IsOwnReader, ShardReader, ShardReaders, ShardWriter}
 use Rattle.asc_live.specs.Laws.{new_plan}
-use Rattle.asc_live.specs.Live.{Live, new_live, queue_of, plan_of}
+use Rattle.asc_live.specs.Live.{Live, IsLive, new_live, queue_of, plan_of}
 use Rattle.asc_live.specs.Crew.{WentBeside, Walks}
 use Rattle.asc_live.specs.declared.crew.Worked.{Worked}
 use Rattle.asc_live.proofs.LawsHold.{guesses_are_counted}
@@ -25,22 +25,22 @@ same_queue a b e = ap (λ (q : Option Queue). elim q [ Some q ↦ q | None ↦ a
 
 -- a walk leaves its helper the queue of which the giver was handed to it
 pub kept_giver : (readers : ShardReaders) (giver : Giver) (guessing : Guessing) (was now : Walk) (old new : Outside) (l k : Live ShardReaders) (ended : Ended) (left : Giver)
-    → l ≡ new_live readers giver guessing → Walks was now old new (aid_of l) (aid_of k) ended → left ≡ k.pusher.giver → (left.queue ≡ giver.queue) × (left.opened ≡ giver.opened)
+    → l ≡ new_live readers giver guessing → Walks was now old new (aid_of l) (aid_of k) ended → left ≡ k.pusher.giver → (left.queue ≡ giver.queue) × ((left.opened ≡ giver.opened) × (left.capacity ≡ giver.capacity))
 kept_giver readers giver guessing was now old new l k ended left is walks end =
     let same : queue_of left ≡ queue_of giver =
     ap queue_of end ∙ same_queue (queue_of k.pusher.giver) (queue_of l.pusher.giver) walks.goes.goes.helped.plans.queue
     ∙ ap (λ (l : Live ShardReaders). queue_of l.pusher.giver) is in
-    (ap (λ (q : Queue). q.table) same, ap (λ (q : Queue). q.parts) same)
+    (ap (λ (q : Queue). q.table) same, (ap (λ (q : Queue). q.parts) same, ap (λ (q : Queue). q.capacity) same))
 
 -- ---- a walk
 
 -- what is known of the walk is known of the crew's work
 pub went : (guessing : Guessing) (was now : Walk) (old new : Outside) (readers : ShardReaders) (giver : Giver) (l k : Live ShardReaders) (worked : Worked)
-    → l ≡ new_live readers giver guessing → giver.pushed ≡ [] → readers.tally ≡ tally 0 0 0
+    → l ≡ new_live readers giver guessing → giver.pushed ≡ [] → readers.tally ≡ tally 0 0 0 → IsLive k
     → Walks was now old new (aid_of l) (aid_of k) worked.ended
     → worked.made ≡ length k.pusher.giver.pushed → worked.refused ≡ k.pusher.refused → worked.full ≡ k.pusher.full
-    → length k.pusher.giver.pushed ≡ worked.taken.tally.ran + worked.taken.left → WentBeside guessing was now old new worked
-went guessing was now old new readers giver l k worked is none told walks made refused full jobs =
+    → length k.pusher.giver.pushed ≡ worked.taken.tally.ran + worked.taken.left → WentBeside guessing giver.capacity was now old new worked
+went guessing was now old new readers giver l k worked is none told good walks made refused full jobs =
     let made_none : length l.pusher.giver.pushed ≡ 0 = ap (λ (l : Live ShardReaders). length l.pusher.giver.pushed) is ∙ ap length none in
     let plan : plan_of l ≡ new_plan guessing (Some (queue_of giver)) = ap plan_of is ∙ ap (λ n. record { made = n; refused = 0; full = 0; seen = (plan_of (new_live readers giver guessing)).seen; queue = Some (queue_of giver) }) (ap length none) in
     record {
@@ -61,6 +61,10 @@ went guessing was now old new readers giver l k worked is none told walks made r
       refused = refused;
       full = full;
       jobs = made ∙ jobs;
+      room = λ some.
+          let kept = (kept_giver readers giver guessing was now old new l k worked.ended k.pusher.giver is walks refl).1.1 in
+          let filled = good.room (omega (arith, some, full)) in
+          omega (arith, kept, filled, made);
       guesses = λ h. let sum = guesses_are_counted guessing (Some (queue_of giver)) now.tally.asked (plan_of l) (plan_of k) plan walks.goes.seen (sym refused ∙ h) in omega (arith, made, full, sum);
     }
 

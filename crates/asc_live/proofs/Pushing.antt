@@ -38,7 +38,7 @@ pushed-is due p q s = ap (λ (g : Giver). g.pushed) s.giver
 pub pushed-length : (due : List Due) (p q : Pusher) (s : Pushes due p q) → length q.giver.pushed ≡ length p.giver.pushed + length s.jobs
 pushed-length due p q s = ap length (pushed-is due p q s) ∙ length-append p.giver.pushed s.jobs
 
-room-more : (a b capacity m n : ℕ) → (0 < a → capacity ≤ m) → (0 < b → capacity ≤ n) → m ≤ n → 0 < a + b → capacity ≤ n
+pub room-more : (a b capacity m n : ℕ) → (0 < a → capacity ≤ m) → (0 < b → capacity ≤ n) → m ≤ n → 0 < a + b → capacity ≤ n
 room-more zero b capacity m n p q more h = q (omega (arith, h))
 room-more (suc a) b capacity m n p q more h = let x = p (omega arith) in omega (arith, x, more)
 

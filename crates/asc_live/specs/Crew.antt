@@ -1,5 +1,5 @@
 -- A walk with workers beside it.
-use Rattle.std.specs.Prelude.{◌≡◌, ◌+◌, ◌≤◌, [], false, length, All, Some}
+use Rattle.std.specs.Prelude.{◌≡◌, ℕ, ◌+◌, ◌<◌, ◌≤◌, [], false, length, All, Some}
 use Rattle.asc_model.specs.Shape.{Shape}
 use Rattle.asc_traj.specs.declared.guessing.Guessing.{Guessing}
 use Rattle.asc_calls.specs.World.{Outside, BlamesOnly}
@@ -24,7 +24,8 @@ pub record IsNewAid (guessing : Guessing) (a : Aid) : Type 0 where
 
 -- A walk that had not ended went to its end with a helper that came from first to last. Each job that was pushed is counted
 -- as run or as left.
-pub record WentBeside (guessing : Guessing) (was now : Walk) (old new : Outside) (worked : Worked) : Type 0 where
+pub record WentBeside (guessing : Guessing) (queue : ℕ) (was now : Walk) (old new : Outside) (worked : Worked)
+    : Type 0 where
   pub first : Aid
   pub last : Aid
   pub goes : GoesFirst was now old new first last worked.ended
@@ -38,8 +39,10 @@ pub record WentBeside (guessing : Guessing) (was now : Walk) (old new : Outside)
   pub full : worked.full ≡ last.plan.full
   -- each job that was pushed was run, or left
   pub jobs : worked.made ≡ worked.taken.tally.ran + worked.taken.left
-  -- where memory was not wanting, each guess that was due was pushed or found no room
+  -- where memory was not wanting, each guess that was due was pushed, or found no room or was given up
   pub guesses : worked.refused ≡ 0 → worked.made + worked.full ≡ guesses_until guessing now.tally.asked
+  -- a guess found no room only once as many were pushed as the queue holds
+  pub room : 0 < worked.full → queue ≤ worked.made
 
 -- ---- words of private contracts
 

@@ -45,10 +45,15 @@ raised count (suc n) = one_more (raised count n)
 -- what pushes jobs, and what it counted
 pub record Pusher : Type 0 where
   pub giver : Giver
-  -- how many jobs found no room
+  -- how many jobs found no room, or were given up at visits that were passed over
   pub full : ℕ
   -- how often memory was wanting
   pub refused : ℕ
+
+-- jobs were pushed, and as many as the queue holds
+pub record HasFilled (giver : Giver) : Type 0 where
+  pub some : 0 < length giver.pushed
+  pub capacity : giver.capacity ≤ length giver.pushed
 
 -- Of the jobs that are due some were pushed, in order. Of the others some found no room, since the queue had been filled
 -- up, and for the rest memory was wanting.

@@ -8,8 +8,8 @@ use Rattle.asc_run.specs.Seen.{SeesAll, seen, guesses_until}
 abbrev pub new_plan : Guessing → Option Queue → Plan
 new_plan guessing queue = record { made = 0; refused = 0; full = 0; seen = Some (seen 0 guessing); queue = queue }
 
--- Where such a helper was visited so often, and memory never was wanting, each guess that was due was made or found no
--- room.
+-- Where such a helper was visited so often, and memory never was wanting, each guess that was due was made, or found no
+-- room or was given up.
 abbrev pub GuessesAreCounted : Type 0
 GuessesAreCounted = (guessing : Guessing) (queue : Option Queue) (visits : ℕ) (first last : Plan)
     → first ≡ new_plan guessing queue

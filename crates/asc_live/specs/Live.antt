@@ -7,9 +7,9 @@ use Rattle.asc_outside.specs.Outside.{one_more}
 use Rattle.asc_jobs.specs.Jobs.{Giver}
 use Rattle.asc_traj.specs.declared.guessing.Guessing.{Guessing}
 use Rattle.asc_traj.specs.Finder.{Plan, Queue}
-use Rattle.asc_run.specs.Serial.{tasks_of}
+use Rattle.asc_run.specs.Serial.{kinds_of, tasks_of}
 use Rattle.asc_run.specs.Seen.{seen, guesses_until}
-use Rattle.asc_live.specs.Due.{Due, Pusher, Pushes, jobs_of}
+use Rattle.asc_live.specs.Due.{Due, Pusher, Pushes, HasFilled, jobs_of}
 
 -- the helper of a walk that has workers beside it
 pub record Live (F : Type 0) : Type 0 where
@@ -56,7 +56,7 @@ new_live finder giver guessing = record {
 
 -- the queue of a giver, as a finder tells it
 abbrev pub queue_of : Giver → Queue
-queue_of giver = record { table = giver.queue; parts = giver.opened }
+queue_of giver = record { table = giver.queue; parts = giver.opened; capacity = giver.capacity }
 
 -- what was made for it, as a finder tells it: a guess is made where its job is pushed
 abbrev pub plan_of : {F : Type 0} → Live F → Plan
@@ -87,8 +87,10 @@ abbrev pub seen_after : (number refused : ℕ) → Option ℕ → Option ℕ
 seen_after number refused (Some before) = if (number == before + 1) && (refused == 0) then Some number else None
 seen_after number refused None = None
 
--- at a visit its state was kept, and the jobs that are due were pushed as far as could be
+-- At a visit its state was kept, and the jobs that are due were pushed as far as could be. Once the queue had been filled
+-- up, that is done only where the state of the visit before was kept too.
 pub record Keeps {F : Type 0} (number : ℕ) (now : State) (old new : Live F) : Type 0 where
+  pub pair : HasFilled old.pusher.giver → (last : State) × (old.last ≡ Some last)
   pub pushes : Pushes (due_by number old.last (Some now) old) old.pusher new.pusher
   pub rest : new ≡ record old {
     prev = old.last;
@@ -107,9 +109,22 @@ refused_visit l = record l {
   seen = None;
 }
 
+-- A visit was passed over, once the queue had been filled up: of each kind one guess is given up, as if it had found no
+-- room. Its state is kept, where it ends a row of such visits, or is not.
+pub record Passes {F : Type 0} (number : ℕ) (now : State) (old new : Live F) : Type 0 where
+  pub room : HasFilled old.pusher.giver
+  pub state : (new.last ≡ None) ⊎ (new.last ≡ Some now)
+  pub rest : new ≡ record old {
+    prev = None;
+    last = new.last;
+    issued = number + old.guessing.ahead;
+    pusher = record old.pusher { full = old.pusher.full + length (kinds_of old.guessing) };
+    seen = seen_after number old.pusher.refused old.seen;
+  }
+
 -- what a visit does
 abbrev pub Visits : {F : Type 0} → (number : ℕ) → State → (old new : Live F) → Type 0
-Visits number now old new = Keeps number now old new ⊎ (new ≡ refused_visit old)
+Visits number now old new = Keeps number now old new ⊎ ((new ≡ refused_visit old) ⊎ Passes number now old new)
 
 -- what holds where all visits up to one were guessed
 pub record HasSeen {F : Type 0} (number : ℕ) (l : Live F) : Type 0 where
@@ -117,7 +132,7 @@ pub record HasSeen {F : Type 0} (number : ℕ) (l : Live F) : Type 0 where
   pub refused : l.pusher.refused ≡ 0
   pub guesses : length l.pusher.giver.pushed + l.pusher.full ≡ guesses_until l.guessing number
   pub first : number ≡ 0 → l.last ≡ None
-  pub later : 0 < number → (last : State) × (l.last ≡ Some last)
+  pub later : 0 < number → ((last : State) × (l.last ≡ Some last)) ⊎ HasFilled l.pusher.giver
   pub none_issued : number < 2 → l.issued ≡ 0
   pub issued : 2 ≤ number → l.issued ≡ number + l.guessing.ahead
 
@@ -126,4 +141,6 @@ pub record IsLive {F : Type 0} (l : Live F) : Type 0 where
   pub least : 1 ≤ l.guessing.ahead
   pub most : l.guessing.ahead ≤ 64
   pub issued : l.issued ≤ 2 ^ 41
+  -- a guess finds no room only once the queue had been filled up
+  pub room : 0 < l.pusher.full → l.pusher.giver.capacity ≤ length l.pusher.giver.pushed
   pub seen : (number : ℕ) → l.seen ≡ Some number → HasSeen number l

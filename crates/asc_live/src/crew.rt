@@ -41,7 +41,7 @@ pub struct Worked {
     pub made: u64,
     /// How often memory was wanting for a job.
     pub refused: u64,
-    /// How many jobs found no room.
+    /// How many jobs found no room, or were given up at visits that were passed over.
     pub full: u64,
     /// What became of the jobs that were pushed.
     pub taken: TakenIn,
@@ -89,7 +89,7 @@ pub fn go_beside<
     requires ahead { (1 ≤ guessing.ahead) × (guessing.ahead ≤ 64) }
     requires laps { 1 ≤ guessing.laps }
     requires span { 1 ≤ guessing.span }
-    ensures went { IfOk result (λ worked. WentBeside guessing walk.old walk.new
+    ensures went { IfOk result (λ worked. WentBeside guessing crew.queue walk.old walk.new
         (outside (I.left input.old) (O.given out.old) (E.given err.old) steps.old
         (faults (I.faults input.old) (O.faults out.old) (E.faults err.old)))
         (outside (I.left input.new) (O.given out.new) (E.given err.new) steps.new
@@ -191,7 +191,7 @@ fn go_with<
     requires new { IsNone walk.old.ended }
     requires ahead { (1 ≤ guessing.ahead) × (guessing.ahead ≤ 64) }
     requires ready { IsReady ready }
-    ensures { WentBeside guessing walk.old walk.new
+    ensures { WentBeside guessing ready.giver.capacity walk.old walk.new
         (outside (I.left input.old) (O.given out.old) (E.given err.old) steps.old
         (faults (I.faults input.old) (O.faults out.old) (E.faults err.old)))
         (outside (I.left input.new) (O.given out.new) (E.given err.new) steps.new
@@ -219,6 +219,7 @@ fn go_with<
         err,
         steps,
     );
+    live.truth();
     let (made, refused, full) = (live.made(), live.refused(), live.full());
     let (_readers, giver) = live.into_parts();
     let taken = team.take_in(rt, giver);

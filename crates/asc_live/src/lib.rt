@@ -6,6 +6,7 @@ mod crew;
 mod crew_tests;
 mod laws;
 mod live;
+mod means;
 mod pusher;
 #[cfg(test)]
 mod tests;

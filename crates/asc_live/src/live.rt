@@ -3,10 +3,12 @@ ghost use Rattle.asc_traj.specs.Finder.{Tells, tally_after, IsJump};
 ghost use Rattle.asc_traj.specs.Serial.{Serial, serial_reply};
 ghost use Rattle.asc_run.specs.Helped.{aid, Plans, VisitsMachine};
 ghost use Rattle.asc_run.specs.Seen.{Sees};
+ghost use Rattle.asc_run.specs.Serial.{kinds_of};
 ghost use Rattle.asc_live.specs.Laws.{new_plan};
-ghost use Rattle.asc_live.specs.Live.{new_live, queue_of, plan_of, refused_visit, due_by, issued_by, seen_after as seen_by, Visits};
-ghost use Rattle.asc_live.specs.Due.{Pushes};
+ghost use Rattle.asc_live.specs.Live.{IsLive, new_live, queue_of, plan_of, refused_visit, due_by, issued_by, seen_after as seen_by, Visits};
+ghost use Rattle.asc_live.specs.Due.{HasFilled, Pushes};
 
+use crate::means::Means;
 use crate::pusher::Pusher;
 use asc_jobs::Giver;
 use asc_outside::{Gate, Point};
@@ -21,6 +23,11 @@ use std::sync::{Arc, Wait};
 /// The helper of a walk that has workers beside it. At each visit it pushes jobs for them: guesses of later visits, to
 /// be traced. It finds jumps by another finder.
 ///
+/// Visits cost the walk time, so it has a budget for them. The budget grows by the steps of the walk, and by more where
+/// they are jumped over. Once the queue had been filled up, a visit that the budget does not pay for is passed over, and
+/// so are those after it until the budget is whole again. At such a visit no state is kept, nothing is pushed, and the
+/// finder is asked for no step. Which visits are passed over changes no answer of a run.
+///
 /// Want of memory is counted, and changes no jump's being one.
 #[derive(Drop)]
 pub struct Live<'a, F, G, R> {
@@ -28,6 +35,7 @@ pub struct Live<'a, F, G, R> {
     gate: &'a G,
     finder: F,
     pusher: Pusher<'a, R>,
+    means: Means,
     workers: Vec<Unparker>,
     guessing: Guessing,
     prev: Option<Arc<Snapshot>>,
@@ -72,6 +80,7 @@ impl<'a, F, G, R> Live<'a, F, G, R> {
             gate,
             finder,
             pusher: Pusher::new(rt, giver),
+            means: Means::new(workers.len()),
             workers,
             guessing,
             prev: None,
@@ -79,6 +88,13 @@ impl<'a, F, G, R> Live<'a, F, G, R> {
             issued: 0,
             seen: Some(0),
         }
+    }
+
+    /// It does nothing. A caller's proof learns from it what holds of every such helper.
+    pub(crate) fn truth(&self)
+        ensures { IsLive self.now }
+    {
+        let _ = &self.issued;
     }
 
     /// The finder that it asks.
@@ -98,6 +114,7 @@ impl<'a, F, G, R> Live<'a, F, G, R> {
             gate: _,
             finder,
             pusher,
+            means: _means,
             workers: _workers,
             guessing: _,
             prev: _prev,
@@ -137,9 +154,63 @@ impl<'a, F, G, R> Live<'a, F, G, R> {
             }
         }
     }
+
+    // Keeps the state of the first visit after those that were passed over. It has no other to guess by.
+    fn begin_row(&mut self, state: &mut State, number: u64)
+        requires seen { self.old.seen ≡ None }
+        requires last { self.old.last ≡ None }
+        requires filled { HasFilled self.old.pusher.giver }
+        requires number { number ≤ 2 ^ 40 }
+        requires full { self.old.pusher.full < 2 ^ 62 }
+        ensures visits { Visits number state.old self.old self.new }
+        ensures stays { state.new ≡ state.old }
+    {
+        if self.keep(state) {
+            self.give_up(number);
+        }
+    }
+
+    // No job of a visit is pushed: the guesses that are due count as those that find no room.
+    fn give_up(&mut self, number: u64)
+        requires seen { self.old.seen ≡ None }
+        requires filled { HasFilled self.old.pusher.giver }
+        requires number { number ≤ 2 ^ 40 }
+        requires full { self.old.pusher.full < 2 ^ 62 }
+        ensures { self.new ≡ record self.old {
+          prev = None;
+          issued = number + self.old.guessing.ahead;
+          pusher = record self.old.pusher {
+            full = self.old.pusher.full + length (kinds_of self.old.guessing);
+          };
+        } }
+    {
+        let ahead = u64::from(self.guessing.ahead);
+        self.prev = None;
+        self.issued = number + ahead;
+        self.pusher.give_up(&self.guessing);
+    }
 }
 
 impl<'a, F, G, R: Wait> Live<'a, F, G, R> {
+    // Makes a visit, or passes it over.
+    fn make_or_pass(&mut self, state: &mut State, number: u64)
+        requires seen { self.old.seen ≡ None }
+        requires number { number ≤ 2 ^ 40 }
+        requires full { self.old.pusher.full < 2 ^ 62 }
+        ensures visits { Visits number state.old self.old self.new }
+        ensures stays { state.new ≡ state.old }
+    {
+        let filled = self.pusher.has_filled();
+        if !self.means.pay(filled) {
+            self.last = None;
+            self.give_up(number);
+        } else if filled && self.last.is_none() {
+            self.begin_row(state, number);
+        } else if self.keep(state) {
+            self.push_due(number);
+        }
+    }
+
     // Pushes the jobs of a visit, where two states are kept, and wakes the workers where any were pushed.
     fn push_due(&mut self, number: u64)
         requires seen { self.old.seen ≡ None }
@@ -178,7 +249,7 @@ fn seen_after(before: Option<u64>, number: u64, refused: u64) -> Option<u64>
     }
 }
 
-/// It passes all on to its finder.
+/// It passes all on to its finder, which is asked for no step at a visit that was passed over.
 impl<'a, F: Finder, G, R> Finder for Live<'a, F, G, R> {
     ghost tally = { λ l. F.tally l.finder };
 
@@ -200,7 +271,10 @@ impl<'a, F: Finder, G, R> Finder for Live<'a, F, G, R> {
         ensures machine { Unit {0} }
         ensures longest { (m : Serial) → None ≡ Some m → result ≡ serial_reply m state.old left }
     {
-        self.finder.jump(state, left)
+        let most = self.means.reach(left);
+        let found = self.finder.jump(state, most);
+        self.means.save(found);
+        found
     }
 
     fn asked(&self) -> u64 {
@@ -218,7 +292,10 @@ impl<'a, F: Finder, G, R> Finder for Live<'a, F, G, R> {
 
 impl<'a, F: Finder, G: Gate, R: Wait> Helper for Live<'a, F, G, R> {
     /// Pushes the jobs that are due, and wakes the workers where any were pushed. It costs a copy of what changed in the
-    /// state since the last one, and two owners more of a copy for each job. At its end the gate is passed at `Visit`.
+    /// state since the last one, and two owners more of a copy for each job.
+    ///
+    /// A visit that is passed over does none of this: one guess of each kind counts as one that found no room. So it does
+    /// at the first visit after such ones, which only keeps its state. At its end the gate is passed at `Visit`.
     fn visit(&mut self, state: &mut State, number: u64)
         requires number { number ≤ 2 ^ 40 }
         requires made { (plan_of self.old).made < 2 ^ 62 }
@@ -234,9 +311,7 @@ impl<'a, F: Finder, G: Gate, R: Wait> Helper for Live<'a, F, G, R> {
             (aid (F.tally self.new.finder) (F.replies self.new.finder) (plan_of self.new) None) }
     {
         let before = self.seen.take();
-        if self.keep(state) {
-            self.push_due(number);
-        }
+        self.make_or_pass(state, number);
         self.seen = seen_after(before, number, self.pusher.refused());
         self.gate.pass(Point::Visit, number);
     }

@@ -1,8 +1,8 @@
-ghost use Rattle.std.specs.Prelude.{◌≡◌, ◌+◌, ◌-◌, ◌<◌, ◌≤◌, ◌^◌, [], ◌∷◌, length, map, nat_lt, if◌then◌else◌, ℕ};
+ghost use Rattle.std.specs.Prelude.{◌≡◌, ◌+◌, ◌-◌, ◌<◌, ◌≤◌, ◌^◌, [], ◌∷◌, length, map, nat_lt, true, if◌then◌else◌, ℕ};
 ghost use Rattle.std.specs.Arc.{arc_value};
 ghost use Rattle.asc_guess.specs.declared.kind.Kind.{Kind as kind_of};
 ghost use Rattle.asc_outside.specs.Outside.{one_more};
-ghost use Rattle.asc_live.specs.Due.{Pushes, jobs_of, tasks_for};
+ghost use Rattle.asc_live.specs.Due.{HasFilled, Pushes, jobs_of, tasks_for};
 ghost use Rattle.asc_run.specs.Serial.{kinds_of, tasks_of};
 
 use asc_guess::{Kind, targets};
@@ -65,7 +65,7 @@ impl<'a, R> Pusher<'a, R> {
         self.giver.pushed()
     }
 
-    /// How many jobs found no room.
+    /// How many jobs found no room, or were given up.
     pub(crate) fn full(&self) -> u64
         ensures { result ≡ self.now.full }
     {
@@ -77,6 +77,23 @@ impl<'a, R> Pusher<'a, R> {
         ensures { result ≡ self.now.refused }
     {
         self.refused
+    }
+
+    /// Whether jobs were pushed, and as many as the queue holds.
+    pub(crate) fn has_filled(&self) -> bool
+        ensures filled { result ≡ true → HasFilled self.now.giver }
+        ensures always { HasFilled self.now.giver → result ≡ true }
+    {
+        let pushed = self.giver.pushed();
+        0 < pushed && self.giver.capacity() as u64 <= pushed
+    }
+
+    /// Counts one guess of each kind that is on as one that found no room.
+    pub(crate) fn give_up(&mut self, guessing: &Guessing)
+        requires { self.old.full < 2 ^ 63 }
+        ensures { self.new ≡ record self.old { full = self.old.full + length (kinds_of guessing.now) } }
+    {
+        self.full += u64::from(guessing.last) + u64::from(guessing.stride);
     }
 
     /// Counts that memory was wanting.

@@ -33,26 +33,38 @@ fn is_sent<T: Send>(_value: &T) {}
 /// A job: the pcs of the visit before and of the visit, how many visits ahead, and the kind.
 type Row = (u32, u32, u32, Kind);
 
-/// A visit, the jobs taken before it, and what is counted after it: jobs pushed, and jobs that found no room.
+/// So many visits, the steps to each of them from the visit before, the jobs taken before them, and what is counted after
+/// them: jobs pushed, and jobs that found no room or were given up.
 ///
 /// The queue holds 3 jobs. Both kinds are on, and 2 visits ahead are guessed. So at visit 2 jobs are due for visits 3 and
 /// 4, and at each later visit for one visit more.
-static VISITS: [(u64, u64, u64, u64); 5] = [
-    (1, 0, 0, 0),
-    (2, 0, 3, 1),
-    (3, 0, 3, 3),
-    (4, 1, 4, 4),
-    (5, 2, 6, 4),
+///
+/// With one worker a visit costs 3,000 steps, and the budget is 192,000 at most, with which it begins. So 64 visits are
+/// made, and visits 65 to 69 are passed over. The 200,000 steps fill it again: visit 70 keeps its state, and visit 71
+/// pushes.
+static VISITS: [(u64, u64, u64, u64, u64); 10] = [
+    (1, 0, 0, 0, 0),
+    (1, 10, 0, 3, 1),
+    (1, 10, 0, 3, 3),
+    (1, 10, 1, 4, 4),
+    (1, 10, 2, 6, 4),
+    (59, 10, 0, 6, 122),
+    (4, 10, 3, 6, 130),
+    (1, 200_000, 0, 6, 132),
+    (1, 10, 0, 6, 134),
+    (1, 10, 0, 8, 134),
 ];
 
 /// The jobs in the order in which they are taken. A visit's pc is 4 times its number.
-static JOBS: [Row; 6] = [
+static JOBS: [Row; 8] = [
     (4, 8, 1, Kind::Last),
     (4, 8, 1, Kind::Stride),
     (4, 8, 2, Kind::Last),
     (12, 16, 2, Kind::Last),
     (16, 20, 2, Kind::Last),
     (16, 20, 2, Kind::Stride),
+    (280, 284, 2, Kind::Last),
+    (280, 284, 2, Kind::Stride),
 ];
 
 /// Pops a job, and answers how many there were. It is this row's, if all jobs were pushed that are due.
@@ -65,6 +77,23 @@ fn pop<R: Abort + Wait>(rt: &R, taker: &mut Taker, row: Option<&Row>, all: bool)
     };
     assert!(rt; !all || found == row.copied());
     u64::from(found.is_some())
+}
+
+/// A visit of this number, and a look-up where so many steps are left.
+fn visit<R: Abort + Wait>(
+    rt: &R,
+    live: &mut Live<'_, Nothing, Noting, R>,
+    gate: &Noting,
+    state: &mut State,
+    number: u64,
+    left: u64,
+) {
+    assert!(rt; number < 99 && left < 999_999 && live.made() < 999 && live.full() < 999);
+    assert!(rt; live.asked() < 99 && live.given() < 99);
+    state.set_pc(4 * number as u32);
+    live.visit(state, number);
+    assert_eq!(rt; gate.visit.load(Ordering::SeqCst), number);
+    assert_eq!(rt; live.jump(state, left), None);
 }
 
 #[test]
@@ -93,21 +122,25 @@ fn visits(rt: HostRuntime) -> Result<(), Fail> {
     is_sent(&live);
     let mut rows = JOBS.iter();
     let mut popped = 0;
-    for &(number, taken, made, full) in &VISITS {
+    let mut number = 0;
+    let mut left = 500_000;
+    for &(times, lap, taken, made, full) in &VISITS {
         for _ in 0..taken {
             assert!(rt; popped < 9);
             popped += pop(&rt, &mut taker, rows.next(), live.refused() == 0);
         }
-        assert!(rt; number < 9 && live.made() < 9 && live.full() < 9);
-        state.set_pc(4 * number as u32);
-        live.visit(&mut state, number);
-        assert_eq!(rt; gate.visit.load(Ordering::SeqCst), number);
+        for _ in 0..times {
+            assert!(rt; number < 98 && lap <= left);
+            number += 1;
+            left -= lap;
+            visit(&rt, &mut live, &gate, &mut state, number, left);
+        }
         let counts = (live.made(), live.full());
-        assert!(rt; live.refused() > 0 || counts == (made, full));
+        assert_eq!(rt; (live.refused(), counts), (0, (made, full)));
     }
     // Where memory was wanting for a state, jobs were left out.
     let (made, full) = (live.made(), live.full());
-    assert!(rt; live.refused() == 0 || made < 9 && full < 9 && made + full < 10);
+    assert!(rt; live.refused() == 0 || made < 143 && full < 143 && made + full < 143);
     // The worker was woken.
     if live.made() > 0 {
         parker.park(&rt);
@@ -117,7 +150,7 @@ fn visits(rt: HostRuntime) -> Result<(), Fail> {
         popped += pop(&rt, &mut taker, rows.next(), live.refused() == 0);
     }
     assert_eq!(rt; popped, live.made());
-    assert_eq!(rt; live.finder().asked(), 0);
+    assert_eq!(rt; live.finder().asked(), 71);
     let (_finder, _giver) = live.into_parts();
     Ok(())
 }

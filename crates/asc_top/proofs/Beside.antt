@@ -22,15 +22,16 @@ use Rattle.asc_top.proofs.Refused.{ran_memory}
 use Rattle.asc_top.proofs.Serials.{IsNew, seen}
 use Rattle.asc_top.proofs.Walks.{ran}
 
-module _ (line : RunLine) (was now : Walk) (old new : Outside) (worked : Worked) (counts : WalkCounts) (went : WentBeside (guessing_of line) was now old new worked)
+module _ (line : RunLine) (was now : Walk) (old new : Outside) (worked : Worked) (counts : WalkCounts) (went : WentBeside (guessing_of line) line.queue was now old new worked)
     (count : counts.count ≡ now.count) (executed : counts.executed + counts.skipped ≡ now.count) (skipped : counts.skipped ≡ now.tally.given)
     (asked : counts.asked ≡ now.tally.asked) (hits : counts.hits ≡ now.tally.hits) (some : 0 < line.workers) where
   -- their numbers
-  are : AreWorkerNumbers (guessing_of line) (counts_of counts worked.made worked.refused) (workers_of worked)
+  are : AreWorkerNumbers (guessing_of line) line.queue (counts_of counts worked.made worked.refused) (workers_of worked)
   are = record {
     made = went.jobs;
     ran = worked.taken.tally.sums;
     guesses = λ refused. went.guesses refused ∙ ap (λ n. guesses_until (guessing_of line) n) (sym asked);
+    room = went.room;
   }
 
   same : counts_of counts worked.made worked.refused ≡ counts_of counts went.last.plan.made went.last.plan.refused

@@ -96,7 +96,7 @@ all_told is_asked ends.WriteFault counts going = absurd (cc)
 all_told is_asked ends.ErrFault counts going = absurd (cc)
 
 -- the numbers of workers are told beside those of their run
-pub workers-told : (line : RunLine) (how : Ended) (counts : Counts) (workers : WorkerCounts) → 0 < line.workers → AreWorkerNumbers (guessing_of line) counts workers
+pub workers-told : (line : RunLine) (how : Ended) (counts : Counts) (workers : WorkerCounts) → 0 < line.workers → AreWorkerNumbers (guessing_of line) line.queue counts workers
     → (is_asked : Bool) → WorkersAreTold line (reported_at is_asked how counts) (reported_at is_asked how workers)
 workers-told line (ends.Exit c) counts workers some are true = (some, are)
 workers-told line (ends.Fault f) counts workers some are true = (some, are)

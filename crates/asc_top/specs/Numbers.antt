@@ -1,5 +1,5 @@
 -- The numbers of a run, and what a trial tells of its own.
-use Rattle.std.specs.Prelude.{◌≡◌, ℕ, zero, suc, Bool, ◌+◌, ◌<◌, ◌&&◌, ◌||◌, nat_lt, List, [], length, Option, Some, None, Result, Ok, Err, if◌then◌else◌}
+use Rattle.std.specs.Prelude.{◌≡◌, ℕ, zero, suc, Bool, ◌+◌, ◌<◌, ◌≤◌, ◌&&◌, ◌||◌, nat_lt, List, [], length, Option, Some, None, Result, Ok, Err, if◌then◌else◌}
 use Rattle.asc_elf.specs.declared.fault.ElfFault.{ElfFault}
 use Rattle.asc_elf.specs.Image as loader
 use Rattle.asc_calls.specs.GuestCall.{nothing, io_of, Out}
@@ -132,16 +132,18 @@ AreTold line load left executed count (Some counts) =
 
 -- These are the numbers of a run's workers beside its own. Each guess that was made was run as a job, or was left. Each
 -- job that was run ended in one of five ways. Where memory was never wanting, each guess that was due was made, or found
--- no room.
-pub record AreWorkerNumbers (guessing : Guessing) (counts : Counts) (workers : WorkerCounts) : Type 0 where
+-- no room, or was given up at a visit that was passed over.
+-- A guess counts as full only once as many were made as the queue holds.
+pub record AreWorkerNumbers (guessing : Guessing) (queue : ℕ) (counts : Counts) (workers : WorkerCounts) : Type 0 where
   pub made : counts.made ≡ workers.ran + workers.left
   pub ran : workers.ran ≡ workers.stored + workers.known + workers.empty + workers.dropped + workers.stopped
   pub guesses : counts.refused ≡ 0 → counts.made + workers.full ≡ guesses_until guessing counts.asked
+  pub room : 0 < workers.full → queue ≤ counts.made
 
 -- they are told beside the numbers of a run that has workers
 abbrev pub WorkersAreTold : RunLine → Option Counts → Option WorkerCounts → Type 0
 WorkersAreTold line (Some counts) (Some workers) =
-    (0 < line.workers) × AreWorkerNumbers (guessing_of line) counts workers
+    (0 < line.workers) × AreWorkerNumbers (guessing_of line) line.queue counts workers
 WorkersAreTold line (Some counts) None = line.workers ≡ 0
 WorkersAreTold line None (Some workers) = ⊥
 WorkersAreTold line None None = Unit {0}

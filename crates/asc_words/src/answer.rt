@@ -77,7 +77,7 @@ pub struct WorkerCounts {
     pub dropped: u64,
     /// Jobs that the end of the run stopped.
     pub stopped: u64,
-    /// Guesses for which the queue had no room.
+    /// Guesses for which the queue had no room, or that were due at a visit that was passed over.
     pub full: u64,
 }
 

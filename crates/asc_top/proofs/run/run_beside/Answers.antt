@@ -3,6 +3,7 @@ use Rattle.std.proofs.Common.{◌≡◌, ◌∙◌, sym, ap, subst, inl}
 use Rattle.asc_calls.specs.World.{faults, outside}
 use Rattle.asc_traj.specs.declared.guessing.Guessing.{Guessing}
 use Rattle.asc_live.specs.Crew.{WentBeside}
+use Rattle.asc_live.specs.declared.crew.Crew.{Crew}
 use Rattle.asc_words.specs.declared.answer.Counts.{Counts}
 use Rattle.asc_words.specs.declared.answer.WorkerCounts.{WorkerCounts}
 use Rattle.asc_words.specs.declared.answer.Outcome.{Outcome}
@@ -23,8 +24,9 @@ returns g c =
     (faults (g.I.Source.faults c.args.input.now) (g.O.Sink.faults c.args.out.now) (g.E.Sink.faults c.args.err.now)) in
     let new = outside (g.I.Source.left c.go_beside.new.input) (g.O.Sink.given c.go_beside.new.out) (g.E.Sink.given c.go_beside.new.err) c.go_beside.new.steps
     (faults (g.I.Source.faults c.go_beside.new.input) (g.O.Sink.faults c.go_beside.new.out) (g.E.Sink.faults c.go_beside.new.err)) in
-    let went : WentBeside (guessing_of line) c.args.walk.now c.go_beside.new.walk old new worked =
-    subst (λ (guessing : Guessing). WentBeside guessing c.args.walk.now c.go_beside.new.walk old new worked) c.guessing_of.ensures c.in-Ok.ensures.went in
+    let went : WentBeside (guessing_of line) line.queue c.args.walk.now c.go_beside.new.walk old new worked =
+    subst (λ (crew : Crew). WentBeside (guessing_of line) crew.queue c.args.walk.now c.go_beside.new.walk old new worked) c.crew_of.ensures
+    (subst (λ (guessing : Guessing). WentBeside guessing c.crew_of.result.queue c.args.walk.now c.go_beside.new.walk old new worked) c.guessing_of.ensures c.in-Ok.ensures.went) in
     let answer : c.answer_at.result ≡ answer_at worked.ended counts.count = c.answer_at.ensures in
     let numbers : c.reported_at.result ≡ reported_at line.report worked.ended (counts_of counts worked.made worked.refused) =
     c.reported_at.ensures ∙ ap (λ (t : Counts). reported_at line.report worked.ended t) c.counts_of-counts.ensures in
