@@ -52,7 +52,7 @@ end_text ends.ErrFault = codes "the guest's error output failed"
 unfoldable pub answer_text : Answer → List ℕ
 answer_text answers.Shown = []
 answer_text answers.Usage =
-    codes "asc_show: wants IMAGE ADDRESS VISIT: a file, hexadecimal digits, and a number from 1 on\n"
+    codes "asc_show: wants IMAGE ADDRESS VISIT [OPTIONS]: a file, hexadecimal digits, a number from 1 on, options of asc run\n"
 answer_text (answers.Image fault) = codes "asc_show: the file is no image; asc run tells its fault\n"
 answer_text answers.TooLong = codes "asc_show: the file has more than 67,108,864 bytes\n"
 answer_text answers.StoreFault = codes "asc_show: the file can't be read\n"

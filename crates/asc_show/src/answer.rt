@@ -61,7 +61,7 @@ impl Answer {
             Answer::Shown => {}
             Answer::Usage => put(
                 &mut line,
-                b"asc_show: wants IMAGE ADDRESS VISIT: a file, hexadecimal digits, and a number from 1 on\n",
+                b"asc_show: wants IMAGE ADDRESS VISIT [OPTIONS]: a file, hexadecimal digits, a number from 1 on, options of asc run\n",
             ),
             Answer::Image(_) => put(
                 &mut line,

@@ -4,14 +4,14 @@
 //!
 //! IMAGE is run plainly to where it stands at ADDRESS (hexadecimal digits) for the VISITth time. From there a lap is
 //! traced, up to the next visit. OPTIONS are those of `asc run`: `--memory`, `--machine`, `--steps`, and for the trace
-//! `--laps` and `--span`. Those on guesses and reports mean nothing here.
+//! `--laps` and `--span`. Those on guesses and reports have to be right, and mean nothing here; `--pc` is refused.
 #![tactic(auto)]
 
-ghost use Rattle.std.specs.Prelude.{◌≡◌, ◌⊎◌, ◌<◌, IfErr, List, Option, map};
+ghost use Rattle.std.specs.Prelude.{◌≡◌, ◌⊎◌, ◌<◌, IfErr, map};
 ghost use Rattle.std.specs.Process.{exit_status};
 ghost use Rattle.std.specs.String.{string_bytes};
-ghost use Rattle.asc_outside.specs.Outside.{File, PutsPart, given_after, one_more};
-ghost use Rattle.asc_show.specs.Shown.{Answers, Outer, answer_text, code_of};
+ghost use Rattle.asc_show.specs.Shown.{code_of};
+ghost use Rattle.asc_show.specs.Status.{IsStatusOf, IsStatusOver};
 
 mod answer;
 mod lap;
@@ -40,12 +40,10 @@ fn main(rt: HostRuntime) -> ExitCode {
 fn program(rt: &HostRuntime) -> ExitCode
     ensures { (answer : Answer) × (exit_status result ≡ code_of answer) }
 {
-    let answer = match words(rt) {
+    match words(rt) {
         Ok(words) => run::<Brand>(rt, &words, Blank::new(1)),
-        Err(answer) => answer,
-    };
-    report(answer, &mut StreamSink::new(rt.stderr()));
-    ExitCode::from(answer.code())
+        Err(answer) => tell(answer, &mut StreamSink::new(rt.stderr())),
+    }
 }
 
 /// The words of the command line. Where they are not all text, they are wrong.
@@ -59,31 +57,30 @@ fn words(rt: &HostRuntime) -> Result<Vec<String>, Answer>
     }
 }
 
-/// Shows over the system what the words ask for. The ledger is the one that counts the guest's steps.
-fn run<L: Ledger>(rt: &HostRuntime, words: &[String], blank: Blank) -> Answer
+/// Shows over the system what the words ask for, and gives the exit status. The ledger is the one that counts the
+/// guest's steps.
+fn run<L: Ledger>(rt: &HostRuntime, words: &[String], blank: Blank) -> ExitCode
     requires name { blank.name ≡ L.name }
     requires parts { blank.parts ≡ L.parts }
     requires some { 0 < L.parts }
-    ensures { (files : Option (List File)) × (old : Outer) × (new : Outer)
-        × Answers (map string_bytes words.now) files old new result }
+    ensures { IsStatusOver (map string_bytes words.now) (exit_status result) }
 {
-    show(
+    let answer = show(
         rt.alloc(),
         words,
         &mut FileStore::new(rt),
         &mut StreamSource::new(rt.stdin()),
         &mut StreamSink::new(rt.stdout()),
         &mut Steps::<L>::new(blank),
-    )
+    );
+    tell(answer, &mut StreamSink::new(rt.stderr()))
 }
 
-/// Puts the line of an answer to report. Where that fails, nothing more is said.
-fn report<R: Sink>(answer: Answer, report: &mut R)
-    // The line was put, or report failed, once, while it took a beginning of it.
-    ensures { ((R.given report.new ≡ given_after (R.given report.old) (answer_text answer))
-        × (R.faults report.new ≡ R.faults report.old))
-        ⊎ (PutsPart (R.given report.old) (R.given report.new) (answer_text answer)
-        × (R.faults report.new ≡ one_more (R.faults report.old))) }
+/// Puts the line of an answer to report, and gives its exit status. Where report fails, nothing more is said.
+fn tell<R: Sink>(answer: Answer, report: &mut R) -> ExitCode
+    ensures { IsStatusOf (R.given report.old) (R.given report.new) (R.faults report.old) (R.faults report.new)
+        answer (exit_status result) }
 {
     let _ = put_all(report, answer.line().as_slice());
+    ExitCode::from(answer.code())
 }
