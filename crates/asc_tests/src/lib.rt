@@ -1,6 +1,7 @@
 //! Tests that cross crates: whole runs, of `top` over an outside in memory and of `Walk` in either version, and single
 //! steps. Expected values are worked out by hand from the formats and the instruction set, or come from another
-//! implementation, and none from the program's own output.
+//! implementation, and none from the program's own output. That `asc make` puts the bytes which `asc_make` gives is seen
+//! too; those are tested there.
 #![tactic(auto)]
 
 #[cfg(test)]

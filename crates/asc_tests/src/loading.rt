@@ -26,7 +26,15 @@ fn check_image<R: Abort + Threads + Wait + Sync + Copy + Drop + Send>(
         report,
         ..QUIET
     };
-    check_guessed(rt, alloc, "asc run image", "", file, &SOUND, &want)
+    check_guessed(
+        rt,
+        alloc,
+        "asc run image",
+        " --pc 10000",
+        file,
+        &SOUND,
+        &want,
+    )
 }
 
 // Words over `FIRST`: e_phoff, e_phnum with e_phentsize, p_offset, p_offset without file bytes, p_vaddr and e_entry, the
@@ -131,7 +139,7 @@ fn last_addresses(rt: HostRuntime) -> Result<(), Fail> {
             &rt,
             alloc,
             line,
-            "",
+            " --pc ffff0000",
             &patched(alloc, &moved)?,
             &SOUND,
             &want,

@@ -451,7 +451,15 @@ fn whole_runs(rt: HostRuntime) -> Result<(), Fail> {
         let file = wrap(alloc, row.program)?;
         // The greatest memory is taken once, and by no worker.
         if row.line.starts_with("asc run image") && !row.line.contains("65536") {
-            check_guessed(&rt, alloc, row.line, "", &file, &row.devices, &row.want)?;
+            check_guessed(
+                &rt,
+                alloc,
+                row.line,
+                " --pc 10000",
+                &file,
+                &row.devices,
+                &row.want,
+            )?;
         } else {
             check(&rt, alloc, row.line, file, &row.devices, &row.want)?;
         }
