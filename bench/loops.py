@@ -2,6 +2,7 @@
 """Times long loops of the built program, outside the gate.
 
     python3 bench/loops.py [STEPS] [PROGRAM]
+    python3 bench/loops.py --count [PROGRAM]
 
 STEPS is how many guest steps each loop does, 100,000,000 where it is not given. PROGRAM is the built `asc`,
 crates/asc_cli/out/asc_cli where it is not given; `rt run` in crates/asc_cli builds it. For each loop its name, the
@@ -10,6 +11,11 @@ processor's seconds and the million guest steps a second are printed:
     alu     six operations on registers and two on immediates, a counter and a branch
     memory  three stores, three loads and two sums, a counter and a branch
     call    a call of a function of two instructions, a counter and a branch
+
+With --count it prints the processor's instructions of one step, as `valgrind --tool=callgrind` counts them and
+independent of load: by what a run of 200,000 steps takes more than one of 100,000. There are three numbers: in a plain
+run; with --report and an address that is never met; and with one that is met in each turn of the loop. Nothing is
+guessed.
 """
 
 import os
@@ -95,7 +101,33 @@ def image(words):
 
 # ---------------------------------------------------------------------------------------------------------------------
 
+# The three ways in which steps are counted: the branch of the loop is met in each of its turns.
+def ways(words):
+    met = 0x10000 + 4 * next(i for i, word in enumerate(words) if word & 0x707F == 0x1063)
+    return [], ["--report", "--guess", "none", "--pc", "ffffc"], ["--report", "--guess", "none", "--pc", f"{met:x}"]
+
+def instructions(command):
+    """The processor's instructions of a run."""
+    tool = ["valgrind", "--tool=callgrind", f"--callgrind-out-file={os.devnull}"]
+    done = subprocess.run(tool + command, capture_output=True, text=True, check=True)
+    return int(next(line for line in done.stderr.splitlines() if "Collected" in line).split(":")[1])
+
+def count(program):
+    print("        no address  never met      met")
+    with tempfile.TemporaryDirectory() as folder:
+        few, more = loops(100_000), loops(200_000)
+        for name in few:
+            taken = []
+            for words, sign in ((few[name], -1), (more[name], 1)):
+                path = os.path.join(folder, name)
+                Path(path).write_bytes(image(words))
+                taken.append([sign * instructions([program, "run", *way, path]) for way in ways(words)])
+            print(f"{name:8}" + "".join(f"{(a + b) / 100_000:{n}.1f}" for n, a, b in zip((10, 11, 9), *taken)))
+
 def main():
+    if "--count" in sys.argv[1:]:
+        given = [word for word in sys.argv[1:] if word != "--count"]
+        return count(given[0] if given else str(ROOT / "crates/asc_cli/out/asc_cli"))
     steps = int(sys.argv[1]) if len(sys.argv) > 1 else 100_000_000
     program = sys.argv[2] if len(sys.argv) > 2 else ROOT / "crates/asc_cli/out/asc_cli"
     with tempfile.TemporaryDirectory() as folder:

@@ -91,11 +91,14 @@ class Run:
         if "executed" in n and "executed" in first.numbers:
             wrong += ["steps"] * (n["executed"] + n["skipped"] != first.numbers["executed"] + first.numbers["skipped"])
         if "ran" in n:
+            words = self.words.split()
+            queue = int(words[words.index("--queue") + 1]) if "--queue" in words else 256
             due = kinds * (ahead + n["asked"] - 2) if n["asked"] > 1 else 0
             columns = sum(n[name] for name in ("stored", "known", "empty", "dropped", "stopped"))
             wrong += ["made"] * (n["made"] != n["ran"] + n["left"])
             wrong += ["ran"] * (n["ran"] != columns)
             wrong += ["guesses"] * (n["refused"] == 0 and n["made"] + n["full"] != due)
+            wrong += ["room"] * (n["full"] > 0 and n["made"] < queue)
         if wrong:
             raise Differs(f"{self.words}: {', '.join(wrong)} do not add up in {n}")
 
