@@ -1,5 +1,5 @@
 -- Lemmas on the pages of snapshots.
-use Rattle.std.proofs.Common.{◌≡◌, ◌≢◌, inl, inr, ℕ, ◌+◌, ◌*◌, ◌-◌, ◌/◌, ◌%◌, ◌≤◌, ◌<◌, Bool, true, false, Option, None, List, [], ◌∷◌, ◌++◌, length, take, refl, sym, ap, ◌∙◌, arith, min, subst, slice_index, slice_index_or, length-take, length-append}
+use Rattle.std.proofs.Common.{◌≡◌, ◌≢◌, inl, inr, ℕ, ◌+◌, ◌*◌, ◌-◌, ◌/◌, ◌%◌, ◌≤◌, ◌<◌, Bool, true, false, Option, None, List, [], ◌∷◌, ◌++◌, length, take, refl, sym, ap, ◌∙◌, arith, max, min, subst, slice_index, slice_index_or, length-take, length-append}
 use Rattle.std.proofs.lemmas.List.{get_or_past, get_or_default, get_or_append_left, get_or-append_right, ext_get_or}
 use Rattle.std.proofs.lemmas.List.FromFn.{length-map-range_with_len, get_or-map-range_with_len}
 use Rattle.std.proofs.lemmas.Bool.{cases_lt}
@@ -7,7 +7,7 @@ use borrow.Rule.Slice.PartMut.{put_mid}
 use Rattle.asc_model.specs.Shape.{Shape, length_of}
 use Rattle.asc_model.specs.State.{State}
 use Rattle.asc_model.proofs.Changes.{length-splice}
-use Rattle.asc_shape.specs.Pages.{Page, Group, Span, held, page_in_group, page_in_span, page_in, byte_in, bytes_in, Fits, IsBlank, IsPage, ArePages, KeptPages, IsUnmarked}
+use Rattle.asc_shape.specs.Pages.{Page, Group, Span, held, page_in_group, page_in_span, page_in, byte_in, bytes_in, Fits, IsBlank, IsPage, ArePages, KeptPages, IsBlankFrom, IsUnmarked, KeepsBase}
 use Rattle.asc_shape.proofs.States.{put_mid-splice}
 use Rattle.asc_shape.proofs.Pages.{splice_beside}
 
@@ -52,6 +52,16 @@ none_in_group k = ap (λ (page : Option Page). held page) (get_or_past [] k None
 pub none_in_span : (k : ℕ) → page_in_span [] k ≡ []
 none_in_span k = ap (λ (group : Option Group). page_in_group (held group) (k % 32)) (get_or_past [] (k / 32) None (omega arith)) ∙ none_in_group (k % 32)
 
+-- nor has what lies past the end of a list
+pub past_in_group : (pages : List (Option Page)) (k : ℕ) → length pages ≤ k → page_in_group pages k ≡ []
+past_in_group pages k past = ap (λ (page : Option Page). held page) (get_or_past pages k None past)
+
+pub past_in_span : (groups : List (Option Group)) (k : ℕ) → length groups ≤ k / 32 → page_in_span groups k ≡ []
+past_in_span groups k past = ap (λ (group : Option Group). page_in_group (held group) (k % 32)) (get_or_past groups (k / 32) None past) ∙ none_in_group (k % 32)
+
+pub past_in : (spans : List (Option Span)) (p : ℕ) → length spans ≤ p / 1024 → page_in spans p ≡ []
+past_in spans p past = ap (λ (span : Option Span). page_in_span (held span) (p % 1024)) (get_or_past spans (p / 1024) None past) ∙ none_in_span (p % 1024)
+
 -- a page of zeros is left out
 pub page_of_zeros : (n : ℕ) (bytes : List ℕ) (p : ℕ) (page : List ℕ) → page ≡ [] → IsBlank bytes p → IsPage n bytes p page
 page_of_zeros n bytes p page none blank = record {
@@ -84,44 +94,42 @@ each_more {A} P list new part more each is =
           ])),
     )
 
--- the pages of a group, where those behind them lie past the end
-pub group_made : (n : ℕ) (bytes : List ℕ) (g : ℕ) (pages : List (Option Page)) → length bytes ≡ n
-    → ((k : ℕ) → length pages ≤ k → k < 32 → n / 4096 + 1 ≤ 32 * g + k)
+-- the pages of a group, where those behind them are blank
+pub group_made : (n : ℕ) (bytes : List ℕ) (g : ℕ) (pages : List (Option Page)) → ((k : ℕ) → length pages ≤ k → k < 32 → IsBlank bytes (32 * g + k))
     → ((k : ℕ) → k < length pages → IsPage n bytes (32 * g + k) (held (slice_index_or pages k None)))
     → ArePages n bytes (32 * g) 32 (page_in_group pages)
-group_made n bytes g pages size all each k within = elim (cases_lt k (length pages)) [
+group_made n bytes g pages blank each k within = elim (cases_lt k (length pages)) [
   | inl inside ↦ each k inside
-  | inr past ↦ page_of_zeros n bytes (32 * g + k) (page_in_group pages k) (ap (λ (page : Option Page). held page) (get_or_past pages k None past)) (blank_past n bytes (32 * g + k) size (all k past within))
+  | inr past ↦ page_of_zeros n bytes (32 * g + k) (page_in_group pages k) (past_in_group pages k past) (blank k past within)
 ]
 
 -- the same of a span
-pub span_made : (n : ℕ) (bytes : List ℕ) (s : ℕ) (groups : List (Option Group)) → length bytes ≡ n
-    → ((k : ℕ) → length groups ≤ k → k < 32 → n / 4096 + 1 ≤ 32 * (32 * s + k))
+pub span_made : (n : ℕ) (bytes : List ℕ) (s : ℕ) (groups : List (Option Group)) → ((k : ℕ) → length groups ≤ k / 32 → k < 1024 → IsBlank bytes (1024 * s + k))
     → ((k : ℕ) → k < length groups → ArePages n bytes (32 * (32 * s + k)) 32 (page_in_group (held (slice_index_or groups k None))))
     → ArePages n bytes (1024 * s) 1024 (page_in_span groups)
-span_made n bytes s groups size all each k within =
+span_made n bytes s groups blank each k within =
     let place : 32 * (32 * s + k / 32) + k % 32 ≡ 1024 * s + k = omega arith in
     elim (cases_lt (k / 32) (length groups)) [
       | inl inside ↦ subst (λ p. IsPage n bytes p (page_in_span groups k)) place (each (k / 32) inside (k % 32) (omega arith))
-      | inr past ↦
-          let h = all (k / 32) past (omega arith) in
-          page_of_zeros n bytes (1024 * s + k) (page_in_span groups k)
-          (ap (λ (group : Option Group). page_in_group (held group) (k % 32)) (get_or_past groups (k / 32) None past) ∙ none_in_group (k % 32))
-          (blank_past n bytes (1024 * s + k) size (omega arith))
+      | inr past ↦ page_of_zeros n bytes (1024 * s + k) (page_in_span groups k) (past_in_span groups k past) (blank k past within)
     ]
 
 -- and of all spans
-pub spans_made : (n : ℕ) (bytes : List ℕ) (spans : List (Option Span)) → length bytes ≡ n → n / 4096 + 1 ≤ 1024 * length spans
+pub spans_made : (n : ℕ) (bytes : List ℕ) (spans : List (Option Span)) → IsBlankFrom bytes (1024 * length spans)
     → ((k : ℕ) → k < length spans → ArePages n bytes (1024 * k) 1024 (page_in_span (held (slice_index_or spans k None))))
     → (p : ℕ) → IsPage n bytes p (page_in spans p)
-spans_made n bytes spans size all each p =
+spans_made n bytes spans blank each p =
     let place : 1024 * (p / 1024) + p % 1024 ≡ p = omega arith in
     elim (cases_lt (p / 1024) (length spans)) [
       | inl inside ↦ subst (λ q. IsPage n bytes q (page_in spans p)) place (each (p / 1024) inside (p % 1024) (omega arith))
-      | inr past ↦ page_of_zeros n bytes p (page_in spans p)
-          (ap (λ (span : Option Span). page_in_span (held span) (p % 1024)) (get_or_past spans (p / 1024) None past) ∙ none_in_span (p % 1024))
-          (blank_past n bytes p size (omega arith))
+      | inr past ↦ page_of_zeros n bytes p (page_in spans p) (past_in spans p past) (λ i here. blank i (omega arith))
     ]
+
+-- behind the last span all is blank
+pub blank_behind_spans : (n : ℕ) (bytes : List ℕ) (spans : List (Option Span)) (count : ℕ) → ((p : ℕ) → IsPage n bytes p (page_in spans p)) → count ≡ length spans
+    → IsBlankFrom bytes (1024 * count)
+blank_behind_spans n bytes spans count each size i far =
+    page_blank n bytes (i / 4096) (page_in spans (i / 4096)) (each (i / 4096)) (ap (λ (l : List ℕ). length l) (past_in spans (i / 4096) (omega arith))) i refl
 
 -- they have these bytes
 pub bytes_of_spans : (n : ℕ) (bytes : List ℕ) (spans : List (Option Span)) → length bytes ≡ n → ((p : ℕ) → IsPage n bytes p (page_in spans p))
@@ -189,6 +197,23 @@ kept_all marks n bytes from count pages free kept k within = kept k within (elim
   | inl inside ↦ get_or_default marks (from + k) false true inside ∙ free (from + k) (omega arith) (omega arith) inside
   | inr past ↦ get_or_past marks (from + k) false past
 ])
+
+-- behind the spans that are marked or the base's all is blank
+pub blank_unused : (marks : List Bool) (n used u b : ℕ) (base bytes : List ℕ) → length bytes ≡ n → length marks ≡ n / 4096 + 1 → KeepsBase marks base bytes
+    → IsUnmarked marks (1024 * u) (length marks) → IsBlankFrom base (1024 * b) → used ≡ min (max u b) ((length marks - 1) / 1024 + 1) → IsBlankFrom bytes (1024 * used)
+blank_unused marks n used u b base bytes size marked kept free blank most i far = elim (cases_lt (i / 4096) (length marks)) [
+  | inl inside ↦ kept i (free (i / 4096) (omega arith) (omega arith) inside) ∙ blank i (omega arith)
+  | inr past ↦ get_or_past bytes i 0 (omega arith)
+]
+
+-- a page that is not marked is blank where the one that is kept is
+pub blank_kept : (marks : List Bool) (n : ℕ) (bytes : List ℕ) (from count a k : ℕ) (pages : ℕ → List ℕ) → KeptPages marks n bytes from count pages
+    → IsUnmarked marks (from + a) (count - a) → a ≤ k → k < count → pages k ≡ [] → IsBlank bytes (from + k)
+blank_kept marks n bytes from count a k pages kept free least within none =
+    page_blank n bytes (from + k) (pages k) (kept k within (elim (cases_lt (from + k) (length marks)) [
+      | inl inside ↦ get_or_default marks (from + k) false true inside ∙ free (from + k) (omega arith) (omega arith) inside
+      | inr past ↦ get_or_past marks (from + k) false past
+    ])) (ap (λ (l : List ℕ). length l) none)
 
 -- a page that is read among the pages of a group
 pub page_here : (n : ℕ) (bytes : List ℕ) (g p k : ℕ) (pages : List (Option Page)) (page : List ℕ) → ArePages n bytes (32 * g) 32 (page_in_group pages) → k < 32 → p ≡ 32 * g + k

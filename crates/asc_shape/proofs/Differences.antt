@@ -5,7 +5,7 @@ use Rattle.std.proofs.lemmas.Bool.{cases_eq, cases_lt}
 use Rattle.asc_model.specs.Number.{AreBytes, word_at, bytes_of}
 use native.Mathlib.Nat.{mul-zero}
 use Rattle.asc_model.proofs.Numbers.{word_at-from_le_bytes, bytes_of-number_of, word_at-below}
-use Rattle.asc_shape.specs.Pages.{Differ, IsPage, ListsOn}
+use Rattle.asc_shape.specs.Pages.{ArePages, Differ, IsPage, ListsOn}
 use Rattle.asc_shape.specs.Stride.{strided, strided_byte, strided_word}
 use Rattle.asc_shape.proofs.Strides.{length-strided, byte-strided, word_same}
 
@@ -65,14 +65,19 @@ differ_blank first second p q pages so least same = record {
   ];
 }
 
+-- pages more that both have
+pub differ_both : (n from count p q : ℕ) (first second : List ℕ) (one two : ℕ → List ℕ) (pages : List ℕ) → ArePages n first from count one → ArePages n second from count two
+    → Differ first second p pages → from ≤ p → p ≤ q → q ≤ from + count → ((k : ℕ) → p ≤ from + k → from + k < q → one k ≡ two k) → Differ first second q pages
+differ_both n from count p q first second one two pages are also so start least end same =
+    differ_blank first second p q pages so least (λ r above below i at.
+    let inside : r - from < count = omega arith in
+    let here : i / 4096 ≡ from + (r - from) = omega arith in
+    same_page n first second (from + (r - from)) (one (r - from)) (two (r - from)) (are (r - from) inside) (also (r - from) inside) (same (r - from) (omega arith) (omega arith)) i here)
+
 -- pages that are left out in both
 pub lists_none : (from count most : ℕ) (one two : ℕ → List ℕ) (old : List ℕ) → from ≤ most → ((k : ℕ) → one k ≡ []) → ((k : ℕ) → two k ≡ []) → ListsOn from count most one two old old
 lists_none from count most one two old within none empty n first second are also so =
-    differ_blank first second from (min (from + count) most) old so (omega arith)
-    (λ r least below i at.
-    let inside : r - from < count = omega arith in
-    let here : i / 4096 ≡ from + (r - from) = omega arith in
-    same_page n first second (from + (r - from)) (one (r - from)) (two (r - from)) (are (r - from) inside) (also (r - from) inside) (none (r - from) ∙ sym (empty (r - from))) i here)
+    differ_both n from count from (min (from + count) most) first second one two old are also so (omega arith) (omega arith) (omega arith) (λ k least below. none k ∙ sym (empty k))
 
 -- a word that did not change stays
 stay_word : (ahead word : ℕ) → word < 2 ^ 32 → strided_word ahead word word ≡ word

@@ -1,7 +1,7 @@
 pub mod Faces
 pub mod States
 pub mod Made
-pub mod Covers
+pub mod Counts
 pub mod Pages
 pub mod Copies
 pub mod Puts

@@ -2,11 +2,11 @@
 use Rattle.std.proofs.Common.{◌≡◌, ◌≢◌, inl, inr, ℕ, ◌+◌, ◌-◌, ◌/◌, ◌%◌, ◌≤◌, ◌<◌, Bool, true, false, List, [], length, refl, sym, ap, ◌∙◌, arith, subst, slice_index, slice_index_or, slice_set}
 use Rattle.std.proofs.lemmas.List.{length-set, get_or_past, get_or_default, get_or-set_same, get_or-set_other}
 use Rattle.std.proofs.lemmas.Bool.{cases_lt, false≢true}
-use Rattle.asc_shape.specs.Pages.{Fits, IsBlank, IsPage, FitPages, KeptPages, IsUnmarked, IsPut}
+use Rattle.asc_shape.specs.Pages.{Fits, IsBlank, IsPage, FitPages, KeptPages, IsUnmarked, IsPutOver}
 use Rattle.asc_shape.proofs.Copies.{page_past, page_of_zeros, blank_past, page_blank, kept_all}
 
 -- nothing was written yet
-pub put_none : (n from : ℕ) (pages : ℕ → List ℕ) (bytes : List ℕ) (marks : List Bool) → IsPut n from 0 pages bytes bytes marks marks
+pub put_none : (n from : ℕ) (pages : ℕ → List ℕ) (bytes : List ℕ) (marks : List Bool) → IsPutOver n from 0 pages bytes bytes marks marks
 put_none n from pages bytes marks = record {
   size = refl;
   done = λ k within. absurd (let h : ⊥ = omega arith in h);
@@ -20,7 +20,7 @@ pub put_one : (n p : ℕ) (page bytes new : List ℕ) (marks : List Bool) (mark 
     → ((i : ℕ) → i / 4096 ≡ p → slice_index new i ≡ slice_index page (i % 4096))
     → ((i : ℕ) → i / 4096 ≢ p → slice_index new i ≡ slice_index bytes i)
     → p < length marks → (mark ≡ false → length page ≡ 0)
-    → IsPut n p 1 (λ k. page) bytes new marks (slice_set marks p mark)
+    → IsPutOver n p 1 (λ k. page) bytes new marks (slice_set marks p mark)
 put_one n p page bytes new marks mark fits here beside within none = record {
   size = length-set marks p mark;
   done = λ k inside. let e : p + k ≡ p = omega arith in subst (λ q. IsPage n new q page) (sym e) (record { fits = fits; places = here });
@@ -32,8 +32,8 @@ put_one n p page bytes new marks mark fits here beside within none = record {
 }
 
 -- more pages behind those that were written
-pub put_more : (n from a b next : ℕ) (pages list : ℕ → List ℕ) (x y z : List ℕ) (m w v : List Bool) → IsPut n from a pages x y m w → IsPut n next b list y z w v
-    → next ≡ from + a → ((k : ℕ) → k < b → list k ≡ pages (a + k)) → IsPut n from (a + b) pages x z m v
+pub put_more : (n from a b next : ℕ) (pages list : ℕ → List ℕ) (x y z : List ℕ) (m w v : List Bool) → IsPutOver n from a pages x y m w → IsPutOver n next b list y z w v
+    → next ≡ from + a → ((k : ℕ) → k < b → list k ≡ pages (a + k)) → IsPutOver n from (a + b) pages x z m v
 put_more n from a b next pages list x y z m w v one two at same = record {
   size = two.size ∙ one.size;
   done = λ k within. elim (cases_lt k a) [
@@ -62,22 +62,28 @@ put_more n from a b next pages list x y z m w v one two at same = record {
       ∙ one.rest p (elim outside [ inl below ↦ inl below | inr above ↦ inr (omega arith) ]);
 }
 
--- where those behind them lie past the end, all were written
-pub put_whole : (n from a count : ℕ) (pages : ℕ → List ℕ) (x y : List ℕ) (m w : List Bool) → IsPut n from a pages x y m w → length y ≡ n → length m ≡ n / 4096 + 1
-    → a ≤ count → ((k : ℕ) → a ≤ k → k < count → n / 4096 + 1 ≤ from + k) → FitPages n from count pages → IsPut n from count pages x y m w
-put_whole n from a count pages x y m w put size marks within past fit = record {
+-- where those behind them are blank or lie past the end, all were written
+pub put_whole : (n from a count : ℕ) (pages : ℕ → List ℕ) (x y : List ℕ) (m w : List Bool) → IsPutOver n from a pages x y m w → length y ≡ n → length m ≡ n / 4096 + 1
+    → a ≤ count
+    → ((k : ℕ) → a ≤ k → k < count → from + k < n / 4096 + 1 → IsBlank y (from + k) × (pages k ≡ [])) → FitPages n from count pages → IsPutOver n from count pages x y m w
+put_whole n from a count pages x y m w put size marks within rest fit = record {
   size = put.size;
   done = λ k inside. elim (cases_lt k a) [
     | inl before ↦ put.done k before
-    | inr behind ↦ record {
-      fits = fit k inside;
-      places = λ i here. let far = past k behind inside in
-          blank_past n y (from + k) size far i here ∙ sym (page_past n (from + k) i (pages k) (fit k inside) here (omega arith));
-    }
+    | inr behind ↦ elim (cases_lt (from + k) (n / 4096 + 1)) [
+      | inl there ↦ let h = rest k behind inside there in page_of_zeros n y (from + k) (pages k) h.1 h.0
+      | inr far ↦ record {
+        fits = fit k inside;
+        places = λ i here. blank_past n y (from + k) size far i here ∙ sym (page_past n (from + k) i (pages k) (fit k inside) here (omega arith));
+      }
+    ]
   ];
   blank = λ k inside free. elim (cases_lt k a) [
     | inl before ↦ put.blank k before free
-    | inr behind ↦ absurd (false≢true (sym free ∙ get_or_past w (from + k) true (let far = past k behind inside in omega (arith, put.size))))
+    | inr behind ↦ elim (cases_lt (from + k) (n / 4096 + 1)) [
+      | inl there ↦ (rest k behind inside there).0
+      | inr far ↦ absurd (false≢true (sym free ∙ get_or_past w (from + k) true (omega (arith, put.size))))
+    ]
   ];
   others = λ i outside. put.others i (elim outside [ inl below ↦ inl below | inr above ↦ inr (omega arith) ]);
   rest = λ p outside. put.rest p (elim outside [ inl below ↦ inl below | inr above ↦ inr (omega arith) ]);
@@ -86,7 +92,7 @@ put_whole n from a count pages x y m w put size marks within past fit = record {
 -- blank pages need not be written over blank ones that are not marked
 pub put_skipped : (n from count : ℕ) (pages kept : ℕ → List ℕ) (bytes : List ℕ) (marks : List Bool)
     → ((k : ℕ) → pages k ≡ []) → ((k : ℕ) → kept k ≡ []) → IsUnmarked marks from count → KeptPages marks n bytes from count kept
-    → IsPut n from count pages bytes bytes marks marks
+    → IsPutOver n from count pages bytes bytes marks marks
 put_skipped n from count pages kept bytes marks none empty free is =
     let zeros : (k : ℕ) → k < count → IsBlank bytes (from + k) = λ k within.
     page_blank n bytes (from + k) (kept k) (kept_all marks n bytes from count kept free is k within) (ap (λ (l : List ℕ). length l) (empty k)) in
@@ -106,7 +112,7 @@ stayed marks new p size same = elim (cases_lt p (length marks)) [
 ]
 
 -- pages that are kept behind those that were written
-pub kept_left : (n from a next count : ℕ) (pages kept : ℕ → List ℕ) (x y : List ℕ) (m w : List Bool) → IsPut n from a pages x y m w → KeptPages m n x next count kept
+pub kept_left : (n from a next count : ℕ) (pages kept : ℕ → List ℕ) (x y : List ℕ) (m w : List Bool) → IsPutOver n from a pages x y m w → KeptPages m n x next count kept
     → from + a ≤ next → KeptPages w n y next count kept
 kept_left n from a next count pages kept x y m w put is above k within free =
     let before = is k within (sym (stayed m w (next + k) put.size (put.rest (next + k) (inr (omega arith)))) ∙ free) in record {
@@ -115,7 +121,7 @@ kept_left n from a next count pages kept x y m w put is above k within free =
     }
 
 -- a page that is not marked, where the one that is kept is blank
-pub kept_blank : (n from a count p : ℕ) (pages kept : ℕ → List ℕ) (x y : List ℕ) (m w : List Bool) → IsPut n from a pages x y m w → KeptPages m n x from count kept
+pub kept_blank : (n from a count p : ℕ) (pages kept : ℕ → List ℕ) (x y : List ℕ) (m w : List Bool) → IsPutOver n from a pages x y m w → KeptPages m n x from count kept
     → a < count → p ≡ from + a → p < length w → slice_index_or w p true ≡ false → length (kept a) ≡ 0 → IsBlank y p
 kept_blank n from a count p pages kept x y m w put is within here inside free none i at =
     let known : slice_index_or m (from + a) false ≡ false =

@@ -51,6 +51,10 @@ Fits n p page = 0 < length page → length page ≡ min 4096 (n - 4096 * p)
 abbrev pub IsBlank : List ℕ → ℕ → Type 0
 IsBlank bytes p = (i : ℕ) → i / 4096 ≡ p → slice_index bytes i ≡ 0
 
+-- all bytes of page p and of those behind it are 0
+abbrev pub IsBlankFrom : List ℕ → ℕ → Type 0
+IsBlankFrom bytes p = (i : ℕ) → p ≤ i / 4096 → slice_index bytes i ≡ 0
+
 -- this is page p of n bytes, which are these
 pub record IsPage (n : ℕ) (bytes : List ℕ) (p : ℕ) (page : List ℕ) : Type 0 where
   pub fits : Fits n p page
@@ -71,7 +75,7 @@ FitPages n from count pages = (k : ℕ) → k < count → Fits n (from + k) (pag
 
 -- So many pages, from page `from` on, were written over what was there, and each is blank where it is not marked.
 -- Nothing else changed.
-pub record IsPut (n from count : ℕ) (pages : ℕ → List ℕ) (before after : List ℕ) (marks new : List Bool) : Type 0 where
+pub record IsPutOver (n from count : ℕ) (pages : ℕ → List ℕ) (before after : List ℕ) (marks new : List Bool) : Type 0 where
   pub size : length new ≡ length marks
   pub done : ArePages n after from count pages
   pub blank : (k : ℕ) → k < count → slice_index_or new (from + k) true ≡ false → IsBlank after (from + k)
@@ -98,27 +102,27 @@ abbrev pub IsUnmarked : List Bool → ℕ → ℕ → Type 0
 IsUnmarked marks from count =
     (p : ℕ) → from ≤ p → p < from + count → p < length marks → slice_index_or marks p true ≡ false
 
--- Marks of groups cover the marks of pages, and marks of spans those of groups. There are some. Where a group is not
--- marked, no page of it is.
-pub record Cover (groups pages : List Bool) : Type 0 where
+-- There are n things, 32 to a part, and a number for each part. So many things of that part may be in use, from its
+-- first one on. Those behind them are free.
+pub record Counts (numbers : List ℕ) (n : ℕ) (IsFree : ℕ → Type 0) : Type 0 where
+  pub least : n ≤ 32 * length numbers
+  pub most : 32 * length numbers < n + 32
+  pub free : (k : ℕ) → k < n → slice_index numbers (k / 32) ≤ k % 32 → IsFree k
+
+-- How many pages of each group may be marked, from its first one on, how many groups of each span have such pages, and
+-- how many spans. There are some pages.
+pub record AreCounted (used : ℕ) (spans groups : List ℕ) (pages : List Bool) : Type 0 where
   pub some : 0 < length pages
-  pub least : length pages ≤ 32 * length groups
-  pub most : 32 * length groups < length pages + 32
-  pub free : (g : ℕ) → slice_index_or groups g true ≡ false → IsUnmarked pages (32 * g) 32
+  pub by_groups : Counts groups (length pages) (λ p. slice_index_or pages p true ≡ false)
+  pub by_spans : Counts spans (length groups) (λ g. slice_index groups g ≡ 0)
+  pub within : used ≤ length spans
+  pub rest : (s : ℕ) → used ≤ s → slice_index spans s ≡ 0
 
 -- the pages of the n places from a place on are marked, and no mark is taken away
 pub record IsMarked (from n : ℕ) (before after : List Bool) : Type 0 where
   pub length : length after ≡ length before
   pub others : (i : ℕ) → slice_index_or after (i / 4096) true ≡ false → slice_index_or before (i / 4096) true ≡ false
   pub within : (i : ℕ) → slice_index_or after (i / 4096) true ≡ false → from ≤ i → from + n ≤ i
-
--- The first p pages are those of the target, and blank where they are not marked. The others are the base's where they
--- are not marked.
-pub record IsRestored (target : List ℕ) (p : ℕ) (base bytes : List ℕ) (marks : List Bool) : Type 0 where
-  pub done : (i : ℕ) → i / 4096 < p → slice_index bytes i ≡ slice_index target i
-  pub blank : (i : ℕ) → i / 4096 < p → slice_index_or marks (i / 4096) true ≡ false → slice_index bytes i ≡ 0
-  pub left : (i : ℕ) → p ≤ i / 4096 → slice_index_or marks (i / 4096) true ≡ false
-      → slice_index bytes i ≡ slice_index base i
 
 -- Page p is listed.
 abbrev pub IsListed : List ℕ → ℕ → Type 0

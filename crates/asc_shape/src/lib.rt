@@ -7,6 +7,7 @@ mod laws;
 mod marks;
 mod page;
 mod pair;
+mod reserved;
 mod shape;
 mod snapshot;
 mod state;
@@ -23,6 +24,7 @@ pub use asc_outside::{
 pub use bytes::Bytes;
 pub use laws::good_shapes_are_made;
 pub use pair::Pair;
+pub use reserved::Reserved;
 pub use shape::{LEAST_SIZE, MOST_SIZE, PAGE_SIZE, Shape, ShapeFault};
 pub use snapshot::Snapshot;
 pub use state::State;

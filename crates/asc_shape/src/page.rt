@@ -1,5 +1,5 @@
 // Pages of bytes, groups of pages, and spans of groups.
-ghost use Rattle.std.specs.Prelude.{◌≡◌, ◌≢◌, ◌+◌, ◌*◌, ◌-◌, ◌/◌, ◌^◌, ◌%◌, ◌<◌, ◌≤◌, ℕ, List, [], min, true, length, slice_index};
+ghost use Rattle.std.specs.Prelude.{◌≡◌, ◌≢◌, ◌+◌, ◌*◌, ◌-◌, ◌/◌, ◌^◌, ◌%◌, ◌<◌, ◌≤◌, ℕ, List, [], max, min, true, length, slice_index};
 ghost use Rattle.asc_model.specs.Number.{AreBytes, word_at};
 ghost use Rattle.asc_shape.specs.Stride.{strided_byte, strided_word};
 ghost use Rattle.asc_shape.specs.Pages.{Fits};
@@ -38,6 +38,14 @@ pub(crate) fn part_ends(part: usize, count: usize) -> (usize, usize)
 {
     let from = part * PART;
     (from, count.min(from + PART))
+}
+
+/// How many of `count` parts are used, where one list uses so many of them, and another one so many.
+#[inline]
+pub(crate) fn used_of(one: usize, other: usize, count: usize) -> usize
+    ensures { result ≡ min (max one other) count }
+{
+    one.max(other).min(count)
 }
 
 /// Writes a page over page p. It does nothing where both are known to be blank.

@@ -3,7 +3,7 @@ ghost use Rattle.asc_model.specs.Shape.{length_of};
 ghost use Rattle.asc_model.specs.State.{IsState};
 ghost use Rattle.asc_shape.specs.Pages.{Differ, ListsOn, page_in_group, page_in_span};
 
-use crate::page::{PAGE, PART, is_same_page, part_ends};
+use crate::page::{PAGE, PART, is_same_page, part_ends, used_of};
 use crate::snapshot::{Group, Page, part_at};
 use crate::{Memory, Snapshot};
 use std::alloc::Global;
@@ -77,7 +77,12 @@ fn differing(alloc: Global, prev: &Snapshot, last: &Snapshot) -> Result<Vec<usiz
     let _ = shape.base();
     let pages = (shape.start() + shape.size()) as usize / PAGE + 1;
     let mut differ = Vec::with_capacity(alloc, 0)?;
-    for s in 0..(pages - 1) / (PART * PART) + 1 {
+    let used = used_of(
+        prev.span_count(),
+        last.span_count(),
+        (pages - 1) / (PART * PART) + 1,
+    );
+    for s in 0..used {
         add_groups(&mut differ, prev.groups(s), last.groups(s), s, pages)?;
     }
     Ok(differ)
@@ -117,7 +122,8 @@ fn list_groups(
         differ.old.items differ.new.items) }
 {
     let (from, to) = part_ends(s, (pages - 1) / PART + 1);
-    for g in from..to {
+    let used = used_of(earlier.len(), later.len(), to - from);
+    for g in from..from + used {
         add_pages(
             differ,
             part_at(earlier, g - from),
@@ -164,7 +170,8 @@ fn list_pages(
         differ.old.items differ.new.items) }
 {
     let (from, to) = part_ends(g, pages);
-    for p in from..to {
+    let used = used_of(earlier.len(), later.len(), to - from);
+    for p in from..from + used {
         if !is_same_page(part_at(later, p - from), part_at(earlier, p - from)) {
             differ.push(p)?;
         }

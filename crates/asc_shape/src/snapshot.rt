@@ -2,10 +2,10 @@ ghost use Rattle.std.specs.Prelude.{◌≡◌, ◌+◌, ◌*◌, ◌/◌, ◌^�
 ghost use Rattle.asc_model.specs.Shape.{length_of};
 ghost use Rattle.asc_model.specs.State.{IsState};
 ghost use Rattle.asc_model.specs.Machine.{view_of};
-ghost use Rattle.asc_shape.specs.Pages.{IsPage, ArePages, KeptPages, IsUnmarked, IsBaseOf, KeepsBase, base_bytes, held, page_in_group, page_in_span};
+ghost use Rattle.asc_shape.specs.Pages.{IsPage, ArePages, KeptPages, IsBlankFrom, IsUnmarked, IsBaseOf, KeepsBase, base_bytes, held, page_in_group, page_in_span};
 
 use crate::marks::Marks;
-use crate::page::{PART, elements_are_bytes, ends, part_ends, word_in};
+use crate::page::{PART, elements_are_bytes, ends, part_ends, used_of, word_in};
 use crate::{Memory, Shape, State};
 use std::alloc::Global;
 use std::marker::Model;
@@ -73,9 +73,10 @@ impl Snapshot {
         let _ = shape.base();
         elements_are_bytes(bytes);
         let count = (changed.len() - 1) / (PART * PART) + 1;
-        let mut spans = Vec::with_capacity(alloc, count)?;
-        for s in 0..count {
-            spans.push(span_of(alloc, shape, bytes, changed, base, s)?)?;
+        let used = used_of(changed.used_spans(), base_spans(base), count);
+        let mut spans = Vec::with_capacity(alloc, used)?;
+        for s in 0..used {
+            spans.push_reserved(span_of(alloc, shape, bytes, changed, base, s)?);
         }
         Ok(Snapshot { shape, spans })
     }
@@ -116,6 +117,14 @@ impl Snapshot {
         ensures { ArePages (length_of self.now.shape) self.now.bytes (1024 * s) 1024 (page_in_span result.now) }
     {
         part_at(&self.spans, s)
+    }
+
+    /// How many spans there are up to the last one that is there.
+    #[inline]
+    pub(crate) fn span_count(&self) -> usize
+        ensures { IsBlankFrom self.now.bytes (1024 * result) }
+    {
+        self.spans.len()
     }
 
     // Span s, shared.
@@ -159,6 +168,17 @@ pub(crate) fn base_groups(shape: Shape, base: &Option<Arc<Snapshot>>, s: usize) 
     match base {
         None => &[],
         Some(base) => base.groups(s),
+    }
+}
+
+/// How many spans a base has up to the last one that is there.
+#[inline]
+pub(crate) fn base_spans(base: &Option<Arc<Snapshot>>) -> usize
+    ensures { IsBlankFrom (base_bytes base.now) (1024 * result) }
+{
+    match base {
+        None => 0,
+        Some(base) => base.span_count(),
     }
 }
 
@@ -217,9 +237,10 @@ fn copied_span(
         ArePages (length bytes.now) bytes.now (1024 * s) 1024 (page_in_span (held span))) }
 {
     let (from, to) = part_ends(s, (changed.len() - 1) / PART + 1);
-    let mut groups = Vec::with_capacity(alloc, to - from)?;
-    for g in from..to {
-        groups.push(group_of(alloc, bytes, changed, g, kept, g - from)?)?;
+    let used = used_of(changed.used_groups(s), kept.len(), to - from);
+    let mut groups = Vec::with_capacity(alloc, used)?;
+    for g in from..from + used {
+        groups.push_reserved(group_of(alloc, bytes, changed, g, kept, g - from)?);
     }
     Ok(Some(Arc::new(alloc, groups)?))
 }
@@ -263,9 +284,10 @@ fn copied_group(
     ensures { IfOk result (λ group. ArePages (length bytes.now) bytes.now (32 * g) 32 (page_in_group (held group))) }
 {
     let (from, to) = part_ends(g, changed.len());
-    let mut pages = Vec::with_capacity(alloc, to - from)?;
-    for p in from..to {
-        pages.push(page_of(alloc, bytes, p, changed.is_marked(p), kept, p - from)?)?;
+    let used = used_of(changed.used_pages(g), kept.len(), to - from);
+    let mut pages = Vec::with_capacity(alloc, used)?;
+    for p in from..from + used {
+        pages.push_reserved(page_of(alloc, bytes, p, changed.is_marked(p), kept, p - from)?);
     }
     Ok(Some(Arc::new(alloc, pages)?))
 }

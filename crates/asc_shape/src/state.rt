@@ -8,16 +8,16 @@ ghost use Rattle.asc_model.specs.Machine as machine;
 ghost use Rattle.asc_shape.specs.Face.{Untold};
 ghost use Rattle.std.specs.Borrow.{Lends, Array, sem, u8 as byte};
 ghost use Rattle.asc_shape.specs.contracts.state.State.{the_row};
-ghost use Rattle.asc_shape.specs.Pages.{IsMarked, FitPages, KeptPages, IsPut, held, page_in_group, page_in_span};
+ghost use Rattle.asc_shape.specs.Pages.{IsMarked, FitPages, KeptPages, IsPutOver, held, page_in_group, page_in_span};
 ghost use Rattle.asc_shape.specs.Stride.{strided};
 ghost use Rattle.asc_outside.specs.Outside.{HasCause, IsAtEnd};
 ghost use Rattle.asc_shape.specs.TakesIn.{TakesIn};
 ghost use Rattle.asc_shape.specs.State.{with_memory, zero_state, state_after, memory_at};
 
 use crate::marks::Marks;
-use crate::page::{PAGE, PART, elements_are_bytes, part_ends, put_page, stride_page};
-use crate::snapshot::{Group, Page, base_groups, part_at};
-use crate::{Bytes, Failed, Memory, Pair, Shape, Snapshot, Source, Words};
+use crate::page::{PAGE, PART, elements_are_bytes, part_ends, put_page, stride_page, used_of};
+use crate::snapshot::{Group, Page, base_groups, base_spans, part_at};
+use crate::{Bytes, Failed, Memory, Pair, Reserved, Shape, Snapshot, Source, Words};
 use std::alloc::Global;
 use std::marker::Model;
 use std::sync::Arc;
@@ -66,13 +66,23 @@ impl State {
     pub fn new(alloc: Global, shape: Shape) -> Result<State, Memory>
         ensures { IfOk result (λ s. s ≡ zero_state shape) }
     {
-        let len = (shape.start() + shape.size()) as usize;
-        Ok(State {
+        Ok(Reserved::new(alloc, shape)?.fill())
+    }
+
+    /// The state of this shape with these bytes, all 0.
+    pub(crate) fn of_zeros(shape: Shape, bytes: Vec<u8>, changed: Marks) -> State
+        requires zeros { bytes.items ≡ replicate (length_of shape) 0 }
+        requires marks { length changed ≡ length_of shape / 4096 + 1 }
+        requires first { slice_index_or changed 0 true ≡ true }
+        ensures { result ≡ zero_state shape }
+    {
+        let _ = shape.base();
+        State {
             shape,
-            bytes: vec![in alloc; 0; len]?,
+            bytes,
             base: None,
-            changed: Marks::new(alloc, len / PAGE + 1)?,
-        })
+            changed,
+        }
     }
 
     /// The shape. A caller's proof learns from it that this is a state.
@@ -227,10 +237,13 @@ impl State {
     {
         // That it is a shape bounds how many bytes there are.
         let _ = self.shape.base();
-        for s in 0..(self.changed.len() - 1) / (PART * PART) + 1 {
+        let count = (self.changed.len() - 1) / (PART * PART) + 1;
+        let used = used_of(base_spans(&self.base), self.changed.used_spans(), count);
+        for s in 0..used {
             let kept = base_groups(self.shape, &self.base, s);
             put_span(&[], kept, &mut self.bytes, &mut self.changed, s);
         }
+        self.changed.settle_spans();
         self.changed.mark(0);
         self.base = None;
     }
@@ -273,10 +286,14 @@ impl State {
     {
         // That its shape is one, which bounds how many bytes it has.
         let _ = from.shape().base();
-        for s in 0..(self.changed.len() - 1) / (PART * PART) + 1 {
+        let count = (self.changed.len() - 1) / (PART * PART) + 1;
+        let there = used_of(base_spans(&self.base), self.changed.used_spans(), count);
+        let used = used_of(from.span_count(), there, count);
+        for s in 0..used {
             let kept = base_groups(self.shape, &self.base, s);
             put_span(from.groups(s), kept, &mut self.bytes, &mut self.changed, s);
         }
+        self.changed.settle_spans();
         self.changed.mark(0);
         self.base = None;
     }
@@ -431,7 +448,7 @@ fn put_span(copy: &[Group], kept: &[Group], bytes: &mut [u8], changed: &mut Mark
     requires span { 1024 * s < length changed.old }
     requires copy { FitPages (length bytes.old) (1024 * s) 1024 (page_in_span copy.now) }
     requires kept { KeptPages changed.old (length bytes.old) bytes.old (1024 * s) 1024 (page_in_span kept.now) }
-    ensures { IsPut (length bytes.old) (1024 * s) 1024 (page_in_span copy.now)
+    ensures { IsPutOver (length bytes.old) (1024 * s) 1024 (page_in_span copy.now)
         bytes.old bytes.new changed.old changed.new }
 {
     if copy.is_empty() && kept.is_empty() && changed.is_unmarked_span(s) {
@@ -448,11 +465,13 @@ fn put_groups(copy: &[Group], kept: &[Group], bytes: &mut [u8], changed: &mut Ma
     requires span { 1024 * s < length changed.old }
     requires copy { FitPages (length bytes.old) (1024 * s) 1024 (page_in_span copy.now) }
     requires kept { KeptPages changed.old (length bytes.old) bytes.old (1024 * s) 1024 (page_in_span kept.now) }
-    ensures { IsPut (length bytes.old) (1024 * s) 1024 (page_in_span copy.now)
+    ensures { IsPutOver (length bytes.old) (1024 * s) 1024 (page_in_span copy.now)
         bytes.old bytes.new changed.old changed.new }
 {
     let (from, to) = part_ends(s, (changed.len() - 1) / PART + 1);
-    for g in from..to {
+    let there = used_of(kept.len(), changed.used_groups(s), to - from);
+    let used = used_of(copy.len(), there, to - from);
+    for g in from..from + used {
         put_group(
             part_at(copy, g - from),
             part_at(kept, g - from),
@@ -461,9 +480,7 @@ fn put_groups(copy: &[Group], kept: &[Group], bytes: &mut [u8], changed: &mut Ma
             g,
         );
     }
-    if copy.is_empty() {
-        changed.settle_span(s);
-    }
+    changed.settle_span(s);
 }
 
 // Writes pages over group g, where those that are kept are what its pages have that are not marked.
@@ -474,7 +491,7 @@ fn put_group(copy: &[Page], kept: &[Page], bytes: &mut [u8], changed: &mut Marks
     requires group { 32 * g < length changed.old }
     requires copy { FitPages (length bytes.old) (32 * g) 32 (page_in_group copy.now) }
     requires kept { KeptPages changed.old (length bytes.old) bytes.old (32 * g) 32 (page_in_group kept.now) }
-    ensures { IsPut (length bytes.old) (32 * g) 32 (page_in_group copy.now)
+    ensures { IsPutOver (length bytes.old) (32 * g) 32 (page_in_group copy.now)
         bytes.old bytes.new changed.old changed.new }
 {
     if copy.is_empty() && kept.is_empty() && changed.is_unmarked(g) {
@@ -491,17 +508,17 @@ fn put_pages(copy: &[Page], kept: &[Page], bytes: &mut [u8], changed: &mut Marks
     requires group { 32 * g < length changed.old }
     requires copy { FitPages (length bytes.old) (32 * g) 32 (page_in_group copy.now) }
     requires kept { KeptPages changed.old (length bytes.old) bytes.old (32 * g) 32 (page_in_group kept.now) }
-    ensures { IsPut (length bytes.old) (32 * g) 32 (page_in_group copy.now)
+    ensures { IsPutOver (length bytes.old) (32 * g) 32 (page_in_group copy.now)
         bytes.old bytes.new changed.old changed.new }
 {
     let (from, to) = part_ends(g, changed.len());
-    for p in from..to {
+    let there = used_of(kept.len(), changed.used_pages(g), to - from);
+    let used = used_of(copy.len(), there, to - from);
+    for p in from..from + used {
         let page = part_at(copy, p - from);
         let blank = is_blank(kept, p - from, changed.is_marked(p));
         put_page(bytes, p, page, blank);
         changed.put(p, !page.is_empty());
     }
-    if copy.is_empty() {
-        changed.settle(g);
-    }
+    changed.settle(g);
 }

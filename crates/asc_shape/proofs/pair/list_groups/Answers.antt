@@ -1,6 +1,7 @@
-use Rattle.std.proofs.Common.{◌≡◌, ◌+◌, ◌*◌, ◌-◌, min, subst, arith}
-use Rattle.asc_shape.specs.Pages.{Differ, IsPage}
-use Rattle.asc_shape.proofs.Copies.{pages_of_span}
+use Rattle.std.proofs.Common.{◌≡◌, ◌+◌, ◌*◌, ◌-◌, ◌∙◌, min, sym, subst, arith}
+use Rattle.asc_shape.specs.Pages.{Differ, IsPage, page_in_span}
+use Rattle.asc_shape.proofs.Copies.{pages_of_span, past_in_span}
+use Rattle.asc_shape.proofs.Differences.{differ_both}
 use Rattle.asc_shape.proofs.pair.list_groups.Goals as goal
 
 pub loop-g-init : goal.loop-g-init
@@ -20,6 +21,11 @@ loop-g-preserved c n first second are also so =
 
 pub returns : goal.returns
 returns c n first second are also so =
-    subst (λ q. Differ first second q c.loop-g.differ.items)
-    (let e : min (32 * c.loop-g.g) c.args.pages ≡ min (1024 * c.args.s + 1024) c.args.pages = omega (arith, c.part_ends-from.ensures.to, c.loop-g-test.false, c.loop-g.auto.g-end, c.part_ends-from.ensures.from) in e)
-    (c.loop-g.invariant n first second are also so)
+    let most = c.used_of-used.ensures in
+    let from = c.part_ends-from.ensures.from in
+    let to = c.part_ends-from.ensures.to in
+    let all : c.loop-g.g ≡ c.part_ends-from.result.0 + c.used_of-used.result = omega (arith, c.loop-g-test.false, c.loop-g.auto.g-end) in
+    differ_both n (1024 * c.args.s) 1024 (min (32 * c.loop-g.g) c.args.pages) (min (1024 * c.args.s + 1024) c.args.pages) first second (page_in_span c.args.later.now) (page_in_span c.args.earlier.now)
+    c.loop-g.differ.items are also
+    (c.loop-g.invariant n first second are also so) (omega arith) (omega arith) (omega arith)
+    (λ k least below. past_in_span c.args.later.now k (omega arith) ∙ sym (past_in_span c.args.earlier.now k (omega arith)))

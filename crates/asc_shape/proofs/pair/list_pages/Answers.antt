@@ -1,8 +1,8 @@
-use Rattle.std.proofs.Common.{◌≡◌, ◌+◌, ◌*◌, ◌-◌, ℕ, min, sym, subst, arith}
+use Rattle.std.proofs.Common.{◌≡◌, ◌+◌, ◌*◌, ◌-◌, ◌∙◌, ℕ, min, sym, subst, arith}
 use Rattle.std.specs.Global.{Vec}
-use Rattle.asc_shape.specs.Pages.{Differ}
-use Rattle.asc_shape.proofs.Copies.{page_here}
-use Rattle.asc_shape.proofs.Differences.{same_page, differ_same, differ_listed}
+use Rattle.asc_shape.specs.Pages.{Differ, page_in_group}
+use Rattle.asc_shape.proofs.Copies.{page_here, past_in_group}
+use Rattle.asc_shape.proofs.Differences.{same_page, differ_same, differ_listed, differ_both}
 use Rattle.asc_shape.proofs.pair.list_pages.Goals as goal
 use Rattle.asc_shape.proofs.pair.list_pages.Goals.{then-not-is_same_page+in_ok-push, else-not-is_same_page}
 
@@ -26,6 +26,10 @@ loop-p-preserved c n first second are also so =
 
 pub returns : goal.returns
 returns c n first second are also so =
-    subst (λ q. Differ first second q c.loop-p.differ.items)
-    (let e : c.loop-p.p ≡ min (32 * c.args.g + 32) c.args.pages = omega (arith, c.part_ends-from.ensures.to, c.loop-p-test.false, c.loop-p.auto.p-end, c.requires.group, c.part_ends-from.ensures.from) in e)
-    (c.loop-p.invariant n first second are also so)
+    let most = c.used_of-used.ensures in
+    let from = c.part_ends-from.ensures.from in
+    let to = c.part_ends-from.ensures.to in
+    let all : c.loop-p.p ≡ c.part_ends-from.result.0 + c.used_of-used.result = omega (arith, c.loop-p-test.false, c.loop-p.auto.p-end) in
+    differ_both n (32 * c.args.g) 32 c.loop-p.p (min (32 * c.args.g + 32) c.args.pages) first second (page_in_group c.args.later.now) (page_in_group c.args.earlier.now) c.loop-p.differ.items are also
+    (c.loop-p.invariant n first second are also so) (omega arith) (omega arith) (omega arith)
+    (λ k least below. past_in_group c.args.later.now k (omega arith) ∙ sym (past_in_group c.args.earlier.now k (omega arith)))

@@ -1,8 +1,8 @@
 use Rattle.std.proofs.Common.{◌≡◌, ◌∙◌, ◌-◌, ◌*◌, ◌<◌, List, Bool, false, true, length, replicate, slice_index_or, slice_set, take, drop, sym, ap, subst, arith, length-take, length-drop}
 use Rattle.std.proofs.lemmas.List.{get_or-replicate}
 use borrow.Rule.Slice.PartMut.{put_mid}
-use Rattle.asc_shape.specs.Pages.{Cover}
-use Rattle.asc_shape.proofs.Covers.{cover_cleared, cover_less, mid_size}
+use Rattle.asc_shape.specs.Pages.{AreCounted}
+use Rattle.asc_shape.proofs.Counts.{counted_cleared, mid_size}
 use Rattle.asc_shape.proofs.Restores.{marks_over}
 use Rattle.asc_shape.proofs.marks.Marks.clear_group.Goals as goal
 
@@ -22,10 +22,10 @@ invariant_of-self c =
     omega (arith, length-take (to - from) (drop from xs), length-drop from xs, c.part_ends-from.ensures.from, c.part_ends-from.ensures.to) in
     let size : length blank ≡ to - from = c.fill.ensures.len ∙ part in
     let all : blank ≡ replicate (to - from) false = c.fill.ensures.after (λ y e. e) ∙ ap (λ n. replicate n false) part in
-    let whole : length (put_mid from (to - from) xs blank) ≡ length pages = mid_size xs blank from (to - from) size (omega (arith, c.part_ends-from.ensures.from, c.part_ends-from.ensures.to)) ∙ count in (
-      subst (λ (l : List Bool). Cover (slice_set groups c.args.g false) l) (sym (marks_over c.self.inside.pages (put_mid from (to - from) xs blank) whole))
-          (cover_cleared groups xs blank c.args.g from to (subst (λ (l : List Bool). Cover groups l) (sym there) c.self.invariant.0) (omega arith) c.part_ends-from.ensures.from
-          (omega (arith, c.part_ends-from.ensures.to)) size
-          (λ j within. ap (λ (l : List Bool). slice_index_or l j true) all ∙ get_or-replicate (to - from) j false true within)),
-      cover_less c.self.inside.spans.items groups c.args.g c.self.invariant.1,
-    )
+    let whole : length (put_mid from (to - from) xs blank) ≡ length pages = mid_size xs blank from (to - from) size (omega (arith, c.part_ends-from.ensures.from, c.part_ends-from.ensures.to)) ∙ count in
+    let inside = c.self.inside in
+    subst (λ (l : List Bool). AreCounted inside.used inside.spans.items (slice_set groups c.args.g 0) l) (sym (marks_over inside.pages (put_mid from (to - from) xs blank) whole))
+    (counted_cleared inside.used inside.spans.items groups xs blank c.args.g from to
+    (subst (λ (l : List Bool). AreCounted inside.used inside.spans.items groups l) (sym there) c.self.invariant) (omega arith) c.part_ends-from.ensures.from
+    (omega (arith, c.part_ends-from.ensures.to)) size
+    (λ j within. ap (λ (l : List Bool). slice_index_or l j true) all ∙ get_or-replicate (to - from) j false true within))
