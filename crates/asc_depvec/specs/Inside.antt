@@ -5,6 +5,7 @@ use Rattle.asc_model.specs.declared.status.Status.TheVariants.{Untouched, Read, 
 use Rattle.asc_model.specs.Shape.{length_of, is_same_shape}
 use Rattle.asc_shape.specs.Face.{Told, FitPlaces, status_at, is_untouched, status_after_write}
 use Rattle.asc_depvec.specs.declared.tracer.Tracer.TheInside.{Inside}
+use Rattle.asc_depvec.specs.declared.reserved.ReservedTracer.TheInside as reserved
 use Rattle.asc_depvec.specs.Tracer.{Tracing, most_cap}
 
 -- the status that a mark tells
@@ -33,6 +34,13 @@ pub record IsTracer (t : Inside) : Type 0 where
   pub reserved : t.cap ≤ vec_capacity t.touched
   pub places : FitPlaces (length_of t.shape) (Told t.cap (statuses_of t.marks.items) t.touched.items)
   pub other : is_same_shape t.state.shape t.shape ≡ false → t.touched.items ≡ []
+
+pub record IsReserved (r : reserved.Inside) : Type 0 where
+  pub cap : r.cap ≤ most_cap
+  pub no_marks : r.marks.items ≡ []
+  pub none : r.touched.items ≡ []
+  pub places : length_of r.state ≤ vec_capacity r.marks
+  pub reserved : r.cap ≤ vec_capacity r.touched
 
 -- the statuses of all places of a list are those of places that were written
 abbrev pub AreWritten : List Status → List ℕ → Type 0

@@ -17,6 +17,11 @@ pub record Tracing : Type 0 where
   pub statuses : List Status
   pub touched : List (ℕ × ℕ)
 
+-- what memory for a tracer is for: its state's shape, and at most how many places may be touched
+pub record Reserve : Type 0 where
+  pub shape : Shape
+  pub cap : ℕ
+
 -- the least and the greatest number of places that a tracer may be made to touch: room for a step, and 64 Ki
 abbrev pub least_cap : ℕ
 least_cap = step_room

@@ -2,6 +2,7 @@
 #![tactic(auto)]
 
 mod laws;
+mod reserved;
 #[cfg(test)]
 mod tests;
 mod tracer;
@@ -10,4 +11,5 @@ pub use asc_shape::Status;
 pub use laws::{
     limits_stay, no_statuses, reads_are_undone, starts_are_told, starts_stay, statuses_follow,
 };
+pub use reserved::ReservedTracer;
 pub use tracer::{LEAST_CAP, MOST_CAP, Tracer};

@@ -1,4 +1,4 @@
-ghost use Rattle.std.specs.Prelude.{◌≡◌, true, ◌+◌, ◌^◌, ◌<◌, ◌≤◌, [], ◌∷◌, ◌++◌, All, IfOk, IfSome, IsNone, length, vec_len, vec_capacity, if◌then◌else◌};
+ghost use Rattle.std.specs.Prelude.{◌≡◌, true, ◌+◌, ◌^◌, ◌<◌, ◌≤◌, [], ◌∷◌, ◌++◌, All, IfOk, IfSome, IsNone, length, replicate, vec_len, vec_capacity, if◌then◌else◌};
 ghost use Rattle.std.specs.Borrow.{Lends, sem};
 ghost use Rattle.asc_model.specs.declared.status.Status.{Status};
 ghost use Rattle.asc_model.specs.Number.{AreBytes, bytes_of, word_at};
@@ -11,6 +11,7 @@ ghost use Rattle.asc_depvec.specs.contracts.tracer.Tracer.{the_row};
 ghost use Rattle.asc_depvec.specs.Tracer.{HaveStatus, IsTracing, least_cap, most_cap, face_of, fresh, undone, untouch};
 ghost use Rattle.asc_depvec.specs.Inside.{AreWritten, status_of, statuses_of, with_statuses};
 
+use crate::ReservedTracer;
 use asc_shape::{Bytes, Memory, Shape, State, Status, Words, get_by_bytes, put_by_bytes};
 use std::alloc::Global;
 use std::marker::Model;
@@ -58,14 +59,29 @@ impl Tracer {
         requires most { cap ≤ most_cap }
         ensures { IfOk result (λ t. t ≡ fresh shape cap (zero_state shape)) }
     {
-        let state = State::new(alloc, shape)?;
-        Ok(Tracer {
-            shape,
+        Ok(ReservedTracer::new(alloc, shape, cap)?.fill())
+    }
+
+    /// A tracer of this state, nothing of it touched.
+    pub(crate) fn untouched(
+        cap: usize,
+        state: State,
+        marks: Vec<u8>,
+        touched: Vec<(u32, u8)>,
+    ) -> Tracer
+        requires cap { cap ≤ most_cap }
+        requires marks { marks.items ≡ replicate (length_of state.shape) 3 }
+        requires none { touched.items ≡ [] }
+        requires reserved { cap ≤ vec_capacity touched }
+        ensures { result ≡ fresh state.shape cap state }
+    {
+        Tracer {
+            shape: state.shape(),
             cap,
-            marks: vec![in alloc; UNTOUCHED; state.len()]?,
-            touched: Vec::with_capacity(alloc, cap)?,
             state,
-        })
+            marks,
+            touched,
+        }
     }
 
     /// Makes this a tracer of another state of its shape, nothing of it touched.
@@ -329,7 +345,7 @@ fn note(touched: &mut Vec<(u32, u8)>, status: Status, place: u32, byte: u8)
 }
 
 // The mark of a place tells its status. Bit 0 is set where the place is untouched, and bit 1 where it isn't written.
-const UNTOUCHED: u8 = 3;
+pub(crate) const UNTOUCHED: u8 = 3;
 
 const READ: u8 = 2;
 

@@ -1,6 +1,7 @@
-ghost use Rattle.std.specs.Prelude.{◌≡◌, ◌⊎◌, ◌+◌, ◌<◌, ◌≤◌, ◌^◌, [], true, false, IfOk, IfErr, OnErr, MatchBool};
+ghost use Rattle.std.specs.Prelude.{◌≡◌, ◌⊎◌, ◌+◌, ◌<◌, ◌≤◌, ◌^◌, [], true, false, IfOk, IfErr, IfSome, IsNone, IsSome, OnErr, MatchBool};
 ghost use Rattle.asc_model.specs.Reach.{IsReach, reach_of};
 ghost use Rattle.asc_model.specs.Entry.{entry_of};
+ghost use Rattle.asc_work.specs.Inside.{HasTracer, IsOwn};
 ghost use Rattle.asc_jobs.specs.declared.tally.Column.TheVariants as ran;
 ghost use Rattle.asc_traj.specs.Trace.{CountsAnswer, StandsFor, MayStop, bounds_of, is_stopped, origin_of};
 ghost use Rattle.asc_jobs.specs.Tally.{no_jobs, noted, counts_of};
@@ -8,7 +9,7 @@ ghost use Rattle.asc_work.specs.Worker.{IsOfShape, IsEmpty, HasInserted, HasAske
 
 use crate::Ran;
 use asc_cache::Insert;
-use asc_depvec::Tracer;
+use asc_depvec::{ReservedTracer, Tracer};
 use asc_guess::guess;
 use asc_jobs::{Job, Tally};
 use asc_outside::{Gate, Memory, Point};
@@ -23,10 +24,16 @@ use std::sync::Arc;
 const CAP: usize = 4096;
 
 /// It runs jobs, one after another, and inserts the entries of their guesses.
+///
+/// The memory of its tracer is taken when it is made, and filled for its first job. So a worker that runs none costs
+/// little, and others fill theirs at once where each runs in a thread of its own.
 #[derive(Drop)]
 pub struct Worker<W: Insert + Drop, H: Halt + Drop> {
     alloc: Global,
-    tracer: Tracer,
+    shape: Shape,
+    // Until the first job it has memory for a tracer, and then the tracer.
+    reserved: Option<ReservedTracer>,
+    tracer: Option<Tracer>,
     laps: u64,
     span: u64,
     writer: W,
@@ -35,14 +42,15 @@ pub struct Worker<W: Insert + Drop, H: Halt + Drop> {
 }
 
 impl<W: Insert + Drop, H: Halt + Drop> Model for Worker<W, H> {
-    ghost use Rattle.std.specs.Prelude.{◌≡◌, ◌≤◌};
     ghost use Rattle.asc_jobs.specs.Tally.{counts_of};
     ghost use Rattle.asc_work.specs.Worker as model;
+    ghost use Rattle.asc_work.specs.Inside.{HasTracer};
+    ghost use Rattle.std.specs.Prelude.{◌≤◌};
 
     ghost Value = { model.Worker W H };
 
     ghost view = { λ w. record {
-      shape = w.tracer.shape;
+      shape = w.shape;
       laps = w.laps;
       span = w.span;
       writer = w.writer;
@@ -50,7 +58,7 @@ impl<W: Insert + Drop, H: Halt + Drop> Model for Worker<W, H> {
       tally = counts_of w.tally;
     } };
 
-    ghost invariant = { λ w. (w.tracer.state.shape ≡ w.tracer.shape) × (w.tracer.cap ≡ 4096) × (1 ≤ w.laps) × (1 ≤ w.span) };
+    ghost invariant = { λ w. HasTracer w.shape w.reserved w.tracer × (1 ≤ w.laps) × (1 ≤ w.span) };
 }
 
 impl<W: Insert + Drop, H: Halt + Drop> Worker<W, H> {
@@ -76,10 +84,12 @@ impl<W: Insert + Drop, H: Halt + Drop> Worker<W, H> {
         }) }
         ensures memory { IfErr result (λ back. (back.1 ≡ writer) × (back.2 ≡ halt)) }
     {
-        match Tracer::new(alloc, shape, CAP) {
-            Ok(tracer) => Ok(Worker {
+        match ReservedTracer::new(alloc, shape, CAP) {
+            Ok(reserved) => Ok(Worker {
                 alloc,
-                tracer,
+                shape,
+                reserved: Some(reserved),
+                tracer: None,
                 laps,
                 span,
                 writer,
@@ -134,6 +144,8 @@ impl<W: Insert + Drop, H: Halt + Drop> Worker<W, H> {
     {
         let Self {
             alloc: _,
+            shape: _,
+            reserved: _reserved,
             tracer: _tracer,
             laps: _,
             span: _,
@@ -164,13 +176,16 @@ impl<W: Insert + Drop, H: Halt + Drop> Worker<W, H> {
         ensures laps { self.new.laps ≡ self.old.laps }
         ensures span { self.new.span ≡ self.old.span }
     {
-        let shape = self.tracer.state().shape();
-        if job.prev.shape() != shape || job.last.shape() != shape {
+        if job.prev.shape() != self.shape || job.last.shape() != self.shape {
             return Ran::Empty;
         }
+        fill(self.shape, &mut self.reserved, &mut self.tracer);
+        let Some(tracer) = &mut self.tracer else {
+            unreachable!()
+        };
         let traced = trace_job(
             self.alloc,
-            &mut self.tracer,
+            tracer,
             &mut self.halt,
             job,
             self.laps,
@@ -179,7 +194,7 @@ impl<W: Insert + Drop, H: Halt + Drop> Worker<W, H> {
         match traced {
             Ok(steps) => insert(
                 self.alloc,
-                &self.tracer,
+                tracer,
                 steps,
                 &mut self.writer,
                 job.ticket,
@@ -187,6 +202,18 @@ impl<W: Insert + Drop, H: Halt + Drop> Worker<W, H> {
             ),
             Err(ran) => ran,
         }
+    }
+}
+
+// Fills the memory for a tracer, where that was not done yet.
+fn fill(_shape: Shape, reserved: &mut Option<ReservedTracer>, tracer: &mut Option<Tracer>)
+    requires { HasTracer _shape reserved.old tracer.old }
+    ensures own { IfSome tracer.new (λ t. IsOwn _shape t) }
+    ensures some { IsSome tracer.new }
+    ensures filled { IsNone reserved.new }
+{
+    if let Some(memory) = reserved.take() {
+        *tracer = Some(memory.fill());
     }
 }
 
