@@ -111,7 +111,7 @@ refused_visit l = record l {
 
 -- A visit was passed over, once the queue had been filled up: of each kind one guess is given up, as if it had found no
 -- room. Its state is kept, where it ends a row of such visits, or is not.
-pub record Passes {F : Type 0} (number : ℕ) (now : State) (old new : Live F) : Type 0 where
+pub record PassesOver {F : Type 0} (number : ℕ) (now : State) (old new : Live F) : Type 0 where
   pub room : HasFilled old.pusher.giver
   pub state : (new.last ≡ None) ⊎ (new.last ≡ Some now)
   pub rest : new ≡ record old {
@@ -124,7 +124,7 @@ pub record Passes {F : Type 0} (number : ℕ) (now : State) (old new : Live F) :
 
 -- what a visit does
 abbrev pub Visits : {F : Type 0} → (number : ℕ) → State → (old new : Live F) → Type 0
-Visits number now old new = Keeps number now old new ⊎ ((new ≡ refused_visit old) ⊎ Passes number now old new)
+Visits number now old new = Keeps number now old new ⊎ ((new ≡ refused_visit old) ⊎ PassesOver number now old new)
 
 -- what holds where all visits up to one were guessed
 pub record HasSeen {F : Type 0} (number : ℕ) (l : Live F) : Type 0 where

@@ -1,12 +1,12 @@
 //! Walks that have workers beside them, and the helper of such a walk, which pushes jobs at each visit.
 #![tactic(auto)]
 
+mod budget;
 mod crew;
 #[cfg(test)]
 mod crew_tests;
 mod laws;
 mod live;
-mod means;
 mod pusher;
 #[cfg(test)]
 mod tests;

@@ -8,7 +8,7 @@ ghost use Rattle.asc_live.specs.Laws.{new_plan};
 ghost use Rattle.asc_live.specs.Live.{IsLive, new_live, queue_of, plan_of, refused_visit, due_by, issued_by, seen_after as seen_by, Visits};
 ghost use Rattle.asc_live.specs.Due.{HasFilled, Pushes};
 
-use crate::means::Means;
+use crate::budget::Budget;
 use crate::pusher::Pusher;
 use asc_jobs::Giver;
 use asc_outside::{Gate, Point};
@@ -35,7 +35,7 @@ pub struct Live<'a, F, G, R> {
     gate: &'a G,
     finder: F,
     pusher: Pusher<'a, R>,
-    means: Means,
+    budget: Budget,
     workers: Vec<Unparker>,
     guessing: Guessing,
     prev: Option<Arc<Snapshot>>,
@@ -80,7 +80,7 @@ impl<'a, F, G, R> Live<'a, F, G, R> {
             gate,
             finder,
             pusher: Pusher::new(rt, giver),
-            means: Means::new(workers.len()),
+            budget: Budget::new(workers.len()),
             workers,
             guessing,
             prev: None,
@@ -114,7 +114,7 @@ impl<'a, F, G, R> Live<'a, F, G, R> {
             gate: _,
             finder,
             pusher,
-            means: _means,
+            budget: _budget,
             workers: _workers,
             guessing: _,
             prev: _prev,
@@ -125,10 +125,14 @@ impl<'a, F, G, R> Live<'a, F, G, R> {
         (finder, pusher.into_giver())
     }
 
-    /// Wakes all workers.
-    pub fn wake(&self) {
-        for worker in &self.workers {
-            worker.unpark();
+    // Wakes a worker for each of the jobs with these tickets, the workers in turn. One that is awake looks for jobs
+    // until it finds none, so that no job waits for a worker that sleeps.
+    fn wake_for(&self, first: u64, end: u64) {
+        for ticket in first..end {
+            let turn = ticket % (self.workers.len() as u64).max(1);
+            if let Some(worker) = self.workers.get(turn as usize) {
+                worker.unpark();
+            }
         }
     }
 
@@ -201,7 +205,7 @@ impl<'a, F, G, R: Wait> Live<'a, F, G, R> {
         ensures stays { state.new ≡ state.old }
     {
         let filled = self.pusher.has_filled();
-        if !self.means.pay(filled) {
+        if !self.budget.pay(filled) {
             self.last = None;
             self.give_up(number);
         } else if filled && self.last.is_none() {
@@ -211,7 +215,7 @@ impl<'a, F, G, R: Wait> Live<'a, F, G, R> {
         }
     }
 
-    // Pushes the jobs of a visit, where two states are kept, and wakes the workers where any were pushed.
+    // Pushes the jobs of a visit, where two states are kept, and wakes a worker for each if the visit is paid for.
     fn push_due(&mut self, number: u64)
         requires seen { self.old.seen ≡ None }
         requires number { number ≤ 2 ^ 40 }
@@ -232,8 +236,8 @@ impl<'a, F, G, R: Wait> Live<'a, F, G, R> {
         self.pusher
             .push_visit(prev, last, &self.guessing, self.issued, number);
         self.issued = number + u64::from(self.guessing.ahead);
-        if before < self.pusher.pushed() {
-            self.wake();
+        if self.budget.has_paid() {
+            self.wake_for(before, self.pusher.pushed());
         }
     }
 }
@@ -271,9 +275,9 @@ impl<'a, F: Finder, G, R> Finder for Live<'a, F, G, R> {
         ensures machine { Unit {0} }
         ensures longest { (m : Serial) → None ≡ Some m → result ≡ serial_reply m state.old left }
     {
-        let most = self.means.reach(left);
+        let most = self.budget.reach(left);
         let found = self.finder.jump(state, most);
-        self.means.save(found);
+        self.budget.save(found);
         found
     }
 
@@ -291,8 +295,8 @@ impl<'a, F: Finder, G, R> Finder for Live<'a, F, G, R> {
 }
 
 impl<'a, F: Finder, G: Gate, R: Wait> Helper for Live<'a, F, G, R> {
-    /// Pushes the jobs that are due, and wakes the workers where any were pushed. It costs a copy of what changed in the
-    /// state since the last one, and two owners more of a copy for each job.
+    /// Pushes the jobs that are due, and wakes a worker for each if the budget pays for the visit. It costs a copy of
+    /// what changed in the state since the last one, and two owners more of a copy for each job.
     ///
     /// A visit that is passed over does none of this: one guess of each kind counts as one that found no room. So it does
     /// at the first visit after such ones, which only keeps its state. At its end the gate is passed at `Visit`.

@@ -39,30 +39,32 @@ type Row = (u32, u32, u32, Kind);
 /// The queue holds 3 jobs. Both kinds are on, and 2 visits ahead are guessed. So at visit 2 jobs are due for visits 3 and
 /// 4, and at each later visit for one visit more.
 ///
-/// With one worker a visit costs 3,000 steps, and the budget is 192,000 at most, with which it begins. So 64 visits are
-/// made, and visits 65 to 69 are passed over. The 200,000 steps fill it again: visit 70 keeps its state, and visit 71
-/// pushes.
-static VISITS: [(u64, u64, u64, u64, u64); 10] = [
+/// With one worker a visit costs 6,000 steps, and the budget is 192,000 at most, with which it begins. So 32 visits are
+/// made: the last of them finds room for one job. Visits 33 to 69 are passed over, whatever room there is. The 200,000
+/// steps fill the budget again: visit 70 keeps its state, and visit 71 pushes.
+static VISITS: [(u64, u64, u64, u64, u64); 11] = [
     (1, 0, 0, 0, 0),
     (1, 10, 0, 3, 1),
     (1, 10, 0, 3, 3),
     (1, 10, 1, 4, 4),
     (1, 10, 2, 6, 4),
-    (59, 10, 0, 6, 122),
-    (4, 10, 3, 6, 130),
-    (1, 200_000, 0, 6, 132),
-    (1, 10, 0, 6, 134),
-    (1, 10, 0, 8, 134),
+    (26, 10, 0, 6, 56),
+    (1, 10, 1, 7, 57),
+    (36, 10, 3, 7, 129),
+    (1, 200_000, 0, 7, 131),
+    (1, 10, 0, 7, 133),
+    (1, 10, 0, 9, 133),
 ];
 
 /// The jobs in the order in which they are taken. A visit's pc is 4 times its number.
-static JOBS: [Row; 8] = [
+static JOBS: [Row; 9] = [
     (4, 8, 1, Kind::Last),
     (4, 8, 1, Kind::Stride),
     (4, 8, 2, Kind::Last),
     (12, 16, 2, Kind::Last),
     (16, 20, 2, Kind::Last),
     (16, 20, 2, Kind::Stride),
+    (124, 128, 2, Kind::Last),
     (280, 284, 2, Kind::Last),
     (280, 284, 2, Kind::Stride),
 ];
@@ -126,7 +128,7 @@ fn visits(rt: HostRuntime) -> Result<(), Fail> {
     let mut left = 500_000;
     for &(times, lap, taken, made, full) in &VISITS {
         for _ in 0..taken {
-            assert!(rt; popped < 9);
+            assert!(rt; popped < 10);
             popped += pop(&rt, &mut taker, rows.next(), live.refused() == 0);
         }
         for _ in 0..times {
@@ -146,7 +148,7 @@ fn visits(rt: HostRuntime) -> Result<(), Fail> {
         parker.park(&rt);
     }
     for _ in 0..4 {
-        assert!(rt; popped < 9);
+        assert!(rt; popped < 10);
         popped += pop(&rt, &mut taker, rows.next(), live.refused() == 0);
     }
     assert_eq!(rt; popped, live.made());

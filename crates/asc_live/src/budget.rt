@@ -1,9 +1,8 @@
 ghost use Rattle.std.specs.Prelude.{◌≡◌, ◌≤◌, true, false};
 
-// What a visit may cost, in steps of the guest that take as long: the copy of its state and its jobs, and for each worker
-// a look-up and a call that wakes it. A visit with three busy workers took some 270 plain steps, and one that found them
-// asleep some 3,000. So of steps that are done plainly at most some 60 in 100 more go to visits.
-const VISIT_STEPS: u64 = 2_000;
+// What a visit is charged, in steps of the guest: for the copy of its state and its jobs, and for a look-up in the list
+// of each worker. It is several times what it takes, so that visits which save nothing cost a run little.
+const VISIT_STEPS: u64 = 5_000;
 
 const WORKER_STEPS: u64 = 1_000;
 
@@ -12,35 +11,38 @@ const SAVED: u64 = 4;
 
 // So many visits the budget pays for at most. After visits that were passed over it first grows to that again: a guess
 // wants the states of two visits, one after the other, and workers that are awake.
-const ROW: u64 = 64;
+const ROW: u64 = 32;
 
 /// What the visits of a walk may cost. It changes no answer of a run.
 #[derive(Drop)]
-pub(crate) struct Means {
-    // What a visit costs, and what all may cost, in steps of the guest.
+pub(crate) struct Budget {
+    // What a visit costs, and what is left for visits, in steps of the guest.
     cost: u64,
-    budget: u64,
+    steps: u64,
     // How many steps were left to do at the last look-up.
     left: u64,
-    // Whether the last visit was passed over.
+    // Whether the last visit was paid for, and whether it was passed over.
+    paid: bool,
     passing: bool,
 }
 
-impl Means {
-    /// Those of a walk with so many workers. It may begin with a row of visits.
-    pub(crate) fn new(workers: usize) -> Means {
+impl Budget {
+    /// That of a walk with so many workers. It may begin with a row of visits.
+    pub(crate) fn new(workers: usize) -> Budget {
         let cost = WORKER_STEPS
             .saturating_mul(workers as u64)
             .saturating_add(VISIT_STEPS);
-        Means {
+        Budget {
             cost,
-            budget: cost.saturating_mul(ROW),
+            steps: cost.saturating_mul(ROW),
             left: 0,
+            paid: false,
             passing: false,
         }
     }
 
-    /// Whether a visit is made, and not passed over. Then it is paid for. Each is made until the queue was filled up.
+    /// Whether a visit is made, and not passed over. Each is made until the queue was filled up, also where the budget
+    /// does not pay for it.
     pub(crate) fn pay(&mut self, filled: bool) -> bool
         ensures { result ≡ false → filled ≡ true }
     {
@@ -49,12 +51,20 @@ impl Means {
         } else {
             self.cost
         };
-        self.passing = filled && self.budget < wanted;
+        self.paid = wanted <= self.steps;
+        self.passing = filled && !self.paid;
         if self.passing {
             return false;
         }
-        self.budget = self.budget.saturating_sub(self.cost);
+        if self.paid {
+            self.steps = self.steps.saturating_sub(self.cost);
+        }
         true
+    }
+
+    /// Whether the last visit was paid for.
+    pub(crate) fn has_paid(&self) -> bool {
+        self.paid
     }
 
     /// How many steps a look-up may jump over, where so many are left: none at a visit that was passed over. The budget
@@ -75,8 +85,8 @@ impl Means {
 
     // The budget grows, up to what a row of visits costs.
     fn grow(&mut self, steps: u64) {
-        self.budget = self
-            .budget
+        self.steps = self
+            .steps
             .saturating_add(steps)
             .min(self.cost.saturating_mul(ROW));
     }
