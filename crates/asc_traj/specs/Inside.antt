@@ -41,7 +41,7 @@ abbrev pub written : Tracing → List (ℕ × ℕ) → List (ℕ × ℕ)
 written t cells = map (λ cell. (cell.0, slice_index t.state.bytes cell.0)) (filter (λ cell. is_written (status_at t.statuses cell.0)) cells)
 
 -- two lists with room for so many cells more
-pub record HasRoom (read_list written_list : Vec (ℕ × ℕ)) (n : ℕ) : Type 0 where
+pub record HasRoomFor (read_list written_list : Vec (ℕ × ℕ)) (n : ℕ) : Type 0 where
   pub reads : vec_len read_list + n ≤ vec_capacity read_list
   pub writes : vec_len written_list + n ≤ vec_capacity written_list
 

@@ -9,7 +9,7 @@ ghost use Rattle.asc_model.specs.Places.{places_from};
 ghost use Rattle.asc_depvec.specs.Tracer.{IsTracing};
 ghost use Rattle.asc_traj.specs.Content.{matches};
 ghost use Rattle.asc_traj.specs.Trace.{StandsFor, origin_of};
-ghost use Rattle.asc_traj.specs.Inside.{HasRoom, IsRow, IsRun, Splits, cells_of, read_first, written};
+ghost use Rattle.asc_traj.specs.Inside.{HasRoomFor, IsRow, IsRun, Splits, cells_of, read_first, written};
 
 use crate::tracing::known;
 use asc_depvec::Tracer;
@@ -255,7 +255,7 @@ fn split_run(
     requires own { tracer.now.state.shape ≡ tracer.now.shape }
     requires places { All (λ cell. cell.0 < length_of tracer.now.state.shape) cells.now }
     requires row { IsRow cells.now }
-    requires room { HasRoom reads.old writes.old (length cells.now) }
+    requires room { HasRoomFor reads.old writes.old (length cells.now) }
     ensures { Splits tracer.now cells.now reads.old writes.old reads.new writes.new }
 {
     let mut at = 0;
@@ -278,7 +278,7 @@ fn split_word(
     requires places { All (λ cell. cell.0 < length_of tracer.now.state.shape) cells.now }
     requires row { IsRow cells.now }
     requires four { length cells.now ≡ 4 }
-    requires room { HasRoom reads.old writes.old 4 }
+    requires room { HasRoomFor reads.old writes.old 4 }
     ensures { Splits tracer.now cells.now reads.old writes.old reads.new writes.new }
 {
     match tracer.word_status(cells[0].0) {
@@ -329,7 +329,7 @@ fn split_cells(
     writes: &mut Vec<(u32, u8)>,
 )
     requires places { All (λ cell. cell.0 < length_of tracer.now.state.shape) cells.now }
-    requires room { HasRoom reads.old writes.old (length cells.now) }
+    requires room { HasRoomFor reads.old writes.old (length cells.now) }
     ensures { Splits tracer.now cells.now reads.old writes.old reads.new writes.new }
 {
     for cell in cells {

@@ -178,6 +178,12 @@ fn look<R: Abort>(rt: &R, alloc: Global, entry: &Entry, reads: &[Run], writes: &
     assert_eq!(rt; entry.steps(), steps);
 }
 
+/// The byte at a place, which the state has to have.
+fn byte_at<R: Abort>(rt: &R, state: &State, place: u32) -> u8 {
+    assert!(rt; (place as usize) < state.len());
+    state.get(place)
+}
+
 /// The entry matches a state, and put into it makes what as many plain steps make of it, every byte.
 fn put_is_steps<R: Abort>(rt: &R, alloc: Global, entry: &Entry, from: &State) {
     assert!(rt; entry.matches(from) && entry.shape() == from.shape());
@@ -188,8 +194,11 @@ fn put_is_steps<R: Abort>(rt: &R, alloc: Global, entry: &Entry, from: &State) {
     stepped.copy_from(from);
     take(rt, &mut stepped, entry.steps());
     for place in 0..from.shape().start() + from.shape().size() {
-        assert!(rt; (place as usize) < put.len() && (place as usize) < stepped.len());
-        assert_eq!(rt; put.get(place), stepped.get(place), "at {place}");
+        assert_eq!(rt;
+            byte_at(rt, &put, place),
+            byte_at(rt, &stepped, place),
+            "at {place}"
+        );
     }
 }
 
