@@ -11,10 +11,12 @@ are a plain run, one that follows its guesses itself (--report), and with 1 to W
 with --ahead 16 --queue 2W. Times are those of a clock on the wall. In each run output and status have to be those of
 the first, and the numbers have to add up. For a case are printed:
 
-    how many processors as many plain runs at once had as the most workers and the run itself would want
+    how many processors W + 1 plain runs at once had, for each W: the middle one of the rounds, the least, the greatest
     steps, visits, the processor's time of a plain lap, and r: the time of one job in plain laps, in two ways
     of each way its time, and the plain run's time over it: the middle one of the rounds, the least and the greatest
     beside it what is reckoned for a long queue, max(1, W / r), and for a short one, 1 + W / r
+    the gain over that of the short one, and over what is left of it where W workers and the run have no more of the
+    processors than as many plain runs had
     the numbers of the workers in the last round
 
 r by a worker is the time by the clock of the run with one worker, over the jobs that it ran. It is taken where the
@@ -168,8 +170,7 @@ def measure(program, name, quick, rounds, most, given):
     if first.numbers.get("asked", 0) < 3:
         raise Differs(f"{first.words}: it has no visits ({first.gave[1:]}); tools/asc-pc tells this image's addresses")
     visits, steps = first.numbers["asked"], first.numbers["executed"]
-    print(f"{name}: {most + 1} plain runs at once had {processors_had(words, given, most + 1):.1f} processors")
-    runs, nothing = {}, []
+    runs, nothing, had = {}, [], {}
     for workers in (0, 1):
         empty = [*words, "--steps", "0", "--workers", str(workers)]
         nothing.append(min((Run(empty, given) for _ in range(3)), key=lambda run: run.seconds))
@@ -178,23 +179,31 @@ def measure(program, name, quick, rounds, most, given):
             run = Run([*words, "--pc", address, *options] if options else words, given)
             run.check(first, 1, ahead)
             runs.setdefault(way, []).append(run)
+        for count in range(2, most + 2):
+            had.setdefault(count, []).append(processors_had(words, given, count))
+    for count, found in had.items():
+        print(f"{name}: {count} plain runs at once had {middle(found, 2)} processors")
     lap, *found = job_times(runs, nothing, steps, visits)
     shown = ", ".join(f"{'unknown' if r is None else f'{r:.2f}'} by {how}"
                       for r, how in zip(found, ("a worker", "the serial run")))
     print(f"{name} --pc {address}: {steps / 1e6:.1f} million steps, {visits} visits, a lap {lap * 1e6:.1f} "
           f"microseconds, r {shown}")
-    show(runs, min((r for r in found if r), default=None), most)
+    show(runs, min((r for r in found if r), default=None), most, had)
 
 
-def show(runs, r, most):
+def show(runs, r, most, had):
     """A row for each way."""
     heads = " ".join(f"{name:>8}" for name in ("asked", "hits", "made", *WORKERS))
-    print(f"  {'way':26} {'seconds':>22} {'plain over it':>22} {'long':>6} {'short':>6} {heads}")
+    print(f"  {'way':26} {'seconds':>22} {'plain over it':>22} {'long':>6} {'short':>6} {'part':>6} {'had':>6} {heads}")
     plain = [run.seconds for run in runs["plain"]]
     for way, _, workers, _ in ways_of(most):
         seconds = [run.seconds for run in runs[way]]
         ratios = [before / now for before, now in zip(plain, seconds)]
-        bounds = f"{max(1, workers / r):6.2f} {1 + workers / r:6.2f}" if r and workers else " " * 13
+        bounds = " " * 27
+        if r and workers:
+            short, gain = 1 + workers / r, statistics.median(ratios)
+            each = statistics.median(had[workers + 1]) / (workers + 1)
+            bounds = f"{max(1, workers / r):6.2f} {short:6.2f} {gain / short:6.2f} {gain / short / each:6.2f}"
         n = runs[way][-1].numbers
         told = " ".join(f"{n.get(name, ''):>8}" for name in ("asked", "hits", "made", *WORKERS))
         print(f"  {way:26} {middle(seconds, 3):>22} {middle(ratios, 2):>22} {bounds} {told}".rstrip(), flush=True)
