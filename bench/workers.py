@@ -1,7 +1,7 @@
 #!/usr/bin/env python3
 """Times runs with workers beside plain ones, outside the gate.
 
-    python3 bench/workers.py [--program PROGRAM] [--rounds N] [--most W] [--only NAME..] [--quick]
+    python3 bench/workers.py [--program PROGRAM] [--rounds N] [--most W] [--only NAME..] [--quick | --input TEXT]
     python3 bench/workers.py [--program PROGRAM] [--only NAME..] --many N
 
 PROGRAM is the built asc, crates/asc_cli/out/asc_cli where it is not given.
@@ -161,10 +161,10 @@ def processors_had(words, given, count):
     return count * min(alone, Run(words, given).seconds) / seconds
 
 
-def measure(program, name, quick, rounds, most, given):
+def measure(program, name, text, rounds, most, given):
     """Runs a case in each way, so many times, and prints what came of it."""
-    long, short, address, memory = CASES[name]
-    Path(given).write_bytes(short if quick else long)
+    _, _, address, memory = CASES[name]
+    Path(given).write_bytes(text)
     words = [program, "run", str(EXAMPLES / "images" / name), "--memory", memory]
     first = Run([*words, "--pc", address, "--guess", "none", "--report"], given)
     if first.numbers.get("asked", 0) < 3:
@@ -245,7 +245,9 @@ def main():
     parser.add_argument("--rounds", type=int, default=5, help="how often each case runs in each way (5)")
     parser.add_argument("--most", type=int, default=3, help="the most workers (3)")
     parser.add_argument("--only", nargs="+", metavar="NAME", help="the cases or examples to run (all)")
-    parser.add_argument("--quick", action="store_true", help="short inputs, to try the script: their times say nothing")
+    inputs = parser.add_mutually_exclusive_group()
+    inputs.add_argument("--quick", action="store_true", help="short inputs, to try the script: their times say nothing")
+    inputs.add_argument("--input", metavar="TEXT", help="the input of the cases, in place of their own")
     parser.add_argument("--many", type=int, metavar="N", help="run each example N times with 64 workers, and compare")
     asked = parser.parse_args()
     if not os.access(asked.program, os.X_OK):
@@ -257,7 +259,8 @@ def main():
         given = os.path.join(folder, "input")
         for name in (name for name in CASES if name in (asked.only or CASES)):
             try:
-                measure(asked.program, name, asked.quick, max(1, asked.rounds), asked.most, given)
+                text = CASES[name][asked.quick] if asked.input is None else asked.input.encode() + b"\n"
+                measure(asked.program, name, text, max(1, asked.rounds), asked.most, given)
             except Differs as differs:
                 sys.exit(str(differs))
     print(f"load {os.getloadavg()[0]:.1f} at the end")

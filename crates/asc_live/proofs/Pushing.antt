@@ -95,6 +95,26 @@ Pushes-full d p q giver full refused room = record {
   refused = refused;
 }
 
+-- none of them
+IsSublist-none : {A : Type 0} → (xs : List A) → IsSublist [] xs
+IsSublist-none [] = refl
+IsSublist-none (x ∷ xs) = inl (IsSublist-none xs)
+
+-- jobs that were left
+pub Pushes-left : (due : List Due) (p q : Pusher) → q ≡ record p { full = p.full + length due } → p.giver.capacity ≤ length p.giver.pushed → Pushes due p q
+Pushes-left due p q e room = record {
+  jobs = [];
+  lacked = length due;
+  left_out = 0;
+  some = IsSublist-none due;
+  all = omega arith;
+  giver = ap (λ (x : Pusher). x.giver) e ∙ ap (λ xs. record p.giver { pushed = xs }) (sym (append-nil p.giver.pushed));
+  tickets = tt;
+  full = ap (λ (x : Pusher). x.full) e;
+  room = λ h. subst (λ (x : Pusher). p.giver.capacity ≤ length x.giver.pushed) (sym e) room;
+  refused = ap (λ (x : Pusher). x.refused) e;
+}
+
 -- a job that was pushed
 pub Pushes-one : (d : Due) (p q : Pusher) (job : Job) → due_of job ≡ d → job.ticket ≡ length p.giver.pushed → q.giver ≡ after_push p.giver job → q.full ≡ p.full → q.refused ≡ p.refused → Pushes (d ∷ []) p q
 Pushes-one d p q job asks ticket giver full refused = record {

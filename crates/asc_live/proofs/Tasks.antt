@@ -10,8 +10,8 @@ use Rattle.asc_guess.specs.declared.kind.Kind.TheVariants.{Last, Stride}
 use Rattle.asc_guess.specs.Guess.{targets_of}
 use Rattle.asc_traj.specs.declared.guessing.Guessing.{Guessing}
 use Rattle.asc_run.specs.Serial.{Task, kinds_of, tasks_of}
-use Rattle.asc_live.specs.Due.{Due, Pusher, Pushes, jobs_of, tasks_for}
-use Rattle.asc_live.proofs.Pushing.{Pushes-more}
+use Rattle.asc_live.specs.Due.{Due, Pusher, Pushes, HasFilled, jobs_of, tasks_for}
+use Rattle.asc_live.proofs.Pushing.{Pushes-more, Pushes-left}
 
 range-same : (a b n m : ℕ) → 0 < n → range_with_len a n ≡ range_with_len b m → (a ≡ b) × (n ≡ m)
 range-same a b n m some e =
@@ -113,3 +113,14 @@ kinds-length prev last g ahead =
     let e = length-map (map f (kinds_of g)) (job_of prev last) ∙ length-map (kinds_of g) f in
     let few = kinds-few g in
     omega (arith, e, few)
+
+-- the jobs of a visit, none of which is pushed
+pub Pushes-visit-left : (prev last : State) (g : Guessing) (issued number start n k : ℕ) (p : Pusher)
+    → range_with_len start n ≡ targets_of issued number g.ahead → k ≡ length (kinds_of g) → HasFilled p.giver
+    → Pushes (jobs_of prev last (tasks_of g issued number)) p (record p { full = p.full + k * n })
+Pushes-visit-left prev last g issued number start n k p targets kinds filled =
+    let due = jobs_of prev last (tasks_of g issued number) in
+    let many : length due ≡ k * n =
+    ap (λ ts. length (jobs_of prev last (flat_map (λ target. map (task_at target number) (kinds_of g)) ts))) (sym targets)
+    ∙ jobs-length prev last g number start n ∙ ap (λ m. m * n) (sym kinds) in
+    Pushes-left due p (record p { full = p.full + k * n }) (ap (λ m. record p { full = p.full + m }) (sym many)) filled.capacity

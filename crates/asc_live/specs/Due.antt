@@ -45,7 +45,7 @@ raised count (suc n) = one_more (raised count n)
 -- what pushes jobs, and what it counted
 pub record Pusher : Type 0 where
   pub giver : Giver
-  -- how many jobs found no room, or were given up at visits that were passed over
+  -- how many jobs found no room, or were given up once the queue had been filled up
   pub full : ℕ
   -- how often memory was wanting
   pub refused : ℕ
@@ -55,8 +55,8 @@ pub record HasFilled (giver : Giver) : Type 0 where
   pub some : 0 < length giver.pushed
   pub capacity : giver.capacity ≤ length giver.pushed
 
--- Of the jobs that are due some were pushed, in order. Of the others some found no room, since the queue had been filled
--- up, and for the rest memory was wanting.
+-- Of the jobs that are due some were pushed, in order. Of the others some found no room or were given up, since the queue
+-- had been filled up, and for the rest memory was wanting.
 pub record Pushes (due : List Due) (old new : Pusher) : Type 0 where
   pub jobs : List Job
   pub lacked : ℕ

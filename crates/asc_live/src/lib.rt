@@ -7,6 +7,7 @@ mod crew;
 mod crew_tests;
 mod laws;
 mod live;
+mod pace;
 mod pusher;
 #[cfg(test)]
 mod tests;

@@ -9,6 +9,7 @@ ghost use Rattle.asc_live.specs.Live.{IsLive, new_live, queue_of, plan_of, refus
 ghost use Rattle.asc_live.specs.Due.{HasFilled, Pushes};
 
 use crate::budget::Budget;
+use crate::pace::Pace;
 use crate::pusher::Pusher;
 use asc_jobs::Giver;
 use asc_outside::{Gate, Point};
@@ -28,6 +29,9 @@ use std::sync::{Arc, Wait};
 /// so are those after it until the budget is whole again. At such a visit no state is kept, nothing is pushed, and the
 /// finder is asked for no step. Which visits are passed over changes no answer of a run.
 ///
+/// Of the other visits, too, jobs are then offered at a share alone, spread evenly: at a few more than those at which
+/// there was room for some. Else the walk would jump over many visits at once, and wait as long for the next jumps.
+///
 /// Want of memory is counted, and changes no jump's being one.
 #[derive(Drop)]
 pub struct Live<'a, F, G, R> {
@@ -36,6 +40,7 @@ pub struct Live<'a, F, G, R> {
     finder: F,
     pusher: Pusher<'a, R>,
     budget: Budget,
+    pace: Pace,
     workers: Vec<Unparker>,
     guessing: Guessing,
     prev: Option<Arc<Snapshot>>,
@@ -81,6 +86,7 @@ impl<'a, F, G, R> Live<'a, F, G, R> {
             finder,
             pusher: Pusher::new(rt, giver),
             budget: Budget::new(workers.len()),
+            pace: Pace::new(),
             workers,
             guessing,
             prev: None,
@@ -115,6 +121,7 @@ impl<'a, F, G, R> Live<'a, F, G, R> {
             finder,
             pusher,
             budget: _budget,
+            pace: _pace,
             workers: _workers,
             guessing: _,
             prev: _prev,
@@ -211,13 +218,16 @@ impl<'a, F, G, R: Wait> Live<'a, F, G, R> {
         } else if filled && self.last.is_none() {
             self.begin_row(state, number);
         } else if self.keep(state) {
-            self.push_due(number);
+            let offered = self.pace.offers(filled);
+            self.push_due(number, offered);
         }
     }
 
-    // Pushes the jobs of a visit, where two states are kept, and wakes a worker for each if the visit is paid for.
-    fn push_due(&mut self, number: u64)
+    // Pushes the jobs of a visit, where two states are kept and they are offered, and wakes a worker for each if the visit is
+    // paid for.
+    fn push_due(&mut self, number: u64, offered: bool)
         requires seen { self.old.seen ≡ None }
+        requires offered { offered ≡ false → HasFilled self.old.pusher.giver }
         requires number { number ≤ 2 ^ 40 }
         requires full { self.old.pusher.full < 2 ^ 62 }
         ensures pushes { Pushes (due_by number self.old.prev self.old.last self.old) self.old.pusher self.new.pusher }
@@ -234,7 +244,8 @@ impl<'a, F, G, R: Wait> Live<'a, F, G, R> {
         };
         let before = self.pusher.pushed();
         self.pusher
-            .push_visit(prev, last, &self.guessing, self.issued, number);
+            .offer_visit(offered, prev, last, &self.guessing, self.issued, number);
+        self.pace.note(before < self.pusher.pushed());
         self.issued = number + u64::from(self.guessing.ahead);
         if self.budget.has_paid() {
             self.wake_for(before, self.pusher.pushed());

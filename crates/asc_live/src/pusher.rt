@@ -1,5 +1,6 @@
-ghost use Rattle.std.specs.Prelude.{◌≡◌, ◌+◌, ◌-◌, ◌<◌, ◌≤◌, ◌^◌, [], ◌∷◌, length, map, nat_lt, true, if◌then◌else◌, ℕ};
+ghost use Rattle.std.specs.Prelude.{◌≡◌, ◌+◌, ◌-◌, ◌<◌, ◌≤◌, ◌^◌, [], ◌∷◌, length, map, nat_lt, true, false, if◌then◌else◌, ℕ};
 ghost use Rattle.std.specs.Arc.{arc_value};
+ghost use Rattle.asc_model.specs.State.{State};
 ghost use Rattle.asc_guess.specs.declared.kind.Kind.{Kind as kind_of};
 ghost use Rattle.asc_outside.specs.Outside.{one_more};
 ghost use Rattle.asc_live.specs.Due.{HasFilled, Pushes, jobs_of, tasks_for};
@@ -15,7 +16,7 @@ use std::sync::{Arc, Wait};
 /// As many jobs are pushed at most, but for those of one visit. No run reaches it.
 const MOST_JOBS: u64 = 1 << 60;
 
-/// Pushes jobs, and counts those that it could not push.
+/// Pushes jobs, and counts those that were not pushed.
 #[derive(Drop)]
 pub(crate) struct Pusher<'a, R> {
     rt: &'a R,
@@ -93,7 +94,23 @@ impl<'a, R> Pusher<'a, R> {
         requires { self.old.full < 2 ^ 63 }
         ensures { self.new ≡ record self.old { full = self.old.full + length (kinds_of guessing.now) } }
     {
-        self.full += u64::from(guessing.last) + u64::from(guessing.stride);
+        self.full += kinds(guessing);
+    }
+
+    // Counts the jobs of a visit as ones that found no room, and pushes none.
+    fn leave_visit(&mut self, guessing: &Guessing, issued: u64, number: u64)
+        requires filled { HasFilled self.old.giver }
+        requires full { self.old.full < 2 ^ 62 }
+        requires ahead { guessing.now.ahead ≤ 64 }
+        requires issued { issued ≤ 2 ^ 41 }
+        requires number { number ≤ 2 ^ 40 }
+        ensures { (prev last : State) → Pushes (if nat_lt (length self.old.giver.pushed) (2 ^ 60)
+            then jobs_of prev last (tasks_of guessing.now issued number) else []) self.old self.new }
+    {
+        if self.pushed() < MOST_JOBS {
+            let due = targets(issued, number, guessing.ahead);
+            self.full += kinds(guessing) * (due.end - due.start);
+        }
     }
 
     /// Counts that memory was wanting.
@@ -105,9 +122,35 @@ impl<'a, R> Pusher<'a, R> {
 }
 
 impl<'a, R: Wait> Pusher<'a, R> {
-    /// Pushes the jobs of a visit, by the states of the last two: of the targets in rising order, and of each kind
-    /// that is on, `Last` before `Stride`. Nothing is pushed once `MOST_JOBS` were.
-    pub(crate) fn push_visit(
+    /// Pushes the jobs of a visit where they are offered, and else counts them as ones that found no room.
+    pub(crate) fn offer_visit(
+        &mut self,
+        offered: bool,
+        prev: &Arc<Snapshot>,
+        last: &Arc<Snapshot>,
+        guessing: &Guessing,
+        issued: u64,
+        number: u64,
+    )
+        requires offered { offered ≡ false → HasFilled self.old.giver }
+        requires full { self.old.full < 2 ^ 62 }
+        requires ahead { guessing.now.ahead ≤ 64 }
+        requires issued { issued ≤ 2 ^ 41 }
+        requires number { number ≤ 2 ^ 40 }
+        ensures { Pushes (if nat_lt (length self.old.giver.pushed) (2 ^ 60)
+            then jobs_of (arc_value prev.now) (arc_value last.now) (tasks_of guessing.now issued number) else [])
+            self.old self.new }
+    {
+        if offered {
+            self.push_visit(prev, last, guessing, issued, number);
+        } else {
+            self.leave_visit(guessing, issued, number);
+        }
+    }
+
+    // Pushes the jobs of a visit, by the states of the last two: of the targets in rising order, and of each kind that is
+    // on, `Last` before `Stride`. Nothing is pushed once `MOST_JOBS` were.
+    fn push_visit(
         &mut self,
         prev: &Arc<Snapshot>,
         last: &Arc<Snapshot>,
@@ -209,4 +252,12 @@ impl<'a, R: Wait> Pusher<'a, R> {
             Err(Full) => self.full += 1,
         }
     }
+}
+
+// How many kinds of guesses are on.
+fn kinds(guessing: &Guessing) -> u64
+    ensures number { result ≡ length (kinds_of guessing.now) }
+    ensures few { result ≤ 2 }
+{
+    u64::from(guessing.last) + u64::from(guessing.stride)
 }

@@ -39,34 +39,42 @@ type Row = (u32, u32, u32, Kind);
 /// The queue holds 3 jobs. Both kinds are on, and 2 visits ahead are guessed. So at visit 2 jobs are due for visits 3 and
 /// 4, and at each later visit for one visit more.
 ///
+/// From visit 3 on the queue had been filled up, and jobs are offered at a share of the visits: at 4, 6 and 8, say, and
+/// not at 5 and 7, where there is room too. Where there is none for long, the share falls: of visits 71 to 73 the last
+/// offers.
+///
 /// With one worker a visit costs 6,000 steps, and the budget is 192,000 at most, with which it begins. So 32 visits are
 /// made: the last of them finds room for one job. Visits 33 to 69 are passed over, whatever room there is. The 200,000
-/// steps fill the budget again: visit 70 keeps its state, and visit 71 pushes.
-static VISITS: [(u64, u64, u64, u64, u64); 11] = [
+/// steps fill the budget again: visit 70 keeps its state, and those after it are made.
+static VISITS: [(u64, u64, u64, u64, u64); 14] = [
     (1, 0, 0, 0, 0),
     (1, 10, 0, 3, 1),
     (1, 10, 0, 3, 3),
     (1, 10, 1, 4, 4),
-    (1, 10, 2, 6, 4),
-    (26, 10, 0, 6, 56),
-    (1, 10, 1, 7, 57),
-    (36, 10, 3, 7, 129),
-    (1, 200_000, 0, 7, 131),
-    (1, 10, 0, 7, 133),
-    (1, 10, 0, 9, 133),
+    (1, 10, 2, 4, 6),
+    (1, 10, 1, 6, 6),
+    (1, 10, 0, 6, 8),
+    (1, 10, 0, 7, 9),
+    (23, 10, 0, 7, 55),
+    (1, 10, 1, 8, 56),
+    (36, 10, 3, 8, 128),
+    (1, 200_000, 0, 8, 130),
+    (3, 10, 0, 8, 136),
+    (1, 10, 0, 10, 136),
 ];
 
 /// The jobs in the order in which they are taken. A visit's pc is 4 times its number.
-static JOBS: [Row; 9] = [
+static JOBS: [Row; 10] = [
     (4, 8, 1, Kind::Last),
     (4, 8, 1, Kind::Stride),
     (4, 8, 2, Kind::Last),
     (12, 16, 2, Kind::Last),
-    (16, 20, 2, Kind::Last),
-    (16, 20, 2, Kind::Stride),
+    (20, 24, 2, Kind::Last),
+    (20, 24, 2, Kind::Stride),
+    (28, 32, 2, Kind::Last),
     (124, 128, 2, Kind::Last),
-    (280, 284, 2, Kind::Last),
-    (280, 284, 2, Kind::Stride),
+    (288, 292, 2, Kind::Last),
+    (288, 292, 2, Kind::Stride),
 ];
 
 /// Pops a job, and answers how many there were. It is this row's, if all jobs were pushed that are due.
@@ -128,7 +136,7 @@ fn visits(rt: HostRuntime) -> Result<(), Fail> {
     let mut left = 500_000;
     for &(times, lap, taken, made, full) in &VISITS {
         for _ in 0..taken {
-            assert!(rt; popped < 10);
+            assert!(rt; popped < 12);
             popped += pop(&rt, &mut taker, rows.next(), live.refused() == 0);
         }
         for _ in 0..times {
@@ -142,17 +150,17 @@ fn visits(rt: HostRuntime) -> Result<(), Fail> {
     }
     // Where memory was wanting for a state, jobs were left out.
     let (made, full) = (live.made(), live.full());
-    assert!(rt; live.refused() == 0 || made < 143 && full < 143 && made + full < 143);
+    assert!(rt; live.refused() == 0 || made < 147 && full < 147 && made + full < 147);
     // The worker was woken.
     if live.made() > 0 {
         parker.park(&rt);
     }
     for _ in 0..4 {
-        assert!(rt; popped < 10);
+        assert!(rt; popped < 12);
         popped += pop(&rt, &mut taker, rows.next(), live.refused() == 0);
     }
     assert_eq!(rt; popped, live.made());
-    assert_eq!(rt; live.finder().asked(), 71);
+    assert_eq!(rt; live.finder().asked(), 73);
     let (_finder, _giver) = live.into_parts();
     Ok(())
 }

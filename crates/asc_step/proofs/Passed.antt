@@ -1,5 +1,5 @@
 -- Steps one after another: one more, and what they pass.
-use Rattle.std.proofs.Common.{◌≡◌, ◌+◌, ◌<◌, ◌≤◌, ℕ, sym, ap, ◌∙◌, arith, subst, inl, inr}
+use Rattle.std.proofs.Common.{◌≡◌, ◌+◌, ℕ, sym, ap, ◌∙◌, arith, inl, inr}
 use Rattle.std.proofs.lemmas.Bool.{cases_lt}
 use Rattle.std.specs.Prelude.{◌≢◌}
 use Rattle.asc_model.specs.State.{State}
@@ -33,17 +33,13 @@ same_state s t e = cc
 pub PassesBy-one : (start : State) (pc : ℕ) → PassesBy start pc 1
 PassesBy-one start pc k least below after goes at = omega arith
 
--- one step more that does not lead to the pc
-pub PassesBy-more : (start after : State) (pc count : ℕ) → PassesBy start pc (count + 1) → plain (count + 1) start ≡ At after → (view_of after).pc ≢ pc
-    → PassesBy start pc (count + 1 + 1)
-PassesBy-more start after pc count so_far goes past k least below last went at = elim (cases_lt k (count + 1)) [
+-- one step more, from a state that does not have the pc
+pub PassesBy-more : (start after : State) (pc count : ℕ) → PassesBy start pc count → plain count start ≡ At after → (view_of after).pc ≢ pc
+    → PassesBy start pc (count + 1)
+PassesBy-more start after pc count so_far goes past k least below last went at = elim (cases_lt k count) [
   | inl x ↦ so_far k least x last went at
   | inr x ↦
-      let e : k ≡ count + 1 = omega arith in
+      let e : k ≡ count = omega arith in
       let same : last ≡ after = same_state last after (sym went ∙ ap (λ n. plain n start) e ∙ goes) in
       past (ap (λ (s : State). (view_of s).pc) (sym same) ∙ at)
 ]
-
--- fewer steps pass no more
-pub PassesBy-fewer : (start : State) (pc count : ℕ) → PassesBy start pc (count + 1) → PassesBy start pc count
-PassesBy-fewer start pc count so_far k least below = so_far k least (omega arith)

@@ -53,14 +53,19 @@ pub fn step_until<L: Ledger>(
     ensures ends { result.1 ≢ Went → result.1 ≡ stepped_of (next state.new) }
 {
     let shape = state.shape();
-    let mut done = 0;
+    // The first step is taken apart. So the pc is tested at the head of the loop, where the next step reads it anyway.
+    let (first, ended) = step_many(state, most.min(1), steps);
+    if first == 0 {
+        return (0, ended);
+    }
+    let mut done = 1;
     while done < most {
+        if state.pc() == pc {
+            return (done, Stepped::Went);
+        }
         match step_of::<State, L, true>(state, shape, steps) {
             Stepped::Went => done += 1,
             ended => return (done, ended),
-        }
-        if state.pc() == pc {
-            return (done, Stepped::Went);
         }
     }
     (done, Stepped::Went)

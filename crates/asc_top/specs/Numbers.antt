@@ -132,7 +132,7 @@ AreTold line load left executed count (Some counts) =
 
 -- These are the numbers of a run's workers beside its own. Each guess that was made was run as a job, or was left. Each
 -- job that was run ended in one of five ways. Where memory was never wanting, each guess that was due was made, or found
--- no room, or was given up at a visit that was passed over.
+-- no room, or was given up once the queue had been filled up.
 -- A guess counts as full only once as many were made as the queue holds.
 pub record AreWorkerNumbers (guessing : Guessing) (queue : ℕ) (counts : Counts) (workers : WorkerCounts) : Type 0 where
   pub made : counts.made ≡ workers.ran + workers.left

@@ -1,4 +1,4 @@
-use Rattle.std.proofs.Common.{◌≡◌, [], Option, Some, None, ap, sym, ◌∙◌, subst}
+use Rattle.std.proofs.Common.{◌≡◌, [], Option, None, ap, sym, ◌∙◌, subst}
 use Rattle.asc_model.specs.Shape.{Shape}
 use Rattle.asc_model.specs.declared.version.Version.{Version}
 use Rattle.asc_model.specs.declared.instruction.Instr.{Instr}

@@ -1,0 +1,122 @@
+#!/usr/bin/env python3
+"""Reckons what workers gain, by the order in which visits, jobs and jumps come. It runs no asc, and needs none.
+
+    python3 bench/schedule.py [--visits N] [--ahead A] [--right SHARE] [--job R..] [--most W]
+
+Time goes in laps of a plain run. A walk makes N visits. At each it offers a job for the visit A later, if there is room
+in a queue of 2W. A worker takes the oldest job, and its entry is there R laps later, give or take a twentieth. Where the
+entry of a visit is there, and right, the walk is at the next visit at once, and else a lap later. For each R and W are
+printed, once where jobs are offered at each visit, and once at a share of the visits, as `Pace` of asc_live does:
+
+    the gain over a plain run, and its part of 1 + W * SHARE / R
+    how many jobs were pushed, and how many visits the walk jumped from
+
+What a visit, a wake and a busy machine cost is left out. So what is printed is more than what can be measured.
+"""
+
+import argparse
+import random
+
+
+class Always:
+    """Jobs are offered at each visit."""
+
+    def offers(self):
+        return True
+
+    def note(self, pushed):
+        pass
+
+
+class Pace:
+    """Jobs are offered at a share of the visits: crates/asc_live/src/pace.rt."""
+
+    def __init__(self):
+        self.visits, self.taken, self.credit = 32, 16, 0
+
+    def offers(self):
+        whole = 8 * self.visits
+        self.credit += 9 * self.taken
+        if self.credit < whole:
+            return False
+        self.credit = min(self.credit - whole, whole)
+        return True
+
+    def note(self, pushed):
+        self.visits += 1
+        self.taken += pushed
+        if self.visits >= 64:
+            self.visits, self.taken, self.credit = self.visits // 2, (self.taken + 1) // 2, self.credit // 2
+
+
+class Crew:
+    """A queue and the workers that take jobs from it."""
+
+    def __init__(self, workers, job, right, chance):
+        self.room, self.job, self.right, self.chance = 2 * workers, job, right, chance
+        self.free = [0.0] * workers
+        self.queue, self.pushed, self.entries = [], 0, {}
+
+    def work(self, now):
+        """Takes the jobs whose turn comes by then."""
+        while self.queue:
+            visit, since = self.queue[0]
+            begun = max(min(self.free), since)
+            if begun > now:
+                return
+            self.queue.pop(0)
+            done = begun + self.job * self.chance.uniform(0.95, 1.05)
+            self.free[self.free.index(min(self.free))] = done
+            if self.chance.random() < self.right:
+                self.entries[visit] = done
+
+    def push(self, visit, now):
+        """Whether there was room for a job."""
+        if len(self.queue) >= self.room:
+            return False
+        self.queue.append((visit, now))
+        self.pushed += 1
+        self.work(now)
+        return True
+
+
+def walk(crew, pace, visits, ahead):
+    """How long a walk takes, and from how many visits it jumps."""
+    now, jumps, issued = 0.0, 0, 0
+    for visit in range(1, visits + 1):
+        crew.work(now)
+        if visit > 1:
+            offered = crew.pushed < crew.room or pace.offers()
+            due = range(max(issued, visit) + 1, visit + ahead + 1) if offered else ()
+            pace.note(sum([crew.push(later, now) for later in due]) > 0)
+            issued = visit + ahead
+        if crew.entries.get(visit, now + 1) <= now:
+            jumps += 1
+        else:
+            now += 1
+    return now, jumps
+
+
+def main():
+    parser = argparse.ArgumentParser(description=__doc__, formatter_class=argparse.RawDescriptionHelpFormatter)
+    parser.add_argument("--visits", type=int, default=223, help="how many visits (223)")
+    parser.add_argument("--ahead", type=int, default=16, help="how many visits ahead jobs are for (16)")
+    parser.add_argument("--right", type=float, default=1.0, metavar="SHARE", help="the share of guesses that are right (1)")
+    parser.add_argument("--job", type=float, nargs="+", default=[1.5, 1.8, 2.2], metavar="R", help="laps a job takes")
+    parser.add_argument("--most", type=int, default=3, help="the most workers (3)")
+    asked = parser.parse_args()
+    print(f"{'R':>4} {'W':>3}   {'at each visit':30}   {'at a share of them':30}")
+    for job in asked.job:
+        for workers in range(1, asked.most + 1):
+            cells = []
+            for pace in (Always(), Pace()):
+                crew = Crew(workers, job, asked.right, random.Random(1))
+                time, jumps = walk(crew, pace, asked.visits, asked.ahead)
+                gain = asked.visits / time
+                part = gain / (1 + workers * asked.right / job)
+                cells.append(f"{gain:5.2f} {part:5.2f}  {crew.pushed:5} pushed {jumps:5} jumps")
+            print(f"{job:4.1f} {workers:3}   {cells[0]:30}   {cells[1]:30}")
+
+
+if __name__ == "__main__":
+    main()
