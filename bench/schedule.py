@@ -4,9 +4,9 @@
     python3 bench/schedule.py [--visits N] [--ahead A] [--right SHARE] [--job R..] [--most W]
 
 Time goes in laps of a plain run. A walk makes N visits. At each it offers a job for the visit A later, if there is room
-in a queue of 2W. A worker takes the oldest job, and its entry is there R laps later, give or take a twentieth. Where the
-entry of a visit is there, and right, the walk is at the next visit at once, and else a lap later. For each R and W are
-printed, once where jobs are offered at each visit, and once at a share of the visits, as `Pace` of asc_live does:
+in a queue of 2W. A worker takes the oldest job, and its entry is there R laps later, give or take a twentieth. Where
+the entry of a visit is there, and right, the walk is at the next visit at once, and else a lap later. For each R and W
+are printed, once where jobs are offered at each visit, and once at a share of the visits, as `Pace` of asc_live does:
 
     the gain over a plain run, and its part of 1 + W * SHARE / R
     how many jobs were pushed, and how many visits the walk jumped from
@@ -47,6 +47,7 @@ class Pace:
         self.taken += pushed
         if self.visits >= 64:
             self.visits, self.taken, self.credit = self.visits // 2, (self.taken + 1) // 2, self.credit // 2
+        self.taken = max(self.taken, self.visits // 4)
 
 
 class Crew:
@@ -101,7 +102,7 @@ def main():
     parser = argparse.ArgumentParser(description=__doc__, formatter_class=argparse.RawDescriptionHelpFormatter)
     parser.add_argument("--visits", type=int, default=223, help="how many visits (223)")
     parser.add_argument("--ahead", type=int, default=16, help="how many visits ahead jobs are for (16)")
-    parser.add_argument("--right", type=float, default=1.0, metavar="SHARE", help="the share of guesses that are right (1)")
+    parser.add_argument("--right", type=float, default=1.0, metavar="SHARE", help="how many guesses are right (1)")
     parser.add_argument("--job", type=float, nargs="+", default=[1.5, 1.8, 2.2], metavar="R", help="laps a job takes")
     parser.add_argument("--most", type=int, default=3, help="the most workers (3)")
     asked = parser.parse_args()

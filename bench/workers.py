@@ -247,7 +247,7 @@ def main():
     parser.add_argument("--only", nargs="+", metavar="NAME", help="the cases or examples to run (all)")
     inputs = parser.add_mutually_exclusive_group()
     inputs.add_argument("--quick", action="store_true", help="short inputs, to try the script: their times say nothing")
-    inputs.add_argument("--input", metavar="TEXT", help="the input of the cases, in place of their own")
+    inputs.add_argument("--input", metavar="TEXT", help="the input of each case that is run, in place of its own")
     parser.add_argument("--many", type=int, metavar="N", help="run each example N times with 64 workers, and compare")
     asked = parser.parse_args()
     if not os.access(asked.program, os.X_OK):
@@ -259,7 +259,8 @@ def main():
         given = os.path.join(folder, "input")
         for name in (name for name in CASES if name in (asked.only or CASES)):
             try:
-                text = CASES[name][asked.quick] if asked.input is None else asked.input.encode() + b"\n"
+                long, short, _, _ = CASES[name]
+                text = asked.input.encode() + b"\n" if asked.input is not None else short if asked.quick else long
                 measure(asked.program, name, text, max(1, asked.rounds), asked.most, given)
             except Differs as differs:
                 sys.exit(str(differs))

@@ -107,7 +107,7 @@ raised-none : (n : ℕ) → raised 0 n ≡ 0 → n ≡ 0
 raised-none zero e = refl
 raised-none (suc n) e = absurd (let x : ⊥ = omega (arith, e) in x)
 
--- where memory was not wanting, each job that is due was pushed or found no room
+-- where memory was not wanting, each job that is due was pushed, found no room or was given up
 all-made : (due : List Due) (p q : Pusher) → Pushes due p q → p.refused ≡ 0 → q.refused ≡ 0 → length q.giver.pushed + q.full ≡ length p.giver.pushed + p.full + length due
 all-made due p q s e f =
     let none = raised-none s.left_out (ap (λ c. raised c s.left_out) (sym e) ∙ sym s.refused ∙ f) in
@@ -196,7 +196,7 @@ issued-small : {F : Type 0} (number : ℕ) (last : Option State) (now : State) (
 issued-small number None now old most ahead issued = issued
 issued-small number (Some last) now old most ahead issued = omega (arith, most, ahead)
 
--- guesses find no room only once the queue had been filled up
+-- guesses find no room, or are given up, only once the queue had been filled up
 room-after : (due : List Due) (p q : Pusher) → Pushes due p q → (0 < p.full → p.giver.capacity ≤ length p.giver.pushed) → 0 < q.full → q.giver.capacity ≤ length q.giver.pushed
 room-after due p q s was some =
     let more = pushed-length due p q s in

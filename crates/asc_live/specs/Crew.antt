@@ -41,7 +41,7 @@ pub record WentBeside (guessing : Guessing) (queue : ℕ) (was now : Walk) (old 
   pub jobs : worked.made ≡ worked.taken.tally.ran + worked.taken.left
   -- where memory was not wanting, each guess that was due was pushed, or found no room or was given up
   pub guesses : worked.refused ≡ 0 → worked.made + worked.full ≡ guesses_until guessing now.tally.asked
-  -- a guess found no room only once as many were pushed as the queue holds
+  -- a guess found no room, or was given up, only once as many were pushed as the queue holds
   pub room : 0 < worked.full → queue ≤ worked.made
 
 -- ---- words of private contracts

@@ -87,8 +87,8 @@ abbrev pub seen_after : (number refused : ℕ) → Option ℕ → Option ℕ
 seen_after number refused (Some before) = if (number == before + 1) && (refused == 0) then Some number else None
 seen_after number refused None = None
 
--- At a visit its state was kept, and the jobs that are due were pushed as far as could be. Once the queue had been filled
--- up, that is done only where the state of the visit before was kept too.
+-- At a visit its state was kept. Until the queue had been filled up the jobs that are due were pushed, but where memory was
+-- wanting. From then on some of them were, or none, and its state is kept so only where that of the visit before was too.
 pub record Keeps {F : Type 0} (number : ℕ) (now : State) (old new : Live F) : Type 0 where
   pub pair : HasFilled old.pusher.giver → (last : State) × (old.last ≡ Some last)
   pub pushes : Pushes (due_by number old.last (Some now) old) old.pusher new.pusher
@@ -141,6 +141,6 @@ pub record IsLive {F : Type 0} (l : Live F) : Type 0 where
   pub least : 1 ≤ l.guessing.ahead
   pub most : l.guessing.ahead ≤ 64
   pub issued : l.issued ≤ 2 ^ 41
-  -- a guess finds no room only once the queue had been filled up
+  -- a guess finds no room, or is given up, only once the queue had been filled up
   pub room : 0 < l.pusher.full → l.pusher.giver.capacity ≤ length l.pusher.giver.pushed
   pub seen : (number : ℕ) → l.seen ≡ Some number → HasSeen number l

@@ -1,4 +1,4 @@
-//! Walks that have workers beside them, and the helper of such a walk, which pushes jobs at each visit.
+//! Walks that have workers beside them, and the helper of such a walk, which pushes jobs at its visits.
 #![tactic(auto)]
 
 mod budget;

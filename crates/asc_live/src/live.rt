@@ -21,16 +21,17 @@ use std::alloc::Global;
 use std::marker::Model;
 use std::sync::{Arc, Wait};
 
-/// The helper of a walk that has workers beside it. At each visit it pushes jobs for them: guesses of later visits, to
-/// be traced. It finds jumps by another finder.
+/// The helper of a walk that has workers beside it. At its visits it pushes jobs for them: guesses of later visits, to be
+/// traced. It finds jumps by another finder.
 ///
 /// Visits cost the walk time, so it has a budget for them. The budget grows by the steps of the walk, and by more where
 /// they are jumped over. Once the queue had been filled up, a visit that the budget does not pay for is passed over, and
 /// so are those after it until the budget is whole again. At such a visit no state is kept, nothing is pushed, and the
 /// finder is asked for no step. Which visits are passed over changes no answer of a run.
 ///
-/// Of the other visits, too, jobs are then offered at a share alone, spread evenly: at a few more than those at which
-/// there was room for some. Else the walk would jump over many visits at once, and wait as long for the next jumps.
+/// At the other visits jobs are then offered at a share alone, spread evenly: at a few more than those at which some job
+/// was pushed. The jobs of the rest count as full. Were they offered at each visit, the walk would jump over many visits
+/// at once, and then go over as many.
 ///
 /// Want of memory is counted, and changes no jump's being one.
 #[derive(Drop)]
@@ -223,8 +224,8 @@ impl<'a, F, G, R: Wait> Live<'a, F, G, R> {
         }
     }
 
-    // Pushes the jobs of a visit, where two states are kept and they are offered, and wakes a worker for each if the visit is
-    // paid for.
+    // Where two states are kept, pushes the jobs of a visit, or counts them as full where they are not offered. It wakes a
+    // worker for each job if the visit is paid for.
     fn push_due(&mut self, number: u64, offered: bool)
         requires seen { self.old.seen ≡ None }
         requires offered { offered ≡ false → HasFilled self.old.pusher.giver }
@@ -306,8 +307,9 @@ impl<'a, F: Finder, G, R> Finder for Live<'a, F, G, R> {
 }
 
 impl<'a, F: Finder, G: Gate, R: Wait> Helper for Live<'a, F, G, R> {
-    /// Pushes the jobs that are due, and wakes a worker for each if the budget pays for the visit. It costs a copy of
-    /// what changed in the state since the last one, and two owners more of a copy for each job.
+    /// Pushes the jobs that are due, and wakes a worker for each if the budget pays for the visit. Once the queue had been
+    /// filled up it does so at a share of the visits; at the others these jobs count as full. A visit costs a copy of what
+    /// changed in the state since the last one, and two owners more of a copy for each job.
     ///
     /// A visit that is passed over does none of this: one guess of each kind counts as one that found no room. So it does
     /// at the first visit after such ones, which only keeps its state. At its end the gate is passed at `Visit`.

@@ -1,7 +1,7 @@
 ghost use Rattle.std.specs.Prelude.{◌≡◌, true, false};
 
-// Visits at which jobs were offered, and those of them at which some found room, as they stand at first: room at half of
-// them. It is changed by what is seen, within some thirty visits.
+// Visits that had two states, and those of them at which some job was pushed, as they stand at first: room at half of
+// them. What is seen weighs as much as that after 32 visits.
 const FIRST_VISITS: u64 = 32;
 
 const FIRST_TAKEN: u64 = 16;
@@ -9,23 +9,26 @@ const FIRST_TAKEN: u64 = 16;
 // Both are halved once there were so many visits, so that what was seen of late counts most.
 const MOST_VISITS: u64 = 64;
 
-// Jobs are offered at this many times as many visits as there was room at, so that more are where there is more room.
-const MORE: u64 = 9;
+// It is taken that jobs were pushed at one visit in so many at least. A lower share could not rise again.
+const LEAST_TAKEN: u64 = 4;
 
-const OF: u64 = 8;
+// Jobs are offered at so many visits for so many at which some were pushed: at a few more, so that the share can grow.
+const OFFERED: u64 = 9;
+
+const FOR_TAKEN: u64 = 8;
 
 /// At which visits jobs are offered to the workers, once the queue had been filled up. It changes no answer of a run.
 ///
 /// A walk goes a lap between two visits, or it jumps and is at the next one at once. Were jobs offered at each visit, they
-/// would be pushed where the walk goes, and find no room where it jumps. So as many visits later it would jump over all
-/// that it was slow for, go where it had jumped, and so on. The few jobs for which there is room at the first of many
-/// jumps are for visits that it reaches before they are done. So jobs are offered at a share of the visits, one spread
-/// evenly: a little more than those at which there was room.
+/// would be pushed where the walk goes, and find no room where it jumps. A job is for a visit as many later as are
+/// guessed ahead. So there the walk would jump where it had gone, go where it had jumped, and so on. The few jobs for
+/// which there is room at the first of many jumps are for visits that it reaches before they are done. So jobs are
+/// offered at a share of the visits, spread evenly: at a few more than those at which some job was pushed.
 #[derive(Drop)]
 pub(crate) struct Pace {
     visits: u64,
     taken: u64,
-    // What is left of the share of the visits so far, in parts of a visit: `OF` times `visits` are a whole one.
+    // What is left of the share of the visits so far. `FOR_TAKEN` times `visits` are a whole visit.
     credit: u64,
 }
 
@@ -46,8 +49,10 @@ impl Pace {
         if !filled {
             return true;
         }
-        let whole = self.visits.saturating_mul(OF);
-        self.credit = self.credit.saturating_add(self.taken.saturating_mul(MORE));
+        let whole = self.visits.saturating_mul(FOR_TAKEN);
+        self.credit = self
+            .credit
+            .saturating_add(self.taken.saturating_mul(OFFERED));
         let offers = whole <= self.credit;
         if offers {
             self.credit = self.credit.saturating_sub(whole).min(whole);
@@ -55,7 +60,7 @@ impl Pace {
         offers
     }
 
-    /// Notes a visit, and whether a job was pushed at it.
+    /// Notes a visit that had two states, and whether a job was pushed at it.
     pub(crate) fn note(&mut self, pushed: bool) {
         self.visits = self.visits.saturating_add(1);
         self.taken = self.taken.saturating_add(u64::from(pushed));
@@ -64,5 +69,6 @@ impl Pace {
             self.taken = self.taken.saturating_add(1) / 2;
             self.credit /= 2;
         }
+        self.taken = self.taken.max(self.visits / LEAST_TAKEN);
     }
 }

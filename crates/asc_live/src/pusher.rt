@@ -1,6 +1,5 @@
 ghost use Rattle.std.specs.Prelude.{◌≡◌, ◌+◌, ◌-◌, ◌<◌, ◌≤◌, ◌^◌, [], ◌∷◌, length, map, nat_lt, true, false, if◌then◌else◌, ℕ};
 ghost use Rattle.std.specs.Arc.{arc_value};
-ghost use Rattle.asc_model.specs.State.{State};
 ghost use Rattle.asc_guess.specs.declared.kind.Kind.{Kind as kind_of};
 ghost use Rattle.asc_outside.specs.Outside.{one_more};
 ghost use Rattle.asc_live.specs.Due.{HasFilled, Pushes, jobs_of, tasks_for};
@@ -97,22 +96,6 @@ impl<'a, R> Pusher<'a, R> {
         self.full += kinds(guessing);
     }
 
-    // Counts the jobs of a visit as ones that found no room, and pushes none.
-    fn leave_visit(&mut self, guessing: &Guessing, issued: u64, number: u64)
-        requires filled { HasFilled self.old.giver }
-        requires full { self.old.full < 2 ^ 62 }
-        requires ahead { guessing.now.ahead ≤ 64 }
-        requires issued { issued ≤ 2 ^ 41 }
-        requires number { number ≤ 2 ^ 40 }
-        ensures { (prev last : State) → Pushes (if nat_lt (length self.old.giver.pushed) (2 ^ 60)
-            then jobs_of prev last (tasks_of guessing.now issued number) else []) self.old self.new }
-    {
-        if self.pushed() < MOST_JOBS {
-            let due = targets(issued, number, guessing.ahead);
-            self.full += kinds(guessing) * (due.end - due.start);
-        }
-    }
-
     /// Counts that memory was wanting.
     pub(crate) fn refuse(&mut self)
         ensures { self.new ≡ record self.old { refused = one_more self.old.refused } }
@@ -122,7 +105,9 @@ impl<'a, R> Pusher<'a, R> {
 }
 
 impl<'a, R: Wait> Pusher<'a, R> {
-    /// Pushes the jobs of a visit where they are offered, and else counts them as ones that found no room.
+    /// Pushes the jobs of a visit where they are offered, by the states of the last two: of the targets in rising order,
+    /// and of each kind that is on, `Last` before `Stride`. Where they are not, they count as given up. Once `MOST_JOBS`
+    /// were pushed it does neither.
     pub(crate) fn offer_visit(
         &mut self,
         offered: bool,
@@ -141,34 +126,13 @@ impl<'a, R: Wait> Pusher<'a, R> {
             then jobs_of (arc_value prev.now) (arc_value last.now) (tasks_of guessing.now issued number) else [])
             self.old self.new }
     {
-        if offered {
-            self.push_visit(prev, last, guessing, issued, number);
-        } else {
-            self.leave_visit(guessing, issued, number);
-        }
-    }
-
-    // Pushes the jobs of a visit, by the states of the last two: of the targets in rising order, and of each kind that is
-    // on, `Last` before `Stride`. Nothing is pushed once `MOST_JOBS` were.
-    fn push_visit(
-        &mut self,
-        prev: &Arc<Snapshot>,
-        last: &Arc<Snapshot>,
-        guessing: &Guessing,
-        issued: u64,
-        number: u64,
-    )
-        requires full { self.old.full < 2 ^ 62 }
-        requires ahead { guessing.now.ahead ≤ 64 }
-        requires issued { issued ≤ 2 ^ 41 }
-        requires number { number ≤ 2 ^ 40 }
-        ensures { Pushes (if nat_lt (length self.old.giver.pushed) (2 ^ 60)
-            then jobs_of (arc_value prev.now) (arc_value last.now) (tasks_of guessing.now issued number) else [])
-            self.old self.new }
-    {
         if self.pushed() < MOST_JOBS {
             let due = targets(issued, number, guessing.ahead);
-            self.push_targets(prev, last, guessing, number, due.start, due.end);
+            if offered {
+                self.push_targets(prev, last, guessing, number, due.start, due.end);
+            } else {
+                self.full += kinds(guessing) * (due.end - due.start);
+            }
         }
     }
 

@@ -53,7 +53,7 @@ pub fn step_until<L: Ledger>(
     ensures ends { result.1 ≢ Went → result.1 ≡ stepped_of (next state.new) }
 {
     let shape = state.shape();
-    // The first step is taken apart. So the pc is tested at the head of the loop, where the next step reads it anyway.
+    // The first step is on its own, so that the pc is tested at the head of the loop, where the next step reads it anyway.
     let (first, ended) = step_many(state, most.min(1), steps);
     if first == 0 {
         return (0, ended);

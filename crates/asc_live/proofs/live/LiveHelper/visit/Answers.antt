@@ -1,4 +1,4 @@
--- The state was kept, and the jobs were pushed, or memory was wanting.
+-- The state was kept, and jobs were pushed; or memory was wanting; or the visit was passed over.
 use Rattle.std.proofs.Common.{rules}
 use Rattle.asc_live.specs.Live.{live}
 use Rattle.asc_live.proofs.Seeing.{visit-live, visit-plans, visit-sees}
