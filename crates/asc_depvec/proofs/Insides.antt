@@ -1,7 +1,6 @@
 -- Lemmas on a tracer's fields: what a touch makes of them, and of the tracer that they stand for.
 use Rattle.std.proofs.Common.{◌≡◌, ℕ, ◌+◌, ◌-◌, ◌<◌, ◌≤◌, Bool, true, false, List, [], ◌∷◌, ◌++◌, length, refl, sym, ap, subst, ◌∙◌, slice_index, slice_set, slice_index_or, arith, length-append, replicate, if◌then◌else◌}
-use Rattle.std.specs.Prelude.{vec_capacity, vec_len}
-use Rattle.std.specs.Global.{Vec}
+use Rattle.std.specs.Prelude.{vec_len}
 use Rattle.std.specs.Vec.{with_item}
 use Rattle.std.proofs.lemmas.List.{get_or-map, length-map, map-set}
 use Rattle.std.proofs.lemmas.Bool.{false≢true}
@@ -13,6 +12,7 @@ use Rattle.asc_model.proofs.Shapes.{is_same_shape-true, is_same_shape-same}
 use Rattle.asc_shape.specs.Face.{Face, Told, status_at, is_untouched, status_after_read, status_after_write, face_after_read, face_after_put, untouched_count, room_of}
 use Rattle.asc_depvec.specs.declared.tracer.Tracer.TheInside.{Inside}
 use Rattle.asc_depvec.specs.Tracer.{Tracing, cap_of, face_of}
+use Rattle.asc_depvec.specs.Touched.{Listing}
 use Rattle.asc_depvec.specs.Inside.{tracing_of, status_of, statuses_of, IsTracer}
 use Rattle.asc_depvec.proofs.Marking.{Fits, FitPlaces-touch}
 
@@ -56,7 +56,7 @@ pub length-statuses : (t : Inside) → IsTracer t → is_same_shape t.state.shap
 length-statuses t inv own = sym (length-map t.marks.items status_of) ∙ inv.places.0 ∙ ap length_of (sym (is_same_shape-true t.state.shape t.shape own))
 
 -- the fields after a touch
-abbrev pub after_touch : Inside → State → ℕ → ℕ → Vec (ℕ × ℕ) → Inside
+abbrev pub after_touch : Inside → State → ℕ → ℕ → Listing → Inside
 after_touch t state place mark touched =
     record { shape = t.shape; cap = t.cap; state = state; marks = with_item t.marks place mark; touched = touched }
 
@@ -74,23 +74,23 @@ length-noted-le true touched noted = omega (arith, length-append touched (noted 
 length-noted-le false touched noted = omega arith
 
 -- what the code did at a touch of a place that held a byte
-pub record Touches (t : Inside) (state : State) (place byte : ℕ) (status : Status) (mark : ℕ) (touched : Vec (ℕ × ℕ)) : Type 0 where
+pub record Touches (t : Inside) (state : State) (place byte : ℕ) (status : Status) (mark : ℕ) (touched : Listing) : Type 0 where
   pub within : place < length_of t.shape
   pub same_shape : state.shape ≡ t.state.shape
   pub known : status ≡ status_at (statuses_of t.marks.items) place
   pub touches : is_untouched (status_of mark) ≡ false
   pub listed : touched.items ≡ (if is_untouched status then t.touched.items ++ (place, byte) ∷ [] else t.touched.items)
-  pub capacity : vec_capacity t.touched ≤ vec_capacity touched
+  pub cap : touched.cap ≡ t.touched.cap
 
 -- the fields stand for a tracer again
-pub IsTracer-after_touch : (t : Inside) (state : State) (place byte : ℕ) (status : Status) (mark : ℕ) (touched : Vec (ℕ × ℕ)) → IsTracer t → HasRoom t
+pub IsTracer-after_touch : (t : Inside) (state : State) (place byte : ℕ) (status : Status) (mark : ℕ) (touched : Listing) → IsTracer t → HasRoom t
     → Touches t state place byte status mark touched → IsTracer (after_touch t state place mark touched)
 IsTracer-after_touch t state place byte status mark touched inv has did =
     let items = did.listed ∙ ap (λ (s : Status). if is_untouched s then t.touched.items ++ (place, byte) ∷ [] else t.touched.items) did.known in
     record {
       cap = inv.cap;
       room = rw did.listed (omega (arith, length-noted-le (is_untouched status) t.touched.items (place, byte), has.room));
-      reserved = omega (arith, inv.reserved, did.capacity);
+      filled = omega (arith, inv.filled, did.cap);
       places = rw items (subst (λ (list : List Status). Fits (length_of t.shape) list (if is_untouched (status_at (statuses_of t.marks.items) place) then t.touched.items ++ (place, byte) ∷ [] else t.touched.items))
           (sym (statuses-set t.marks.items place mark))
           (FitPlaces-touch (length_of t.shape) (statuses_of t.marks.items) t.touched.items place byte (status_of mark) did.within did.touches inv.places));
@@ -98,14 +98,14 @@ IsTracer-after_touch t state place byte status mark touched inv has did =
     }
 
 -- the tracer that they stand for
-tracing_after_touch : (t : Inside) (state : State) (place byte : ℕ) (status : Status) (mark : ℕ) (touched : Vec (ℕ × ℕ)) → HasRoom t
+tracing_after_touch : (t : Inside) (state : State) (place byte : ℕ) (status : Status) (mark : ℕ) (touched : Listing) → HasRoom t
     → Touches t state place byte status mark touched
     → tracing_of (after_touch t state place mark touched) ≡ record { shape = t.shape; cap = t.cap; state = state; statuses = statuses_of (slice_set t.marks.items place mark); touched = touched.items }
 tracing_after_touch t state place byte status mark touched has did =
     tracing_of-own (after_touch t state place mark touched) (ap (λ (s : Shape). is_same_shape s t.shape) did.same_shape ∙ has.own)
 
 -- the face after a touch
-face_after_touch : (t : Inside) (state : State) (place byte : ℕ) (status : Status) (mark : ℕ) (touched : Vec (ℕ × ℕ)) → HasRoom t
+face_after_touch : (t : Inside) (state : State) (place byte : ℕ) (status : Status) (mark : ℕ) (touched : Listing) → HasRoom t
     → Touches t state place byte status mark touched
     → face_of (tracing_of (after_touch t state place mark touched))
     ≡ record {
@@ -121,7 +121,7 @@ face_after_touch t state place byte status mark touched has did =
     (did.listed ∙ ap (λ (s : Status). if is_untouched s then t.touched.items ++ (place, byte) ∷ [] else t.touched.items) did.known)
 
 -- what a read leaves
-pub face-read : (t : Inside) (now : Tracing) (place byte : ℕ) (status : Status) (mark : ℕ) (touched : Vec (ℕ × ℕ)) → tracing_of t ≡ now → HasRoom t
+pub face-read : (t : Inside) (now : Tracing) (place byte : ℕ) (status : Status) (mark : ℕ) (touched : Listing) → tracing_of t ≡ now → HasRoom t
     → Touches t t.state place byte status mark touched → status_of mark ≡ status_after_read status → byte ≡ slice_index t.state.bytes place
     → face_of (tracing_of (after_touch t t.state place mark touched)) ≡ face_after_read (face_of now) place
 unfolding face_after_read
@@ -141,7 +141,7 @@ face-read t now place byte status mark touched is has did by read =
     ∙ ap (λ (v : Tracing). face_after_read (face_of v) place) (sym (tracing_of-own t has.own) ∙ is)
 
 -- what a put leaves
-pub face-put : (t : Inside) (now : Tracing) (state : State) (place byte before : ℕ) (status : Status) (mark : ℕ) (touched : Vec (ℕ × ℕ)) → tracing_of t ≡ now → HasRoom t
+pub face-put : (t : Inside) (now : Tracing) (state : State) (place byte before : ℕ) (status : Status) (mark : ℕ) (touched : Listing) → tracing_of t ≡ now → HasRoom t
     → Touches t state place before status mark touched → status_of mark ≡ status_after_write status → before ≡ slice_index t.state.bytes place
     → state ≡ record t.state { bytes = slice_set t.state.bytes place byte }
     → face_of (tracing_of (after_touch t state place mark touched)) ≡ face_after_put (face_of now) place byte
@@ -194,11 +194,11 @@ status_read t place read is e =
     ap status_of e ∙ sym (get_or-map status_of t.marks.items place read Untouched (omega (arith, t.marks.ok.0, is.of_marks)))
 
 -- what the code did, from what its calls ensure
-pub Touches-from : (t : Inside) (now : Tracing) (state : State) (place byte read : ℕ) (status : Status) (mark : ℕ) (touched : Vec (ℕ × ℕ)) → tracing_of t ≡ now → IsState now.state → IsTracer t
+pub Touches-from : (t : Inside) (now : Tracing) (state : State) (place byte read : ℕ) (status : Status) (mark : ℕ) (touched : Listing) → tracing_of t ≡ now → IsState now.state → IsTracer t
     → HasRoom t → place < length now.state.bytes → state.shape ≡ t.state.shape → read ≡ slice_index_or t.marks.items place read → status ≡ status_of read → is_untouched (status_of mark) ≡ false
-    → touched.items ≡ (if is_untouched status then t.touched.items ++ (place, byte) ∷ [] else t.touched.items) → vec_capacity t.touched ≤ vec_capacity touched
+    → touched.items ≡ (if is_untouched status then t.touched.items ++ (place, byte) ∷ [] else t.touched.items) → touched.cap ≡ t.touched.cap
     → Touches t state place byte status mark touched
-Touches-from t now state place byte read status mark touched is good inv has within shape reads tells touches listed capacity =
+Touches-from t now state place byte read status mark touched is good inv has within shape reads tells touches listed cap =
     let is_place = IsPlace-from t now place is good inv has.own within in
     record {
       within = is_place.of_shape;
@@ -206,7 +206,7 @@ Touches-from t now state place byte read status mark touched is good inv has wit
       known = tells ∙ status_read t place read is_place reads;
       touches = touches;
       listed = listed;
-      capacity = capacity;
+      cap = cap;
     }
 
 -- a state that is of the tracer's shape is told to be

@@ -1,3 +1,4 @@
+pub mod Cells
 pub mod Marking
 pub mod Insides
 pub mod Undoing

@@ -1,7 +1,5 @@
 -- Words of which no place was touched before, or each was only read: what one touch of four places leaves.
 use Rattle.std.proofs.Common.{◌≡◌, ℕ, zero, suc, ◌+◌, ◌*◌, ◌/◌, ◌%◌, ◌^◌, ◌<◌, ◌≤◌, true, false, List, [], ◌∷◌, ◌++◌, length, refl, sym, ap, subst, ◌∙◌, slice_index, slice_set, arith, append_assoc, if◌then◌else◌}
-use Rattle.std.specs.Prelude.{vec_capacity}
-use Rattle.std.specs.Global.{Vec}
 use Rattle.std.specs.Vec.{with_items}
 use Rattle.std.proofs.lemmas.Bool.{false≢true}
 use Rattle.std.proofs.lemmas.List.{append-nil, get_or-set_other, length-append, map-set, with_items_is}
@@ -16,6 +14,7 @@ use Rattle.asc_shape.specs.Face.{Face, Untold, Told, is_untouched, status_after_
 use Rattle.asc_shape.proofs.Faces.{state-reads}
 use Rattle.asc_depvec.specs.declared.tracer.Tracer.TheInside.{Inside}
 use Rattle.asc_depvec.specs.Tracer.{HaveStatus, Tracing, cap_of, face_of}
+use Rattle.asc_depvec.specs.Touched.{Listing}
 use Rattle.asc_depvec.specs.Inside.{IsTracer, status_of, statuses_of, tracing_of, with_statuses}
 use Rattle.asc_depvec.proofs.Marking.{Fits, FitPlaces-touch}
 use Rattle.asc_depvec.proofs.Insides.{IsPlace-from, room_for, tracing_of-own}
@@ -176,26 +175,26 @@ IsWord-from t now place is good inv within room =
     }
 
 -- what the code left: these statuses and this list of touched places, which fit
-pub record MarksAs (t : Inside) (after : List Status) (list : List (ℕ × ℕ)) (marks : List ℕ) (touched : Vec (ℕ × ℕ)) : Type 0 where
+pub record MarksAs (t : Inside) (after : List Status) (list : List (ℕ × ℕ)) (marks : List ℕ) (touched : Listing) : Type 0 where
   pub size : length marks ≡ length t.marks.items
   pub statuses : statuses_of marks ≡ after
   pub listed : touched.items ≡ list
   pub room : length list ≤ t.cap
-  pub capacity : vec_capacity t.touched ≤ vec_capacity touched
+  pub cap : touched.cap ≡ t.touched.cap
   pub fits : Fits (length_of t.shape) after list
 
 -- after a first touch
-pub MarksAs-new : (t : Inside) (place word : ℕ) (status : Status) (read changed marks : List ℕ) (touched : Vec (ℕ × ℕ)) → IsTracer t → IsWord t place → is_untouched status ≡ false
+pub MarksAs-new : (t : Inside) (place word : ℕ) (status : Status) (read changed marks : List ℕ) (touched : Listing) → IsTracer t → IsWord t place → is_untouched status ≡ false
     → read ≡ t.marks.items → HaveStatus (statuses_of read) Untouched place 4
     → changed ≡ t.marks.items → length marks ≡ length changed → statuses_of marks ≡ with_statuses (statuses_of changed) place status 4
-    → touched.items ≡ t.touched.items ++ cells place (bytes_of 4 word) → vec_capacity t.touched ≤ vec_capacity touched
+    → touched.items ≡ t.touched.items ++ cells place (bytes_of 4 word) → touched.cap ≡ t.touched.cap
     → MarksAs t (with_statuses (statuses_of t.marks.items) place status 4) (t.touched.items ++ cells place (bytes_of 4 word)) marks touched
-MarksAs-new t place word status read changed marks touched inv is_word touches is_read untouched is_changed size statuses listed capacity = record {
+MarksAs-new t place word status read changed marks touched inv is_word touches is_read untouched is_changed size statuses listed cap = record {
   size = size ∙ ap (λ (list : List ℕ). length list) is_changed;
   statuses = statuses ∙ ap (λ (list : List ℕ). with_statuses (statuses_of list) place status 4) is_changed;
   listed = listed;
   room = omega (arith, length-append t.touched.items (cells place (bytes_of 4 word)), is_word.room);
-  capacity = capacity;
+  cap = cap;
   fits = Fits-new 4 (length_of t.shape) word (statuses_of t.marks.items) t.touched.items place status touches is_word.within
       (subst (λ (list : List ℕ). HaveStatus (statuses_of list) Untouched place 4) is_read untouched) inv.places;
 }
@@ -209,33 +208,33 @@ MarksAs-read t place read changed marks inv is_word is_read were is_changed size
   statuses = statuses ∙ ap (λ (list : List ℕ). with_statuses (statuses_of list) place ReadWritten 4) is_changed;
   listed = refl;
   room = omega (arith, is_word.room);
-  capacity = omega arith;
+  cap = refl;
   fits = Fits-read 4 (length_of t.shape) (statuses_of t.marks.items) t.touched.items place is_word.within
       (subst (λ (list : List ℕ). HaveStatus (statuses_of list) Read place 4) is_read were) inv.places;
 }
 
-abbrev pub after_word : Inside → State → List ℕ → Vec (ℕ × ℕ) → Inside
+abbrev pub after_word : Inside → State → List ℕ → Listing → Inside
 after_word t state marks touched = record { shape = t.shape; cap = t.cap; state = state; marks = with_items t.marks marks; touched = touched }
 
 -- the marks then
-marks_after_word : (t : Inside) (statuses : List Status) (listed : List (ℕ × ℕ)) (marks : List ℕ) (touched : Vec (ℕ × ℕ)) → MarksAs t statuses listed marks touched
+marks_after_word : (t : Inside) (statuses : List Status) (listed : List (ℕ × ℕ)) (marks : List ℕ) (touched : Listing) → MarksAs t statuses listed marks touched
     → statuses_of (with_items t.marks marks).items ≡ statuses
 marks_after_word t statuses listed marks touched did = ap statuses_of (with_items_is t.marks marks (did.size ∙ sym t.marks.ok.0)) ∙ did.statuses
 
 -- the fields stand for a tracer again
-pub IsTracer-after_word : (t : Inside) (state : State) (statuses : List Status) (listed : List (ℕ × ℕ)) (marks : List ℕ) (touched : Vec (ℕ × ℕ)) → IsTracer t
+pub IsTracer-after_word : (t : Inside) (state : State) (statuses : List Status) (listed : List (ℕ × ℕ)) (marks : List ℕ) (touched : Listing) → IsTracer t
     → is_same_shape t.state.shape t.shape ≡ true → state.shape ≡ t.state.shape → MarksAs t statuses listed marks touched → IsTracer (after_word t state marks touched)
 IsTracer-after_word t state statuses listed marks touched inv own shape did = record {
   cap = inv.cap;
   room = omega (arith, ap (λ (list : List (ℕ × ℕ)). length list) did.listed, did.room);
-  reserved = omega (arith, inv.reserved, did.capacity);
+  filled = omega (arith, inv.filled, did.cap);
   places = subst (λ (list : List (ℕ × ℕ)). Fits (length_of t.shape) (statuses_of (with_items t.marks marks).items) list) (sym did.listed)
       (subst (λ (list : List Status). Fits (length_of t.shape) list listed) (sym (marks_after_word t statuses listed marks touched did)) did.fits);
   other = λ e. absurd (false≢true (sym e ∙ ap (λ (s : Shape). is_same_shape s t.shape) shape ∙ own));
 }
 
 -- the face then
-face_after_word : (t : Inside) (state : State) (statuses : List Status) (listed : List (ℕ × ℕ)) (marks : List ℕ) (touched : Vec (ℕ × ℕ)) → is_same_shape t.state.shape t.shape ≡ true
+face_after_word : (t : Inside) (state : State) (statuses : List Status) (listed : List (ℕ × ℕ)) (marks : List ℕ) (touched : Listing) → is_same_shape t.state.shape t.shape ≡ true
     → state.shape ≡ t.state.shape → MarksAs t statuses listed marks touched
     → face_of (tracing_of (after_word t state marks touched)) ≡ told state (cap_of (tracing_of t)) statuses listed
 face_after_word t state statuses listed marks touched own shape did =
@@ -252,7 +251,7 @@ held : (t : Inside) (place word : ℕ) → IsWord t place → word ≡ word_at t
 held t place word is_word is = ap (λ (list : List ℕ). t.touched.items ++ cells place list) (ap (bytes_of 4) is ∙ bytes_of-number_at 4 t.state.bytes place is_word.bytes)
 
 -- what a first read of a word leaves
-pub face-read_new : (t : Inside) (now : Tracing) (state : State) (place word : ℕ) (read marks : List ℕ) (touched : Vec (ℕ × ℕ)) → tracing_of t ≡ now → IsWord t place → state ≡ t.state
+pub face-read_new : (t : Inside) (now : Tracing) (state : State) (place word : ℕ) (read marks : List ℕ) (touched : Listing) → tracing_of t ≡ now → IsWord t place → state ≡ t.state
     → word ≡ word_at t.state.bytes place → read ≡ t.marks.items → HaveStatus (statuses_of read) Untouched place 4
     → MarksAs t (with_statuses (statuses_of t.marks.items) place Read 4) (t.touched.items ++ cells place (bytes_of 4 word)) marks touched
     → face_of (tracing_of (after_word t state marks touched)) ≡ face_after_reads (face_of now) (places_from place 4)
@@ -266,7 +265,7 @@ face-read_new t now state place word read marks touched is is_word same is_held 
     ∙ ap (λ (v : Tracing). face_after_reads (face_of v) (places_from place 4)) (sym (tracing_of-own t is_word.own) ∙ is)
 
 -- what a first put of a word leaves
-pub face-put_new : (t : Inside) (now : Tracing) (state : State) (place word new : ℕ) (read marks : List ℕ) (touched : Vec (ℕ × ℕ)) → tracing_of t ≡ now → IsWord t place
+pub face-put_new : (t : Inside) (now : Tracing) (state : State) (place word new : ℕ) (read marks : List ℕ) (touched : Listing) → tracing_of t ≡ now → IsWord t place
     → state ≡ record t.state { bytes = bytes_after t.state.bytes (cells place (bytes_of 4 new)) }
     → word ≡ word_at t.state.bytes place → read ≡ t.marks.items → HaveStatus (statuses_of read) Untouched place 4
     → MarksAs t (with_statuses (statuses_of t.marks.items) place Written 4) (t.touched.items ++ cells place (bytes_of 4 word)) marks touched

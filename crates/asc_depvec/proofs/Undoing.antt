@@ -1,7 +1,6 @@
 -- Lemmas on touches taken back.
 use Rattle.std.proofs.Common.{◌≡◌, ℕ, zero, suc, ◌+◌, ◌-◌, ◌<◌, ◌≤◌, Bool, cond, List, [], ◌∷◌, ◌++◌, length, take, drop, refl, sym, ap, subst, ◌∙◌, slice_index_or, slice_set, arith, append_assoc, length-drop}
-use Rattle.std.specs.Prelude.{All, vec_capacity}
-use Rattle.std.specs.Global.{Vec}
+use Rattle.std.specs.Prelude.{All}
 use Rattle.std.specs.Vec.{with_items}
 use Rattle.std.proofs.lemmas.Bool.{eq-eqb}
 use Rattle.std.proofs.lemmas.List.{append-nil, drop_more, length-set, map-set, take_all, take-append-drop, with_items_is}
@@ -11,6 +10,7 @@ use Rattle.asc_model.specs.declared.status.Status.TheVariants.{Untouched}
 use Rattle.asc_model.specs.Shape.{length_of}
 use Rattle.asc_depvec.specs.declared.tracer.Tracer.TheInside.{Inside}
 use Rattle.asc_depvec.specs.Tracer.{untouch}
+use Rattle.asc_depvec.specs.Touched.{Listing}
 use Rattle.asc_depvec.specs.Inside.{IsTracer, status_of, statuses_of}
 use Rattle.asc_depvec.proofs.Marking.{Fits, FitPlaces-cut, listed_within, times, times-first}
 
@@ -76,18 +76,18 @@ take-none zero = refl
 take-none (suc n) = refl
 
 -- the fields stand for a tracer once the touches since a mark are taken back
-pub IsTracer-undone : (t : Inside) (mark : ℕ) (marks : List ℕ) (touched : Vec (ℕ × ℕ)) → IsTracer t → length marks ≡ length t.marks.items
+pub IsTracer-undone : (t : Inside) (mark : ℕ) (marks : List ℕ) (touched : Listing) → IsTracer t → length marks ≡ length t.marks.items
     → statuses_of marks ≡ untouch (statuses_of t.marks.items) (drop mark t.touched.items) → touched.items ≡ take mark t.touched.items
-    → length touched.items ≤ length t.touched.items → vec_capacity touched ≡ vec_capacity t.touched
+    → length touched.items ≤ length t.touched.items → touched.cap ≡ t.touched.cap
     → IsTracer (record { shape = t.shape; cap = t.cap; state = t.state; marks = with_items t.marks marks; touched = touched })
-IsTracer-undone t mark marks touched inv size undone cut fewer capacity =
+IsTracer-undone t mark marks touched inv size undone cut fewer cap =
     let kept : (with_items t.marks marks).items ≡ marks = with_items_is t.marks marks (size ∙ sym t.marks.ok.0) in
     let fits = FitPlaces-untouch (length_of t.shape) (statuses_of t.marks.items) (take mark t.touched.items) (drop mark t.touched.items)
     (subst (λ (list : List (ℕ × ℕ)). Fits (length_of t.shape) (statuses_of t.marks.items) list) (sym (take-append-drop mark t.touched.items)) inv.places) in
     record {
       cap = inv.cap;
       room = omega (arith, fewer, inv.room);
-      reserved = omega (arith, inv.reserved, capacity);
+      filled = omega (arith, inv.filled, cap);
       places = subst (λ (list : List Status). Fits (length_of t.shape) list touched.items) (sym (ap statuses_of kept ∙ undone))
           (subst (λ (list : List (ℕ × ℕ)). Fits (length_of t.shape) (untouch (statuses_of t.marks.items) (drop mark t.touched.items)) list) (sym cut) fits);
       other = λ e. cut ∙ ap (take mark) (inv.other e) ∙ take-none mark;

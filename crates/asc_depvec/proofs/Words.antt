@@ -192,7 +192,7 @@ pub IsTracer-written : (t : Inside) (state : State) (list : List (ℕ × ℕ)) �
 IsTracer-written t state list inv has did = record {
   cap = inv.cap;
   room = inv.room;
-  reserved = inv.reserved;
+  filled = inv.filled;
   places = inv.places;
   other = λ e. absurd (false≢true (sym e ∙ own_shape t state list has did));
 }

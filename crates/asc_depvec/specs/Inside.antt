@@ -31,7 +31,7 @@ tracing_of t = record {
 pub record IsTracer (t : Inside) : Type 0 where
   pub cap : t.cap ≤ most_cap
   pub room : length t.touched.items ≤ t.cap
-  pub reserved : t.cap ≤ vec_capacity t.touched
+  pub filled : t.cap ≤ t.touched.cap
   pub places : FitPlaces (length_of t.shape) (Told t.cap (statuses_of t.marks.items) t.touched.items)
   pub other : is_same_shape t.state.shape t.shape ≡ false → t.touched.items ≡ []
 

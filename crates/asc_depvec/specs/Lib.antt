@@ -1,3 +1,4 @@
+pub mod Touched
 pub mod Tracer
 pub mod Inside
 pub mod Dependency

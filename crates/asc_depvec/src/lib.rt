@@ -5,6 +5,7 @@ mod laws;
 mod reserved;
 #[cfg(test)]
 mod tests;
+mod touched;
 mod tracer;
 
 pub use asc_shape::Status;

@@ -3,6 +3,7 @@ ghost use Rattle.asc_shape.specs.State.{zero_state};
 ghost use Rattle.asc_depvec.specs.Tracer.{least_cap, most_cap, fresh};
 
 use crate::Tracer;
+use crate::touched::Touched;
 use crate::tracer::UNTOUCHED;
 use asc_shape::{Memory, Reserved, Shape};
 use std::alloc::Global;
@@ -67,7 +68,7 @@ impl ReservedTracer {
         } = self;
         let state = state.fill();
         match marks.resize(state.len(), UNTOUCHED) {
-            Ok(()) => Tracer::untouched(cap, state, marks, touched),
+            Ok(()) => Tracer::untouched(cap, state, marks, Touched::none(cap, touched)),
             Err(_) => unreachable!(),
         }
     }

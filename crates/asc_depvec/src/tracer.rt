@@ -1,4 +1,4 @@
-ghost use Rattle.std.specs.Prelude.{◌≡◌, true, ◌+◌, ◌^◌, ◌<◌, ◌≤◌, [], ◌∷◌, ◌++◌, All, IfOk, IfSome, IsNone, length, replicate, vec_len, vec_capacity, if◌then◌else◌};
+ghost use Rattle.std.specs.Prelude.{◌≡◌, true, ◌+◌, ◌^◌, ◌<◌, ◌≤◌, [], ◌∷◌, ◌++◌, All, IfOk, IfSome, IsNone, length, replicate, if◌then◌else◌};
 ghost use Rattle.std.specs.Borrow.{Lends, sem};
 ghost use Rattle.asc_model.specs.declared.status.Status.{Status};
 ghost use Rattle.asc_model.specs.Number.{AreBytes, bytes_of, word_at};
@@ -12,6 +12,7 @@ ghost use Rattle.asc_depvec.specs.Tracer.{HaveStatus, IsTracing, least_cap, most
 ghost use Rattle.asc_depvec.specs.Inside.{AreWritten, status_of, statuses_of, with_statuses};
 
 use crate::ReservedTracer;
+use crate::touched::Touched;
 use asc_shape::{Bytes, Memory, Shape, State, Status, Words, get_by_bytes, put_by_bytes};
 use std::alloc::Global;
 use std::marker::Model;
@@ -34,7 +35,7 @@ pub struct Tracer {
     cap: usize,
     state: State,
     marks: Vec<u8>,
-    touched: Vec<(u32, u8)>,
+    touched: Touched,
 }
 
 impl Model for Tracer {
@@ -53,7 +54,7 @@ impl Model for Tracer {
 
 impl Tracer {
     /// A tracer of the state of this shape whose bytes are all 0, with room for `cap` touched places, from `LEAST_CAP`
-    /// to `MOST_CAP`. Memory for all of them is reserved here.
+    /// to `MOST_CAP`. Memory for all of them is taken and filled here.
     pub fn new(alloc: Global, shape: Shape, cap: usize) -> Result<Tracer, Memory>
         requires least { least_cap ≤ cap }
         requires most { cap ≤ most_cap }
@@ -63,16 +64,11 @@ impl Tracer {
     }
 
     /// A tracer of this state, nothing of it touched.
-    pub(crate) fn untouched(
-        cap: usize,
-        state: State,
-        marks: Vec<u8>,
-        touched: Vec<(u32, u8)>,
-    ) -> Tracer
+    pub(crate) fn untouched(cap: usize, state: State, marks: Vec<u8>, touched: Touched) -> Tracer
         requires cap { cap ≤ most_cap }
         requires marks { marks.items ≡ replicate (length_of state.shape) 3 }
         requires none { touched.items ≡ [] }
-        requires reserved { cap ≤ vec_capacity touched }
+        requires filled { cap ≤ touched.cap }
         ensures { result ≡ fresh state.shape cap state }
     {
         Tracer {
@@ -178,7 +174,7 @@ impl Tracer {
     pub fn touched(&self) -> &[(u32, u8)]
         ensures { result.now ≡ self.now.touched }
     {
-        &self.touched
+        self.touched.all()
     }
 
     /// How many more places may be touched: as many as `new` was told less those that are, and none while the state has
@@ -218,7 +214,7 @@ impl Tracer {
         requires { mark ≤ length self.old.touched }
         ensures { self.new ≡ undone self.old mark }
     {
-        untouch(&mut self.marks, &self.touched[mark..]);
+        untouch(&mut self.marks, self.touched.since(mark));
         self.touched.truncate(mark);
     }
 
@@ -235,12 +231,24 @@ impl Tracer {
         let _ = Bytes::shape(self);
         if have_mark(&self.marks, place, UNTOUCHED) {
             let word = Words::get_word(&mut self.state, place);
-            note_word(&mut self.touched, place, word);
             mark_word(&mut self.marks, place, READ);
+            self.touched.push_word(place, word);
             word
         } else {
-            get_by_bytes(self, place)
+            self.get_partly(place)
         }
+    }
+
+    // The word in four places, place by place. It is out of line, so that the common case saves no registers for it.
+    #[cold]
+    #[inline(never)]
+    fn get_partly(&mut self, place: u32) -> u32
+        requires place { place + 4 ≤ length self.old.state.bytes }
+        requires room { 4 ≤ room_of (face_of self.old).marks }
+        ensures word { result ≡ word_at self.old.state.bytes place }
+        ensures face { face_of self.new ≡ face_after_reads (face_of self.old) (places_from place 4) }
+    {
+        get_by_bytes(self, place)
     }
 
     // Puts a word in four places that are not all written, at once where all are untouched, or all only read.
@@ -255,15 +263,26 @@ impl Tracer {
         let _ = Bytes::shape(self);
         if have_mark(&self.marks, place, UNTOUCHED) {
             let before = Words::get_word(&mut self.state, place);
-            note_word(&mut self.touched, place, before);
             mark_word(&mut self.marks, place, WRITTEN);
+            self.touched.push_word(place, before);
             Words::put_word(&mut self.state, place, word);
         } else if have_mark(&self.marks, place, READ) {
             mark_word(&mut self.marks, place, READ_WRITTEN);
             Words::put_word(&mut self.state, place, word);
         } else {
-            put_by_bytes(self, place, word);
+            self.put_partly(place, word);
         }
+    }
+
+    // Puts a word in four places, place by place. It is out of line, as `get_partly`.
+    #[cold]
+    #[inline(never)]
+    fn put_partly(&mut self, place: u32, word: u32)
+        requires place { place + 4 ≤ length self.old.state.bytes }
+        requires room { 4 ≤ room_of (face_of self.old).marks }
+        ensures face { face_of self.new ≡ face_after_puts (face_of self.old) (cells place (bytes_of 4 word)) }
+    {
+        put_by_bytes(self, place, word);
     }
 }
 
@@ -333,14 +352,14 @@ impl Words for Tracer {
 
 // Lists a place with its byte where its status says that it is not touched yet.
 #[inline]
-fn note(touched: &mut Vec<(u32, u8)>, status: Status, place: u32, byte: u8)
-    requires { vec_len touched.old < vec_capacity touched.old }
+fn note(touched: &mut Touched, status: Status, place: u32, byte: u8)
+    requires { length touched.old.items < touched.old.cap }
     ensures touched { touched.new.items
         ≡ (if is_untouched status then touched.old.items ++ (place, byte) ∷ [] else touched.old.items) }
-    ensures capacity { vec_capacity touched.old ≤ vec_capacity touched.new }
+    ensures cap { touched.new.cap ≡ touched.old.cap }
 {
     if let Status::Untouched = status {
-        touched.push_reserved((place, byte));
+        touched.push(place, byte);
     }
 }
 
@@ -378,21 +397,6 @@ fn mark_of(status: Status) -> u8
         Status::Written => WRITTEN,
         Status::ReadWritten => READ_WRITTEN,
     }
-}
-
-// Lists the four places of a word with the bytes that they hold.
-#[inline]
-fn note_word(touched: &mut Vec<(u32, u8)>, place: u32, word: u32)
-    requires addresses { place + 4 ≤ 2 ^ 32 }
-    requires reserved { vec_len touched.old + 4 ≤ vec_capacity touched.old }
-    ensures touched { touched.new.items ≡ touched.old.items ++ cells place (bytes_of 4 word) }
-    ensures capacity { vec_capacity touched.old ≤ vec_capacity touched.new }
-{
-    let [first, second, third, fourth] = word.to_le_bytes();
-    touched.push_reserved((place, first));
-    touched.push_reserved((place + 1, second));
-    touched.push_reserved((place + 2, third));
-    touched.push_reserved((place + 3, fourth));
 }
 
 // Gives the four places from a place on one mark.

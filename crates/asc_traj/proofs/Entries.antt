@@ -1,11 +1,13 @@
 -- The entry of the steps that a tracer stands for.
-use Rattle.std.proofs.Common.{◌≡◌, ℕ, ◌^◌, ◌<◌, ◌≤◌, Bool, true, false, List, [], ◌∷◌, map, length, slice_index, Some, if◌then◌else◌, refl, sym, ap, subst, ◌∙◌, arith}
+use Rattle.std.proofs.Common.{◌≡◌, ℕ, ◌+◌, ◌^◌, ◌<◌, ◌≤◌, Bool, true, false, List, [], ◌∷◌, map, length, slice_index, Some, if◌then◌else◌, refl, sym, ap, subst, ◌∙◌, arith}
 use Rattle.std.specs.Prelude.{All, filter}
 use Rattle.std.specs.List.{flat_map}
 use Rattle.std.specs.List.Sorted.{IsPermutation, IsNonDecreasingBy}
 use Rattle.std.proofs.lemmas.List.Sorted.{All-permutation}
 use Rattle.std.proofs.lemmas.List.Elements.{All-head, All-tail, All-filter}
-use Rattle.asc_model.specs.Shape.{length_of}
+use Rattle.asc_model.specs.Shape.{length_of, most_size, start_of}
+use Rattle.asc_model.specs.declared.version.Version.{Version}
+use Rattle.asc_model.specs.declared.version.Version.TheVariants.{One, Two}
 use Rattle.asc_model.specs.State.{State, IsState}
 use Rattle.asc_model.specs.Step.{At}
 use Rattle.asc_model.specs.Places.{places_from}
@@ -149,3 +151,12 @@ module _ (n : ℕ) (t : Tracing) (sorted reads writes : List (ℕ × ℕ)) (make
 -- touched places are places of the state
 pub touched_places : (t : Tracing) → IsState t.state → FitPlaces (length t.state.bytes) (face_of t).marks → All (λ cell. cell.0 < length_of t.state.shape) t.touched
 touched_places t good fits = subst (λ m. All (λ cell. cell.0 < m) t.touched) good.length (touched-within (length t.state.bytes) t.statuses t.touched fits)
+
+-- places of a state are below 2^31
+start_low : (version : Version) (size : ℕ) → size ≤ most_size → start_of version + size ≤ 2 ^ 31
+start_low One size most = omega arith
+start_low Two size most = omega arith
+
+-- and so they are low
+pub touched_low : (t : Tracing) → IsState t.state → FitPlaces (length t.state.bytes) (face_of t).marks → All (λ cell. cell.0 < 2 ^ 31) t.touched
+touched_low t good fits = λ k d l. omega (arith, touched_places t good fits k d l, start_low t.state.shape.version t.state.shape.size good.shape.size.most)

@@ -1,10 +1,10 @@
 -- Cells put together run by run, in whatever order of the runs.
-use Rattle.std.proofs.Common.{◌≡◌, ℕ, zero, suc, ◌+◌, ◌-◌, ◌<◌, ◌≤◌, ◌==◌, Bool, cond, List, [], ◌∷◌, ◌++◌, length, take, drop, refl, sym, ap, subst, ◌∙◌, inl, inr, arith}
+use Rattle.std.proofs.Common.{◌≡◌, ℕ, zero, suc, ◌+◌, ◌-◌, ◌<◌, ◌≤◌, ◌==◌, Bool, cond, List, [], ◌∷◌, ◌++◌, length, take, drop, get_or, refl, sym, ap, subst, ◌∙◌, inl, inr, arith}
 use Rattle.std.specs.Prelude.{All, Contains, count_by}
 use Rattle.std.specs.List.{flat_map, sum_by}
 use Rattle.std.specs.List.Sorted.{IsPermutation, IsNonDecreasingBy}
 use Rattle.std.proofs.lemmas.Bool.{cases_eq, cases_lt, eq-eqb}
-use Rattle.std.proofs.lemmas.List.{append-nil, drop-drop, drop-take, map-append, take-append-drop, take-take}
+use Rattle.std.proofs.lemmas.List.{append-nil, drop-drop, drop-map, drop-take, map-append, take-append-drop, take-map, take-take}
 use Rattle.std.proofs.lemmas.List.Concat.{flat_map-append, length-flat_map}
 use Rattle.std.proofs.lemmas.List.Elements.{All-append, All-contains, All-contains_itself, All-drop, All-head, All-nil, All-push, All-tail, All-take}
 use Rattle.std.proofs.lemmas.List.Sorted.{sum_by-IsPermutation}
@@ -12,7 +12,7 @@ use Rattle.std.proofs.lemmas.List.Sums.{sum_by-append, sum_by-cons}
 use Rattle.asc_model.specs.Places.{places_from}
 use Rattle.asc_model.proofs.Listings.{RisesFrom, RisesFrom-lower}
 use Rattle.asc_traj.specs.declared.entry.Run.{Run}
-use Rattle.asc_traj.specs.Inside.{IsRun, cells_of}
+use Rattle.asc_traj.specs.Inside.{IsRun, IsStretch, cells_of}
 use Rattle.asc_traj.proofs.Places.{places_of, times-places}
 
 -- cells of a list, where each place stands as often as in the list
@@ -41,7 +41,7 @@ HasSame-runs cells runs moved whole by = record {
       ∙ sym (sum_by-flat w (cells_of cells) runs)
       ∙ ap (sum_by w) whole;
   listed = All-flat (λ cell. Contains cells cell) (cells_of cells)
-      (λ run. All-take (λ cell. Contains cells cell) (run.to - run.from) (drop run.from cells) (All-drop (λ cell. Contains cells cell) run.from cells (All-contains_itself cells)))
+      (λ run. All-take (λ cell. Contains cells cell) (run.last + 1 - run.from) (drop run.from cells) (All-drop (λ cell. Contains cells cell) run.from cells (All-contains_itself cells)))
       moved;
 }
 
@@ -65,7 +65,7 @@ pub record AreRuns (cells : List (ℕ × ℕ)) (from : ℕ) (runs : List Run) : 
   pub each : All (IsRun cells) runs
   pub whole : flat_map (cells_of cells) runs ≡ take from cells
 
-pub take-further : (from to : ℕ) (cells : List (ℕ × ℕ)) → from ≤ to → take from cells ++ take (to - from) (drop from cells) ≡ take to cells
+take-further : (from to : ℕ) (cells : List (ℕ × ℕ)) → from ≤ to → take from cells ++ take (to - from) (drop from cells) ≡ take to cells
 take-further from to cells le =
     let e : from + (to - from) ≡ to = omega arith in
     ap (λ (list : List (ℕ × ℕ)). take from cells ++ list) (sym (drop-take from (to - from) cells) ∙ ap (λ (n : ℕ). drop from (take n cells)) e)
@@ -73,19 +73,19 @@ take-further from to cells le =
     ∙ take-append-drop from (take to cells)
 
 -- one run more
-pub AreRuns-more : (cells : List (ℕ × ℕ)) (from : ℕ) (runs : List Run) (run : Run) → AreRuns cells from runs → run.from ≡ from → IsRun cells run → AreRuns cells run.to (runs ++ run ∷ [])
+pub AreRuns-more : (cells : List (ℕ × ℕ)) (from : ℕ) (runs : List Run) (run : Run) → AreRuns cells from runs → run.from ≡ from → IsRun cells run → AreRuns cells (run.last + 1) (runs ++ run ∷ [])
 AreRuns-more cells from runs run are is one = record {
-  most = one.most;
+  most = omega (arith, one.most);
   each = All-push (IsRun cells) runs run are.each one;
   whole =
       flat_map-append (cells_of cells) runs (run ∷ [])
       ∙ ap (λ (list : List (ℕ × ℕ)). flat_map (cells_of cells) runs ++ list) (append-nil (cells_of cells run))
       ∙ ap (λ (list : List (ℕ × ℕ)). list ++ cells_of cells run) are.whole
-      ∙ ap (λ (n : ℕ). take from cells ++ take (run.to - n) (drop n cells)) is
-      ∙ take-further from run.to cells (omega (arith, is, one.some));
+      ∙ ap (λ (n : ℕ). take from cells ++ take ((run.last + 1) - n) (drop n cells)) is
+      ∙ take-further from (run.last + 1) cells (omega (arith, is, one.some));
 }
 
--- ---- a run that grows
+-- ---- a stretch that grows
 
 -- places in a row, and more of them
 places_from-append : (place n m : ℕ) → places_from place (n + m) ≡ places_from place n ++ places_from (place + n) m
@@ -100,25 +100,96 @@ places_from-append place (suc n) m =
     ∙ ap (λ (list : List ℕ). place ∷ list) (places_from-append (place + 1) n m)
     ∙ ap (λ (p : ℕ). place ∷ (places_from (place + 1) n ++ places_from p m)) last
 
--- a row behind a row makes it longer
-pub row-further : (cells : List (ℕ × ℕ)) (place from to m : ℕ) → from ≤ to → places_of (take (to - from) (drop from cells)) ≡ places_from place (to - from)
-    → places_of (take m (drop to cells)) ≡ places_from (place + (to - from)) m → places_of (take (to + m - from) (drop from cells)) ≡ places_from place (to + m - from)
-row-further cells place from to m le row piece =
+-- some cells from one on, and more of them
+pub parts_join : (cells : List (ℕ × ℕ)) (from at n : ℕ) → from ≤ at → take (at - from) (drop from cells) ++ take n (drop at cells) ≡ take (at + n - from) (drop from cells)
+parts_join cells from at n le =
+    let k = at - from in
+    let more : k + n ≡ at + n - from = omega arith in
+    let behind : k + n - k ≡ n = omega arith in
+    let there : from + k ≡ at = omega arith in
+    sym (ap (λ (j : ℕ). take k (drop from cells) ++ take j (drop k (drop from cells))) behind
+    ∙ ap (λ (list : List (ℕ × ℕ)). take k (drop from cells) ++ take n list) (drop-drop k from cells ∙ ap (λ (j : ℕ). drop j cells) there))
+    ∙ take-further k (k + n) (drop from cells) (omega arith)
+    ∙ ap (λ (j : ℕ). take j (drop from cells)) more
+
+-- cells in a row are a stretch
+pub IsStretch-row : (cells : List (ℕ × ℕ)) (place from n : ℕ) → 0 < n → from + n ≤ length cells → places_of (take n (drop from cells)) ≡ places_from place n → IsStretch cells place from (from + n)
+IsStretch-row cells place from n some most row =
+    let size : n ≡ from + n - from = omega arith in
+    record {
+      some = omega arith;
+      most = most;
+      row = subst (λ (m : ℕ). places_of (take m (drop from cells)) ≡ places_from place m) size row;
+    }
+
+-- cells in a row behind a stretch make it longer
+pub IsStretch-further : (cells : List (ℕ × ℕ)) (place from to m : ℕ) → IsStretch cells place from to → to + m ≤ length cells
+    → places_of (take m (drop to cells)) ≡ places_from (place + (to - from)) m → IsStretch cells place from (to + m)
+IsStretch-further cells place from to m is most piece =
     let n = to - from in
-    let more : to + m - from ≡ n + m = omega arith in
-    let behind : n + m - n ≡ m = omega arith in
-    let there : from + n ≡ to = omega arith in
-    let parts : take (n + m) (drop from cells) ≡ take n (drop from cells) ++ take m (drop to cells) =
-    sym (take-further n (n + m) (drop from cells) (omega arith))
-    ∙ ap (λ (k : ℕ). take n (drop from cells) ++ take k (drop n (drop from cells))) behind
-    ∙ ap (λ (list : List (ℕ × ℕ)). take n (drop from cells) ++ take m list) (drop-drop n from cells ∙ ap (λ (k : ℕ). drop k cells) there) in
-    ap (λ (k : ℕ). places_of (take k (drop from cells))) more
-    ∙ ap places_of parts
-    ∙ map-append (λ (cell : ℕ × ℕ). cell.0) (take n (drop from cells)) (take m (drop to cells))
-    ∙ ap (λ (list : List ℕ). list ++ places_of (take m (drop to cells))) row
-    ∙ ap (λ (list : List ℕ). places_from place n ++ list) piece
-    ∙ sym (places_from-append place n m)
-    ∙ ap (places_from place) (sym more)
+    let more : n + m ≡ to + m - from = omega (arith, is.some) in
+    record {
+      some = omega (arith, is.some);
+      most = most;
+      row =
+          ap places_of (sym (parts_join cells from to m (omega (arith, is.some))))
+          ∙ map-append (λ (cell : ℕ × ℕ). cell.0) (take n (drop from cells)) (take m (drop to cells))
+          ∙ ap (λ (list : List ℕ). list ++ places_of (take m (drop to cells))) is.row
+          ∙ ap (λ (list : List ℕ). places_from place n ++ list) piece
+          ∙ sym (places_from-append place n m)
+          ∙ ap (places_from place) more;
+    }
+
+-- one cell is a row
+row_of_one : (cells : List (ℕ × ℕ)) (at : ℕ) → at < length cells → places_of (take 1 (drop at cells)) ≡ places_from (get_or cells at (0, 0)).0 1
+row_of_one [] at lt = absurd (omega arith)
+row_of_one (cell ∷ cells) zero lt = refl
+row_of_one (cell ∷ cells) (suc at) lt = row_of_one cells at (omega arith)
+
+-- one cell is a stretch
+pub IsStretch-one : (cells : List (ℕ × ℕ)) (place from : ℕ) → from < length cells → (get_or cells from (0, 0)).0 ≡ place → IsStretch cells place from (from + 1)
+IsStretch-one cells place from lt is = IsStretch-row cells place from 1 (omega arith) (omega arith) (row_of_one cells from lt ∙ ap (λ (p : ℕ). places_from p 1) is)
+
+-- a stretch with one cell more
+pub IsStretch-one_more : (cells : List (ℕ × ℕ)) (place from to : ℕ) → IsStretch cells place from to → to < length cells → (get_or cells to (0, 0)).0 ≡ place + (to - from)
+    → IsStretch cells place from (to + 1)
+IsStretch-one_more cells place from to stretch lt is =
+    IsStretch-further cells place from to 1 stretch (omega arith) (row_of_one cells to lt ∙ ap (λ (p : ℕ). places_from p 1) is)
+
+-- some of places in a row
+part_of_places : (place m k n : ℕ) → k + n ≤ m → take n (drop k (places_from place m)) ≡ places_from (place + k) n
+part_of_places place m zero zero le = refl
+part_of_places place zero zero (suc n) le = absurd (omega arith)
+part_of_places place (suc m) zero (suc n) le =
+    let same : place ≡ place + 0 = omega arith in
+    let next : place + 1 + 0 ≡ place + 0 + 1 = omega arith in
+    ap (λ (list : List ℕ). place ∷ list) (part_of_places (place + 1) m zero n (omega arith))
+    ∙ ap (λ (p : ℕ). place ∷ places_from p n) next
+    ∙ ap (λ (p : ℕ). p ∷ places_from (place + 0 + 1) n) same
+part_of_places place zero (suc k) zero le = absurd (omega arith)
+part_of_places place zero (suc k) (suc n) le = absurd (omega arith)
+part_of_places place (suc m) (suc k) n le =
+    let same : place + 1 + k ≡ place + suc k = omega arith in
+    part_of_places (place + 1) m k n (omega arith) ∙ ap (λ (p : ℕ). places_from p n) same
+
+-- some of a row are a row
+pub row-part : (cells : List (ℕ × ℕ)) (place from to at n : ℕ) → from ≤ at → at + n ≤ to → places_of (take (to - from) (drop from cells)) ≡ places_from place (to - from)
+    → places_of (take n (drop at cells)) ≡ places_from (place + (at - from)) n
+row-part cells place from to at n le most row =
+    let k = at - from in
+    let rest = to - from - k in
+    let there : from + k ≡ at = omega arith in
+    let all : k + rest ≡ to - from = omega arith in
+    let part : take n (drop k (take (to - from) (drop from cells))) ≡ take n (drop at cells) =
+    ap (λ (j : ℕ). take n (drop k (take j (drop from cells)))) (sym all)
+    ∙ ap (take n) (drop-take k rest (drop from cells))
+    ∙ take-take n rest (drop k (drop from cells)) (omega arith)
+    ∙ ap (take n) (drop-drop k from cells ∙ ap (λ (j : ℕ). drop j cells) there) in
+    ap places_of (sym part)
+    ∙ sym (take-map (λ (cell : ℕ × ℕ). cell.0) n (drop k (take (to - from) (drop from cells))))
+    ∙ ap (take n) (sym (drop-map (λ (cell : ℕ × ℕ). cell.0) k (take (to - from) (drop from cells))))
+    ∙ ap (λ (list : List ℕ). take n (drop k list)) row
+    ∙ part_of_places place (to - from) k n (omega arith)
 
 -- ---- runs by rising place
 
@@ -143,18 +214,18 @@ module _ (cells : List (ℕ × ℕ)) where
   abbrev times : ℕ → List (ℕ × ℕ) → ℕ
   times p list = count_by (λ cell. cell.0 == p) list
 
-  times-run : (run : Run) (p : ℕ) → IsRun cells run → run.place ≤ p → p < run.place + (run.to - run.from) → 1 ≤ times p (cells_of cells run)
+  times-run : (run : Run) (p : ℕ) → IsRun cells run → run.place ≤ p → p < run.place + (run.last + 1 - run.from) → 1 ≤ times p (cells_of cells run)
   times-run run p is le lt =
       let same = sym (times-places p (cells_of cells run)) ∙ ap (count_by (λ (k : ℕ). k == p)) is.row in
-      omega (arith, same, times-row p run.place (run.to - run.from) le lt)
+      omega (arith, same, times-row p run.place (run.last + 1 - run.from) le lt)
 
   times-first : (run : Run) (runs : List Run) (p : ℕ) → times p (flat_map (cells_of cells) (run ∷ runs)) ≡ times p (cells_of cells run) + times p (flat_map (cells_of cells) runs)
   times-first run runs p = sum_by-append (λ cell. cond (cell.0 == p) 1 0) (cells_of cells run) (flat_map (cells_of cells) runs)
 
   -- the next of two runs begins behind the first one, where no place is in both
   next_run : (run other : Run) (runs : List Run) → IsRun cells run → IsRun cells other → run.place ≤ other.place
-      → times other.place (flat_map (cells_of cells) (run ∷ other ∷ runs)) ≤ 1 → run.place + (run.to - run.from) ≤ other.place
-  next_run run other runs is is_other le once = elim (cases_lt other.place (run.place + (run.to - run.from))) [
+      → times other.place (flat_map (cells_of cells) (run ∷ other ∷ runs)) ≤ 1 → run.place + (run.last + 1 - run.from) ≤ other.place
+  next_run run other runs is is_other le once = elim (cases_lt other.place (run.place + (run.last + 1 - run.from))) [
     | inl lt ↦
         let here = times-run run other.place is le lt in
         let there = times-run other other.place is_other (omega arith) (omega (arith, is_other.some)) in
@@ -172,16 +243,16 @@ module _ (cells : List (ℕ × ℕ)) where
   RisesFrom-runs low [] are sorted once begins = tt
   RisesFrom-runs low (run ∷ runs) are sorted once begins =
       let is = All-head (IsRun cells) run runs are in
-      let high = run.place + (run.to - run.from) in
+      let high = run.place + (run.last + 1 - run.from) in
       let rest = places_of (flat_map (cells_of cells) runs) in
-      let parts : places_of (flat_map (cells_of cells) (run ∷ runs)) ≡ places_from run.place (run.to - run.from) ++ rest =
+      let parts : places_of (flat_map (cells_of cells) (run ∷ runs)) ≡ places_from run.place (run.last + 1 - run.from) ++ rest =
       map-append (λ (cell : ℕ × ℕ). cell.0) (cells_of cells run) (flat_map (cells_of cells) runs) ∙ ap (λ (list : List ℕ). list ++ rest) is.row in
-      subst (RisesFrom low) (sym parts) (RisesFrom-row low run.place (run.to - run.from) rest begins
+      subst (RisesFrom low) (sym parts) (RisesFrom-row low run.place (run.last + 1 - run.from) rest begins
       (RisesFrom-runs high runs (All-tail (IsRun cells) run runs are) (λ i j d le lt. sorted (suc i) (suc j) d (omega arith) (omega arith))
       (λ p. omega (arith, once p, times-first run runs p)) (begins_next runs is (All-tail (IsRun cells) run runs are) sorted once)))
     where
       begins_next : (runs : List Run) → IsRun cells run → All (IsRun cells) runs → IsNonDecreasingBy (λ run. run.place) (run ∷ runs)
-          → ((p : ℕ) → times p (flat_map (cells_of cells) (run ∷ runs)) ≤ 1) → BeginsAt (run.place + (run.to - run.from)) runs
+          → ((p : ℕ) → times p (flat_map (cells_of cells) (run ∷ runs)) ≤ 1) → BeginsAt (run.place + (run.last + 1 - run.from)) runs
       begins_next [] is are sorted once = tt
       begins_next (other ∷ runs) is are sorted once =
           next_run run other runs is (All-head (IsRun cells) other runs are) (sorted 0 1 run (omega arith) (omega arith)) (once other.place)

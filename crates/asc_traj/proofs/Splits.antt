@@ -1,15 +1,14 @@
 -- Cells put behind two lists: those that were read first, and those that were written.
-use Rattle.std.proofs.Common.{◌≡◌, ℕ, zero, suc, ◌+◌, ◌-◌, ◌<◌, ◌≤◌, Bool, true, false, cond, List, [], ◌∷◌, ◌++◌, length, map, take, drop, get_or, slice_index, vec_capacity, vec_len, if◌then◌else◌, refl, sym, ap, subst, ◌∙◌, arith}
+use Rattle.std.proofs.Common.{◌≡◌, ℕ, zero, suc, ◌+◌, ◌<◌, ◌≤◌, Bool, true, false, cond, List, [], ◌∷◌, ◌++◌, length, map, get_or, slice_index, vec_capacity, vec_len, if◌then◌else◌, refl, sym, ap, subst, ◌∙◌, arith}
 use Rattle.std.specs.Prelude.{All, filter}
 use Rattle.std.specs.Global.{Vec}
-use Rattle.std.proofs.lemmas.List.{append-nil, append_assoc, drop-map, length-append, length-drop, length-take, map-append, take-map}
+use Rattle.std.proofs.lemmas.List.{append-nil, append_assoc, length-append, map-append}
 use Rattle.std.proofs.lemmas.List.Elements.{All-head, All-tail, filter-append}
 use Rattle.asc_model.specs.declared.status.Status.{Status}
 use Rattle.asc_model.specs.Places.{places_from}
 use Rattle.asc_shape.specs.Face.{status_at}
 use Rattle.asc_depvec.specs.Tracer.{HaveStatus, Tracing}
-use Rattle.asc_traj.specs.declared.entry.Run.{Run}
-use Rattle.asc_traj.specs.Inside.{IsRow, IsRun, Splits, cells_of, is_read_first, is_written, read_first, written}
+use Rattle.asc_traj.specs.Inside.{IsRow, Splits, is_read_first, is_written, read_first, written}
 use Rattle.asc_traj.proofs.Places.{places_of}
 
 -- ---- one after another
@@ -56,40 +55,6 @@ IsRow-from place [] row = refl
 IsRow-from place (cell ∷ cells) row =
     let first : place ≡ cell.0 = cc in
     subst (λ (p : ℕ). places_of (cell ∷ cells) ≡ places_from p (suc (length cells))) first row
-
--- some of places in a row
-part_of_places : (place m k n : ℕ) → k + n ≤ m → take n (drop k (places_from place m)) ≡ places_from (place + k) n
-part_of_places place m zero zero le = refl
-part_of_places place zero zero (suc n) le = absurd (omega arith)
-part_of_places place (suc m) zero (suc n) le =
-    let same : place ≡ place + 0 = omega arith in
-    let next : place + 1 + 0 ≡ place + 0 + 1 = omega arith in
-    ap (λ (list : List ℕ). place ∷ list) (part_of_places (place + 1) m zero n (omega arith))
-    ∙ ap (λ (p : ℕ). place ∷ places_from p n) next
-    ∙ ap (λ (p : ℕ). p ∷ places_from (place + 0 + 1) n) same
-part_of_places place zero (suc k) zero le = absurd (omega arith)
-part_of_places place zero (suc k) (suc n) le = absurd (omega arith)
-part_of_places place (suc m) (suc k) n le =
-    let same : place + 1 + k ≡ place + suc k = omega arith in
-    part_of_places (place + 1) m k n (omega arith) ∙ ap (λ (p : ℕ). places_from p n) same
-
--- some cells of a row are a row
-pub IsRow-part : (cells : List (ℕ × ℕ)) (k n : ℕ) → IsRow cells → k + n ≤ length cells → IsRow (take n (drop k cells))
-IsRow-part cells k n row le =
-    let first = (get_or cells 0 (0, 0)).0 in
-    let size : length (take n (drop k cells)) ≡ n = omega (arith, length-take n (drop k cells), length-drop k cells) in
-    IsRow-from (first + k) (take n (drop k cells))
-    (sym (take-map (λ (cell : ℕ × ℕ). cell.0) n (drop k cells))
-    ∙ ap (take n) (sym (drop-map (λ (cell : ℕ × ℕ). cell.0) k cells))
-    ∙ ap (λ (list : List ℕ). take n (drop k list)) row
-    ∙ part_of_places first (length cells) k n le
-    ∙ ap (places_from (first + k)) (sym size))
-
--- the cells of a run are a row
-pub IsRow-run : (cells : List (ℕ × ℕ)) (run : Run) → IsRun cells run → IsRow (cells_of cells run)
-IsRow-run cells run is =
-    let size : length (cells_of cells run) ≡ run.to - run.from = omega (arith, length-take (run.to - run.from) (drop run.from cells), length-drop run.from cells, is.most) in
-    IsRow-from run.place (cells_of cells run) (is.row ∙ ap (places_from run.place) (sym size))
 
 -- ---- cells of one status
 

@@ -60,10 +60,14 @@ IsRow cells = map (λ cell. cell.0) cells ≡ places_from (slice_index_or cells 
 
 -- the cells of a run
 abbrev pub cells_of : List (ℕ × ℕ) → Run → List (ℕ × ℕ)
-cells_of cells run = take (run.to - run.from) (drop run.from cells)
+cells_of cells run = take (run.last + 1 - run.from) (drop run.from cells)
 
--- a run of cells: at least one of them, and each at the place behind that of the one before
-pub record IsRun (cells : List (ℕ × ℕ)) (run : Run) : Type 0 where
-  pub some : run.from < run.to
-  pub most : run.to ≤ length cells
-  pub row : map (λ cell. cell.0) (cells_of cells run) ≡ places_from run.place (run.to - run.from)
+-- at least one cell, from one up to another, at places one after another from this one on
+pub record IsStretch (cells : List (ℕ × ℕ)) (place from to : ℕ) : Type 0 where
+  pub some : from < to
+  pub most : to ≤ length cells
+  pub row : map (λ cell. cell.0) (take (to - from) (drop from cells)) ≡ places_from place (to - from)
+
+-- a run of cells
+abbrev pub IsRun : List (ℕ × ℕ) → Run → Type 0
+IsRun cells run = IsStretch cells run.place run.from (run.last + 1)

@@ -1,4 +1,4 @@
-ghost use Rattle.std.specs.Prelude.{◌≡◌, ◌+◌, ◌≤◌, ◌<◌, ◌^◌, ◌==◌, ◌++◌, true, false, All, IfOk, Some, flat_map, length, map, slice_index, slice_index_or, take, drop, vec_capacity, vec_len};
+ghost use Rattle.std.specs.Prelude.{◌≡◌, ◌+◌, ◌-◌, ◌≤◌, ◌<◌, ◌^◌, ◌==◌, ◌++◌, true, false, All, IfOk, Some, flat_map, length, map, slice_index, slice_index_or, take, drop, vec_capacity, vec_len};
 ghost use Rattle.std.specs.List.{list_all};
 ghost use Rattle.std.specs.Arc.{arc_value};
 ghost use Rattle.asc_model.specs.Shape.{length_of};
@@ -6,10 +6,10 @@ ghost use Rattle.asc_model.specs.Entry.{IsTrueEntry, Matches, put_entry, entry_o
 ghost use Rattle.asc_model.specs.Step.{At};
 ghost use Rattle.asc_model.specs.Plain.{plain};
 ghost use Rattle.asc_model.specs.Places.{places_from};
-ghost use Rattle.asc_depvec.specs.Tracer.{IsTracing};
+ghost use Rattle.asc_depvec.specs.Tracer.{IsTracing, most_cap};
 ghost use Rattle.asc_traj.specs.Content.{matches};
 ghost use Rattle.asc_traj.specs.Trace.{StandsFor, origin_of};
-ghost use Rattle.asc_traj.specs.Inside.{HasRoomFor, IsRow, IsRun, Splits, cells_of, read_first, written};
+ghost use Rattle.asc_traj.specs.Inside.{HasRoomFor, IsRow, IsRun, IsStretch, Splits, cells_of, read_first, written};
 
 use crate::tracing::known;
 use asc_depvec::Tracer;
@@ -141,32 +141,34 @@ fn has_bytes(state: &State, cells: &[(u32, u8)]) -> bool
     cells.iter().all(|&(place, byte)| state.get(place) == byte)
 }
 
-/// Cells that were listed one after another, at places one after another.
+/// Cells listed one after another, at places one after another. It has where the first and the last are listed, which
+/// is below `MOST_CAP`, and the place of the first. It takes 8 bytes: for so few the sort has code of its own.
 #[derive(Clone, Copy)]
 struct Run {
     place: u32,
-    from: u32,
-    to: u32,
+    from: u16,
+    last: u16,
 }
 
 /// The runs that cells are made of, in their order.
 #[inline(never)]
 fn runs_of(alloc: Global, cells: &[(u32, u8)]) -> Result<Vec<Run>, AllocError>
-    requires { length cells.now ≤ 65536 }
+    requires most { length cells.now ≤ most_cap }
+    requires low { All (λ cell. cell.0 < 2 ^ 31) cells.now }
     ensures runs { IfOk result (λ runs. All (IsRun cells.now) runs.items) }
     ensures whole { IfOk result (λ runs. flat_map (cells_of cells.now) runs.items ≡ cells.now) }
 {
-    // Most are words.
-    let mut runs = Vec::with_capacity(alloc, cells.len() / 4)?;
+    // There are no more runs than cells.
+    let mut runs = Vec::with_capacity(alloc, cells.len())?;
     let mut from = 0;
     while from < cells.len() {
         let place = cells[from].0;
         let to = end_of(cells, from, place);
-        runs.push(Run {
+        runs.push_reserved(Run {
             place,
-            from: from as u32,
-            to: to as u32,
-        })?;
+            from: from as u16,
+            last: (to - 1) as u16,
+        });
         from = to;
     }
     Ok(runs)
@@ -175,51 +177,81 @@ fn runs_of(alloc: Global, cells: &[(u32, u8)]) -> Result<Vec<Run>, AllocError>
 /// Where the run ends that begins there, at this place.
 #[inline]
 fn end_of(cells: &[(u32, u8)], from: usize, place: u32) -> usize
-    requires most { length cells.now ≤ 65536 }
+    requires most { length cells.now ≤ most_cap }
+    requires low { All (λ cell. cell.0 < 2 ^ 31) cells.now }
     requires from { from < length cells.now }
     requires place { (slice_index_or cells.now from (0, 0)).0 ≡ place }
-    ensures { IsRun cells.now (record { place = place; from = from; to = result }) }
+    ensures { IsStretch cells.now place from result }
 {
-    let mut to = from + piece_of(cells, from);
-    let mut next = place as usize + (to - from);
-    while to < cells.len() && cells[to].0 as usize == next {
-        let piece = piece_of(cells, to);
-        to += piece;
-        next += piece;
+    if !is_word(cells, from) {
+        return end_of_cells(cells, from, place, from + 1);
+    }
+    let to = from + 4;
+    // Most runs are one word: it is tested apart, with no loop.
+    if to < cells.len() && cells[to].0 == place + 4 {
+        end_of_words(cells, from, place, to)
+    } else {
+        to
+    }
+}
+
+/// Where the run ends that begins at `from` and has all cells before `least`. It goes on by words, and from the first
+/// cell that begins none, by cells.
+#[inline]
+fn end_of_words(cells: &[(u32, u8)], from: usize, place: u32, least: usize) -> usize
+    requires most { length cells.now ≤ most_cap }
+    requires low { All (λ cell. cell.0 < 2 ^ 31) cells.now }
+    requires place { place < 2 ^ 31 }
+    requires begun { IsStretch cells.now place from least }
+    ensures { IsStretch cells.now place from result }
+{
+    let mut to = least;
+    let mut next = place + (to - from) as u32;
+    while to < cells.len() && cells[to].0 == next {
+        if !is_word(cells, to) {
+            return end_of_cells(cells, from, place, to + 1);
+        }
+        to += 4;
+        next += 4;
     }
     to
 }
 
-/// How many of the cells from there on are looked at together: the four of a word, or one.
+/// Where the run ends that begins at `from` and has all cells before `least`, cell by cell.
 #[inline]
-fn piece_of(cells: &[(u32, u8)], at: usize) -> usize
-    requires { at < length cells.now }
-    ensures some { 0 < result }
-    ensures most { at + result ≤ length cells.now }
-    ensures row { map (λ cell. cell.0) (take result (drop at cells.now))
-        ≡ places_from (slice_index_or cells.now at (0, 0)).0 result }
+fn end_of_cells(cells: &[(u32, u8)], from: usize, place: u32, least: usize) -> usize
+    requires most { length cells.now ≤ most_cap }
+    requires place { place < 2 ^ 31 }
+    requires begun { IsStretch cells.now place from least }
+    ensures { IsStretch cells.now place from result }
 {
-    let place = cells[at].0 as usize;
-    if cells.len() - at < 4 {
-        return 1;
+    let mut to = least;
+    let mut next = place + (to - from) as u32;
+    while to < cells.len() && cells[to].0 == next {
+        to += 1;
+        next += 1;
     }
-    let is_word = cells[at + 1].0 as usize == place + 1
-        && cells[at + 2].0 as usize == place + 2
-        && cells[at + 3].0 as usize == place + 3;
-    if is_word { 4 } else { 1 }
+    to
 }
 
-/// The cells of a run.
+/// Whether the four cells from there on are those of four places in a row.
 #[inline]
-fn cells_of(cells: &[(u32, u8)], run: Run) -> &[(u32, u8)]
-    requires { IsRun cells.now run }
-    ensures { result.now ≡ cells_of cells.now run }
+fn is_word(cells: &[(u32, u8)], at: usize) -> bool
+    requires at { at < length cells.now }
+    requires low { (slice_index_or cells.now at (0, 0)).0 < 2 ^ 31 }
+    ensures most { result ≡ true → at + 4 ≤ length cells.now }
+    ensures row { result ≡ true → map (λ cell. cell.0) (take 4 (drop at cells.now))
+        ≡ places_from (slice_index_or cells.now at (0, 0)).0 4 }
 {
-    &cells[run.from as usize..run.to as usize]
+    let place = cells[at].0;
+    if cells.len() - at < 4 {
+        return false;
+    }
+    cells[at + 1].0 == place + 1 && cells[at + 2].0 == place + 2 && cells[at + 3].0 == place + 3
 }
 
-/// Those of the touched places that were read before they were written, each with its byte, and those that were
-/// written, each with the byte that it has now, run by run.
+/// Two lists, run by run. The first has the touched places that were read before they were written, each with its
+/// byte. The second has those that were written, each with its byte now.
 #[inline(never)]
 fn split(
     alloc: Global,
@@ -239,7 +271,7 @@ fn split(
     let mut reads = Vec::with_capacity(alloc, touched.len())?;
     let mut writes = Vec::with_capacity(alloc, touched.len())?;
     for run in runs {
-        split_run(tracer, cells_of(touched, *run), &mut reads, &mut writes);
+        split_run(tracer, touched, *run, &mut reads, &mut writes);
     }
     Ok((reads, writes))
 }
@@ -249,21 +281,23 @@ fn split(
 fn split_run(
     tracer: &Tracer,
     cells: &[(u32, u8)],
+    run: Run,
     reads: &mut Vec<(u32, u8)>,
     writes: &mut Vec<(u32, u8)>,
 )
     requires own { tracer.now.state.shape ≡ tracer.now.shape }
     requires places { All (λ cell. cell.0 < length_of tracer.now.state.shape) cells.now }
-    requires row { IsRow cells.now }
-    requires room { HasRoomFor reads.old writes.old (length cells.now) }
-    ensures { Splits tracer.now cells.now reads.old writes.old reads.new writes.new }
+    requires run { IsRun cells.now run }
+    requires room { HasRoomFor reads.old writes.old (run.last + 1 - run.from) }
+    ensures { Splits tracer.now (cells_of cells.now run) reads.old writes.old reads.new writes.new }
 {
-    let mut at = 0;
-    while cells.len() - at >= 4 {
+    let end = run.last as usize + 1;
+    let mut at = run.from as usize;
+    while end - at >= 4 {
         split_word(tracer, &cells[at..at + 4], reads, writes);
         at += 4;
     }
-    split_cells(tracer, &cells[at..], reads, writes);
+    split_cells(tracer, &cells[at..end], reads, writes);
 }
 
 /// Puts the four cells of a word behind the lists, at once where their places have one status.

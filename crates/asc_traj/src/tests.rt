@@ -211,7 +211,7 @@ struct Case {
     writes: &'static [Run],
 }
 
-const CASES: [Case; 4] = [
+const CASES: [Case; 5] = [
     // ADDI x10, x10, 1
     Case {
         words: &[0x0015_0513],
@@ -266,6 +266,19 @@ const CASES: [Case; 4] = [
             (24, &[0xAA, 0xBB, 0xCC, 0xDD]),
             (384, &[0x44, 0x33, 0x22, 0x11]),
         ],
+    },
+    // LHU x6, 0(x10)
+    Case {
+        words: &[0x0005_5303],
+        x10: 0x10100,
+        x5: 0,
+        reads: &[
+            (0, &[0, 0, 1, 0]),
+            (40, &[0, 1, 1, 0]),
+            (128, &[3, 0x53, 5, 0]),
+            (384, &[0xAA, 0xBB]),
+        ],
+        writes: &[(0, &[4, 0, 1, 0]), (24, &[0xAA, 0xBB, 0, 0])],
     },
 ];
 

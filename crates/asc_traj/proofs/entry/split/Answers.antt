@@ -1,17 +1,24 @@
-use Rattle.std.proofs.Common.{◌≡◌, ℕ, List, length, get_or, ap, ◌∙◌, arith}
+use Rattle.std.proofs.Common.{◌≡◌, ◌+◌, ◌-◌, length, drop, get_or, arith}
+use Rattle.std.proofs.lemmas.List.{length-drop, length-take}
 use Rattle.std.proofs.lemmas.List.Folds.{length-flat_map-take}
 use Rattle.asc_traj.specs.declared.entry.Run.{Run}
 use Rattle.asc_traj.specs.Inside.{cells_of}
 use Rattle.asc_traj.proofs.entry.split.Goals as goal
 
+pub split_run-requires-clause-own : goal.split_run-requires-clause-own
+split_run-requires-clause-own c =
+    let d : Run = record { place = 0; from = 0; last = 0 } in
+    let is = c.requires.runs c.loop-run.run-index d c.loop-run-test.true in
+    c.requires.tracer.own (omega (arith, is.most))
+
 pub split_run-requires-clause-room : goal.split_run-requires-clause-room
 split_run-requires-clause-room c =
-    let cells = cells_of c.args.tracer.now.touched in
-    let d : Run = record { place = 0; from = 0; to = 0 } in
-    let run : c.cells_of.result.now ≡ cells (get_or c.args.runs.now c.loop-run.run-index d) =
-    c.cells_of.ensures ∙ ap (λ (list : List (ℕ × ℕ)). cells_of list (get_or c.args.runs.now c.loop-run.run-index d)) c.touched-touched.ensures in
-    let size = ap (λ (list : List (ℕ × ℕ)). length list) run in
-    let all = length-flat_map-take cells c.args.runs.now c.loop-run.run-index d c.loop-run-test.true in
+    let touched = c.args.tracer.now.touched in
+    let d : Run = record { place = 0; from = 0; last = 0 } in
+    let run = get_or c.args.runs.now c.loop-run.run-index d in
+    let is = c.requires.runs c.loop-run.run-index d c.loop-run-test.true in
+    let size : length (cells_of touched run) ≡ run.last + 1 - run.from = omega (arith, length-take (run.last + 1 - run.from) (drop run.from touched), length-drop run.from touched, is.some, is.most) in
+    let all = length-flat_map-take (cells_of touched) c.args.runs.now c.loop-run.run-index d c.loop-run-test.true in
     record {
       reads = omega (arith, size, all, c.requires.most, c.loop-run.invariant.reads_len, c.loop-run.invariant.reads_room);
       writes = omega (arith, size, all, c.requires.most, c.loop-run.invariant.writes_len, c.loop-run.invariant.writes_room);

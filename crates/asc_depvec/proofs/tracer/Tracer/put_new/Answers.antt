@@ -19,24 +19,24 @@ invariant_of-self c =
     let t = c.self.inside in
     let is_word = IsWord-from t _ c.args.place c.self.view_is c.shape.ensures.state c.self.invariant c.requires.place c.requires.room in
     let untouched = c.have_mark.ensures c.if-have_mark.true in
-    let did = MarksAs-new t c.args.place _ Written _ _ c.mark_word.new.marks c.note_word.new.touched c.self.invariant is_word refl c.deref.ensures.value untouched
-    c.deref_mut.ensures.value c.mark_word.auto.marks c.mark_word.ensures c.note_word.ensures.touched c.note_word.ensures.capacity in
+    let did = MarksAs-new t c.args.place _ Written _ _ c.mark_word.new.marks c.push_word.new.self c.self.invariant is_word refl c.deref.ensures.value untouched
+    c.deref_mut.ensures.value c.mark_word.auto.marks c.mark_word.ensures c.push_word.ensures.items c.push_word.ensures.cap in
     let same = state_read t.state c.get_word-before.new.self (places_from c.args.place 4) c.get_word-before.ensures.face in
     let put = state_put c.get_word-before.new.self c.put_word.new.self (cells c.args.place (bytes_of 4 c.args.word)) c.put_word.ensures.face
     ∙ ap (λ (s : State). let later : State = record s { bytes = bytes_after s.bytes (cells c.args.place (bytes_of 4 c.args.word)) } in later) same in
-    IsTracer-after_word t c.put_word.new.self _ _ _ c.note_word.new.touched c.self.invariant is_word.own (ap (λ (s : State). s.shape) put) did
+    IsTracer-after_word t c.put_word.new.self _ _ _ c.push_word.new.self c.self.invariant is_word.own (ap (λ (s : State). s.shape) put) did
 
 pub returns-then-have_mark : goal.returns-then-have_mark
 returns-then-have_mark c =
     let t = c.self.inside in
     let is_word = IsWord-from t _ c.args.place c.self.view_is c.shape.ensures.state c.self.invariant c.requires.place c.requires.room in
     let untouched = c.have_mark.ensures c.if-have_mark.true in
-    let did = MarksAs-new t c.args.place _ Written _ _ c.mark_word.new.marks c.note_word.new.touched c.self.invariant is_word refl c.deref.ensures.value untouched
-    c.deref_mut.ensures.value c.mark_word.auto.marks c.mark_word.ensures c.note_word.ensures.touched c.note_word.ensures.capacity in
+    let did = MarksAs-new t c.args.place _ Written _ _ c.mark_word.new.marks c.push_word.new.self c.self.invariant is_word refl c.deref.ensures.value untouched
+    c.deref_mut.ensures.value c.mark_word.auto.marks c.mark_word.ensures c.push_word.ensures.items c.push_word.ensures.cap in
     let same = state_read t.state c.get_word-before.new.self (places_from c.args.place 4) c.get_word-before.ensures.face in
     let put = state_put c.get_word-before.new.self c.put_word.new.self (cells c.args.place (bytes_of 4 c.args.word)) c.put_word.ensures.face
     ∙ ap (λ (s : State). let later : State = record s { bytes = bytes_after s.bytes (cells c.args.place (bytes_of 4 c.args.word)) } in later) same in
-    record { face = face-put_new t _ _ c.args.place _ c.args.word _ _ c.note_word.new.touched c.self.view_is is_word put c.get_word-before.ensures.word c.deref.ensures.value untouched did }
+    record { face = face-put_new t _ _ c.args.place _ c.args.word _ _ c.push_word.new.self c.self.view_is is_word put c.get_word-before.ensures.word c.deref.ensures.value untouched did }
 
 pub invariant_of-self-then-have_mark-2 : goal.invariant_of-self-then-have_mark-2
 invariant_of-self-then-have_mark-2 c =

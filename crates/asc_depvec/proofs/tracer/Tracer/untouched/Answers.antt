@@ -12,7 +12,7 @@ invariant_of-result c =
     record {
       cap = c.requires.cap;
       room = omega (arith, ap (λ (list : List (ℕ × ℕ)). length list) c.requires.none);
-      reserved = c.requires.reserved;
+      filled = c.requires.filled;
       places = subst (λ (list : List (ℕ × ℕ)). Fits (length_of c.shape.result) (statuses_of c.args.marks.items) list) (sym c.requires.none)
           (FitPlaces-fresh (length_of c.shape.result) c.args.marks.items (c.requires.marks ∙ ap (λ (s : Shape). replicate (length_of s) 3) (sym own)));
       other = λ e. c.requires.none;

@@ -24,7 +24,7 @@ invariant_of-self c =
     let t = c.self.inside in
     let has = HasRoom-from t _ c.self.view_is c.requires.room in
     let did = Touches-from t _ t.state c.args.place c.get-byte.result c.index.result.now c.status_of-status.result c.mark_of.result c.note.new.touched c.self.view_is c.shape.ensures.state
-    c.self.invariant has c.requires.place refl c.index.ensures c.status_of-status.ensures (ap is_untouched (c.mark_of.ensures ∙ c.after_read.ensures) ∙ touched-after_read _) c.note.ensures.touched c.note.ensures.capacity in
+    c.self.invariant has c.requires.place refl c.index.ensures c.status_of-status.ensures (ap is_untouched (c.mark_of.ensures ∙ c.after_read.ensures) ∙ touched-after_read _) c.note.ensures.touched c.note.ensures.cap in
     IsTracer-after_touch t t.state c.args.place _ _ c.mark_of.result c.note.new.touched c.self.invariant has did
 
 pub returns-clause-face : goal.returns-clause-face
@@ -32,5 +32,5 @@ returns-clause-face c =
     let t = c.self.inside in
     let has = HasRoom-from t _ c.self.view_is c.requires.room in
     let did = Touches-from t _ t.state c.args.place c.get-byte.result c.index.result.now c.status_of-status.result c.mark_of.result c.note.new.touched c.self.view_is c.shape.ensures.state
-    c.self.invariant has c.requires.place refl c.index.ensures c.status_of-status.ensures (ap is_untouched (c.mark_of.ensures ∙ c.after_read.ensures) ∙ touched-after_read _) c.note.ensures.touched c.note.ensures.capacity in
+    c.self.invariant has c.requires.place refl c.index.ensures c.status_of-status.ensures (ap is_untouched (c.mark_of.ensures ∙ c.after_read.ensures) ∙ touched-after_read _) c.note.ensures.touched c.note.ensures.cap in
     face-read t _ c.args.place _ _ c.mark_of.result c.note.new.touched c.self.view_is has did (c.mark_of.ensures ∙ c.after_read.ensures) c.get-byte.ensures

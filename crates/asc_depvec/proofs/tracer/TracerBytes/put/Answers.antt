@@ -30,7 +30,7 @@ invariant_of-self c =
     let t = c.self.inside in
     let has = HasRoom-from t _ c.self.view_is c.requires.room in
     let did = Touches-from t _ c.set.new.self c.args.place c.get-before.result c.index.result.now c.status_of-status.result c.mark_of.result c.note.new.touched c.self.view_is c.shape.ensures.state
-    c.self.invariant has c.requires.place (ap (λ (s : State). s.shape) c.set.ensures) c.index.ensures c.status_of-status.ensures (ap is_untouched (c.mark_of.ensures ∙ c.after_write.ensures) ∙ touched-after_write _) c.note.ensures.touched c.note.ensures.capacity in
+    c.self.invariant has c.requires.place (ap (λ (s : State). s.shape) c.set.ensures) c.index.ensures c.status_of-status.ensures (ap is_untouched (c.mark_of.ensures ∙ c.after_write.ensures) ∙ touched-after_write _) c.note.ensures.touched c.note.ensures.cap in
     IsTracer-after_touch t c.set.new.self c.args.place _ _ c.mark_of.result c.note.new.touched c.self.invariant has did
 
 pub returns : goal.returns
@@ -38,5 +38,5 @@ returns c =
     let t = c.self.inside in
     let has = HasRoom-from t _ c.self.view_is c.requires.room in
     let did = Touches-from t _ c.set.new.self c.args.place c.get-before.result c.index.result.now c.status_of-status.result c.mark_of.result c.note.new.touched c.self.view_is c.shape.ensures.state
-    c.self.invariant has c.requires.place (ap (λ (s : State). s.shape) c.set.ensures) c.index.ensures c.status_of-status.ensures (ap is_untouched (c.mark_of.ensures ∙ c.after_write.ensures) ∙ touched-after_write _) c.note.ensures.touched c.note.ensures.capacity in
+    c.self.invariant has c.requires.place (ap (λ (s : State). s.shape) c.set.ensures) c.index.ensures c.status_of-status.ensures (ap is_untouched (c.mark_of.ensures ∙ c.after_write.ensures) ∙ touched-after_write _) c.note.ensures.touched c.note.ensures.cap in
     record { face = face-put t _ c.set.new.self c.args.place c.args.byte _ _ c.mark_of.result c.note.new.touched c.self.view_is has did (c.mark_of.ensures ∙ c.after_write.ensures) c.get-before.ensures c.set.ensures }

@@ -9,9 +9,13 @@ use Rattle.asc_model.specs.Entry.{IsTrueEntry}
 use Rattle.asc_shape.specs.Face.{status_at}
 use Rattle.asc_traj.specs.declared.entry.Run.{Run}
 use Rattle.asc_traj.specs.Inside.{IsRun, cells_of, is_read_first, is_written}
-use Rattle.asc_traj.proofs.Entries.{Makes, entry_is, entry_true, runs_make, touched_places}
+use Rattle.asc_traj.proofs.Entries.{Makes, entry_is, entry_true, runs_make, touched_low, touched_places}
 use Rattle.asc_traj.proofs.Runs.{length-runs}
 use Rattle.asc_traj.proofs.entry.Entry.of.Goals as goal
+
+pub runs_of-requires-clause-low : goal.runs_of-requires-clause-low
+runs_of-requires-clause-low c =
+    subst (All (λ cell. cell.0 < 2 ^ 31)) (sym c.touched-2.ensures) (touched_low c.args.tracer.now c.known.ensures.state c.requires.stands.touched)
 
 pub split-requires-clause-places : goal.split-requires-clause-places
 split-requires-clause-places c = touched_places c.args.tracer.now c.known.ensures.state c.requires.stands.touched
