@@ -106,6 +106,10 @@ def ways(words):
     met = 0x10000 + 4 * next(i for i, word in enumerate(words) if word & 0x707F == 0x1063)
     return [], ["--report", "--guess", "none", "--pc", "ffffc"], ["--report", "--guess", "none", "--pc", f"{met:x}"]
 
+# By this the C library fills and copies long pieces by wide writes. Else it takes string instructions, of which callgrind
+# counts each byte.
+WIDE = {"GLIBC_TUNABLES": ":".join(f"glibc.cpu.x86_rep_{name}_threshold={1 << 30}" for name in ("stosb", "movsb"))}
+
 def instructions(command):
     """The processor's instructions of a run."""
     tool = ["valgrind", "--tool=callgrind", f"--callgrind-out-file={os.devnull}"]

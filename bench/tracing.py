@@ -16,7 +16,7 @@ of a trace of all steps, and for `start` of a tracer of a state of 1 MiB.
 With --count it prints the processor's instructions, as `valgrind --tool=callgrind` counts them and independent of load,
 and STEPS is 200,000 where it is not given: for a step of a `State` by `step_many`, and of a trace; and with traces of 1000
 steps how many places they touch, and what they cost more a touched place for the first touch with `reset`, and for
-`Entry::of`.
+`Entry::of`. Long fills of the C library are counted as wide writes, and not byte by byte.
 """
 
 import os
@@ -30,7 +30,7 @@ from pathlib import Path
 # What is imported leaves no compiled file beside it.
 sys.dont_write_bytecode = True
 
-from loops import ROOT, addi, counted, loops, lui, lw, op, sw
+from loops import ROOT, WIDE, addi, counted, loops, lui, lw, op, sw
 
 # ---------------------------------------------------------------------------------------------------------------------
 # The program
@@ -85,6 +85,9 @@ fn numbers(rt: &HostRuntime) -> Option<[u64; 4]> {{
 }}
 
 /// How many places the last round touched, where all went as it should.
+///
+/// It is never taken into `main`, so that what a step needs stays in the processor's registers.
+#[inline(never)]
 fn measured(alloc: Global, which: u64, what: u64, rounds: u64, span: u64) -> Option<usize> {{
     let mut state = looping(alloc, which)?;
     if span == 0 || !walk(&mut state, 20) {{
@@ -232,7 +235,7 @@ def seconds(command):
 def instructions(command):
     """The processor's instructions of a run, and what it printed."""
     tool = ["valgrind", "--tool=callgrind", f"--callgrind-out-file={os.devnull}"]
-    done = subprocess.run(tool + command, capture_output=True, text=True, check=True)
+    done = subprocess.run(tool + command, capture_output=True, text=True, check=True, env={**os.environ, **WIDE})
     shown = next(line for line in done.stderr.splitlines() if "Collected" in line)
     return int(shown.split(":")[1]), done.stdout
 

@@ -2,6 +2,7 @@ pub mod Cells
 pub mod Marking
 pub mod Insides
 pub mod Undoing
+pub mod WordLists
 pub mod Fresh
 pub mod UndoneReads
 pub mod Starts

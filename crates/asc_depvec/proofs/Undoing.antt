@@ -1,9 +1,9 @@
 -- Lemmas on touches taken back.
-use Rattle.std.proofs.Common.{◌≡◌, ℕ, zero, suc, ◌+◌, ◌-◌, ◌<◌, ◌≤◌, Bool, cond, List, [], ◌∷◌, ◌++◌, length, take, drop, refl, sym, ap, subst, ◌∙◌, slice_index_or, slice_set, arith, append_assoc, length-drop}
+use Rattle.std.proofs.Common.{◌≡◌, ℕ, zero, suc, ◌+◌, ◌<◌, ◌≤◌, Bool, cond, List, [], ◌∷◌, ◌++◌, length, take, drop, refl, sym, ap, subst, ◌∙◌, slice_index_or, slice_set, arith, append_assoc}
 use Rattle.std.specs.Prelude.{All}
 use Rattle.std.specs.Vec.{with_items}
 use Rattle.std.proofs.lemmas.Bool.{eq-eqb}
-use Rattle.std.proofs.lemmas.List.{append-nil, drop_more, length-set, map-set, take_all, take-append-drop, with_items_is}
+use Rattle.std.proofs.lemmas.List.{append-nil, drop_more, length-set, map-set, take-append-drop, with_items_is}
 use Rattle.std.proofs.lemmas.List.Elements.{All-cons, All-nil}
 use Rattle.asc_model.specs.declared.status.Status.{Status}
 use Rattle.asc_model.specs.declared.status.Status.TheVariants.{Untouched}
@@ -33,7 +33,7 @@ length-untouch statuses [] = refl
 length-untouch statuses (noted ∷ list) = length-set (untouch statuses list) noted.0 Untouched ∙ length-untouch statuses list
 
 -- one place untouched first is as it untouched last
-untouch-set : (statuses : List Status) (place : ℕ) (list : List (ℕ × ℕ)) → untouch (slice_set statuses place Untouched) list ≡ slice_set (untouch statuses list) place Untouched
+pub untouch-set : (statuses : List Status) (place : ℕ) (list : List (ℕ × ℕ)) → untouch (slice_set statuses place Untouched) list ≡ slice_set (untouch statuses list) place Untouched
 untouch-set statuses place [] = refl
 untouch-set statuses place (noted ∷ list) =
     ap (λ (s : List Status). slice_set s noted.0 Untouched) (untouch-set statuses place list) ∙ set-apart (untouch statuses list) place noted.0
@@ -65,11 +65,6 @@ listed (cell ∷ cells) P h =
 -- the places that are listed as touched are places
 pub touched-within : (n : ℕ) (statuses : List Status) (touched : List (ℕ × ℕ)) → Fits n statuses touched → All (λ cell. cell.0 < n) touched
 touched-within n statuses touched fits = listed touched (λ place. place < n) (λ place least. listed_within n statuses touched place fits least)
-
--- what is listed from a mark on
-pub tail_of : (read touched : List (ℕ × ℕ)) (mark : ℕ) → read ≡ touched → take (length read - mark) (drop mark read) ≡ drop mark touched
-tail_of read touched mark is =
-    take_all (length read - mark) (drop mark read) (omega (arith, length-drop mark read)) ∙ ap (drop mark) is
 
 take-none : (n : ℕ) → ◌≡◌ {A = List (ℕ × ℕ)} (take n []) []
 take-none zero = refl

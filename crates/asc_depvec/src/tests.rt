@@ -112,6 +112,9 @@ fn words(rt: HostRuntime) {
     let both = (ReadWritten, Written, ReadWritten, ReadWritten);
     let half = (ReadWritten, Written, Untouched, Untouched);
     let again = (ReadWritten, Written, Written, Written);
+    let none = (Untouched, Untouched, Untouched, Untouched);
+    let reads = (Read, Read, Read, Read);
+    let front = (Read, Read, Untouched, Untouched);
     for (call, answer, statuses, touched, last) in [
         (Put(9, 7), 0, put, 1, Some((9, 0))),
         (GetWord(8), 0x0700, read, 4, Some((11, 0))),
@@ -123,6 +126,19 @@ fn words(rt: HostRuntime) {
         (GetWord(6), 0x0605_0000, again, 6, Some((7, 0))),
         (PutWord(10, 0x0C0B_0A09), 0, again, 8, Some((13, 0))),
         (GetWord(8), 0x0A09_0605, again, 8, Some((13, 0))),
+        (Reset, 0, none, 0, None),
+        (GetWord(8), 0x0A09_0605, reads, 4, Some((11, 10))),
+        (GetWord(4), 0, reads, 8, Some((7, 0))),
+        (Undo(4), 0, reads, 4, Some((11, 10))),
+        (Undo(2), 0, front, 2, Some((9, 6))),
+        (Reset, 0, none, 0, None),
+        (GetWord(4), 0, none, 4, Some((7, 0))),
+        (GetWord(8), 0x0A09_0605, reads, 8, Some((11, 10))),
+        (Reset, 0, none, 0, None),
+        (GetWord(8), 0x0A09_0605, reads, 4, Some((11, 10))),
+        (Get(12), 11, reads, 5, Some((12, 11))),
+        (Undo(4), 0, reads, 4, Some((11, 10))),
+        (Reset, 0, none, 0, None),
     ] {
         assert_eq!(rt; make(&rt, &mut tracer, call), answer);
         assert_eq!(rt;

@@ -1,6 +1,7 @@
-ghost use Rattle.std.specs.Prelude.{◌≡◌, ◌+◌, ◌^◌, ◌<◌, ◌≤◌, [], ◌∷◌, ◌++◌, length, take, drop, slice_set, vec_capacity};
+ghost use Rattle.std.specs.Prelude.{◌≡◌, true, ◌+◌, ◌^◌, ◌<◌, ◌≤◌, [], ◌∷◌, ◌++◌, length, take, drop, slice_set, vec_capacity};
 ghost use Rattle.asc_model.specs.Number.{bytes_of};
 ghost use Rattle.asc_model.specs.Places.{cells};
+ghost use Rattle.asc_depvec.specs.Touched.{AreWords};
 
 use std::marker::Model;
 
@@ -13,17 +14,19 @@ pub(crate) struct Touched {
     noted: Vec<(u32, u8)>,
     // How many of `noted` are in use.
     count: usize,
+    // Where it is so, those in use are the places of words, four by four. A word more leaves it as it is.
+    words: bool,
 }
 
 impl Model for Touched {
-    ghost use Rattle.std.specs.Prelude.{◌≤◌, length, take};
-    ghost use Rattle.asc_depvec.specs.Touched.{Listing};
+    ghost use Rattle.std.specs.Prelude.{length, take};
+    ghost use Rattle.asc_depvec.specs.Touched.{Listing, IsTouched};
 
     ghost Value = { Listing };
 
     ghost view = { λ t. record { items = take t.count t.noted.items; cap = length t.noted.items } };
 
-    ghost invariant = { λ t. t.count ≤ length t.noted.items };
+    ghost invariant = { IsTouched };
 }
 
 impl Touched {
@@ -35,7 +38,11 @@ impl Touched {
         ensures cap { result.cap ≡ cap }
     {
         match noted.resize(cap, (0, 0)) {
-            Ok(()) => Touched { noted, count: 0 },
+            Ok(()) => Touched {
+                noted,
+                count: 0,
+                words: true,
+            },
             Err(_) => unreachable!(),
         }
     }
@@ -65,6 +72,14 @@ impl Touched {
         &self.noted[mark..self.count]
     }
 
+    /// Where it is so, those behind the first `mark` are the places of words, four by four.
+    #[inline]
+    pub(crate) fn are_words_since(&self, mark: usize) -> bool
+        ensures { result ≡ true → AreWords (drop mark self.now.items) }
+    {
+        self.words && mark % 4 == 0
+    }
+
     /// Lists one place more.
     #[inline]
     pub(crate) fn push(&mut self, place: u32, byte: u8)
@@ -74,6 +89,7 @@ impl Touched {
     {
         put_cell(&mut self.noted, self.count, place, byte);
         self.count += 1;
+        self.words = false;
     }
 
     /// Lists the four places of a word, each with its byte of the word.
@@ -95,6 +111,7 @@ impl Touched {
         ensures items { self.new.items ≡ take mark self.old.items }
         ensures cap { self.new.cap ≡ self.old.cap }
     {
+        self.words = mark == 0 || (self.words && mark % 4 == 0);
         self.count = mark;
     }
 }

@@ -1,4 +1,4 @@
-ghost use Rattle.std.specs.Prelude.{◌≡◌, true, ◌+◌, ◌^◌, ◌<◌, ◌≤◌, [], ◌∷◌, ◌++◌, All, IfOk, IfSome, IsNone, length, replicate, if◌then◌else◌};
+ghost use Rattle.std.specs.Prelude.{◌≡◌, true, ◌+◌, ◌^◌, ◌<◌, ◌≤◌, [], ◌∷◌, ◌++◌, All, IfOk, IfSome, IsNone, length, drop, replicate, if◌then◌else◌};
 ghost use Rattle.std.specs.Borrow.{Lends, sem};
 ghost use Rattle.asc_model.specs.declared.status.Status.{Status};
 ghost use Rattle.asc_model.specs.Number.{AreBytes, bytes_of, word_at};
@@ -9,6 +9,7 @@ ghost use Rattle.asc_shape.specs.State.{zero_state};
 ghost use Rattle.asc_shape.specs.contracts.state.State as state;
 ghost use Rattle.asc_depvec.specs.contracts.tracer.Tracer.{the_row};
 ghost use Rattle.asc_depvec.specs.Tracer.{HaveStatus, IsTracing, least_cap, most_cap, face_of, fresh, undone, untouch};
+ghost use Rattle.asc_depvec.specs.Touched.{AreWords};
 ghost use Rattle.asc_depvec.specs.Inside.{AreWritten, status_of, statuses_of, with_statuses};
 
 use crate::ReservedTracer;
@@ -214,7 +215,7 @@ impl Tracer {
         requires { mark ≤ length self.old.touched }
         ensures { self.new ≡ undone self.old mark }
     {
-        untouch(&mut self.marks, self.touched.since(mark));
+        untouch_since(&mut self.marks, &self.touched, mark);
         self.touched.truncate(mark);
     }
 
@@ -251,10 +252,29 @@ impl Tracer {
         get_by_bytes(self, place)
     }
 
-    // Puts a word in four places that are not all written, at once where all are untouched, or all only read.
+    // Puts a word in four places that are not all written, at once where all are only read.
     #[cold]
     #[inline(never)]
     fn put_new(&mut self, place: u32, word: u32)
+        requires place { place + 4 ≤ length self.old.state.bytes }
+        requires room { 4 ≤ room_of (face_of self.old).marks }
+        ensures face { face_of self.new ≡ face_after_puts (face_of self.old) (cells place (bytes_of 4 word)) }
+    {
+        // That its state is one, and its marks fit it.
+        let _ = Bytes::shape(self);
+        if have_mark(&self.marks, place, READ) {
+            mark_word(&mut self.marks, place, READ_WRITTEN);
+            Words::put_word(&mut self.state, place, word);
+        } else {
+            self.put_first(place, word);
+        }
+    }
+
+    // Puts a word in four places, at once where all are untouched. It is out of line, so that a put of a word that was
+    // read saves no registers for it.
+    #[cold]
+    #[inline(never)]
+    fn put_first(&mut self, place: u32, word: u32)
         requires place { place + 4 ≤ length self.old.state.bytes }
         requires room { 4 ≤ room_of (face_of self.old).marks }
         ensures face { face_of self.new ≡ face_after_puts (face_of self.old) (cells place (bytes_of 4 word)) }
@@ -266,15 +286,12 @@ impl Tracer {
             mark_word(&mut self.marks, place, WRITTEN);
             self.touched.push_word(place, before);
             Words::put_word(&mut self.state, place, word);
-        } else if have_mark(&self.marks, place, READ) {
-            mark_word(&mut self.marks, place, READ_WRITTEN);
-            Words::put_word(&mut self.state, place, word);
         } else {
             self.put_partly(place, word);
         }
     }
 
-    // Puts a word in four places, place by place. It is out of line, as `get_partly`.
+    // Puts a word in four places, place by place. It is rarely needed and long, so it stands out of line.
     #[cold]
     #[inline(never)]
     fn put_partly(&mut self, place: u32, word: u32)
@@ -410,6 +427,33 @@ fn mark_word(marks: &mut [u8], place: u32, mark: u8)
     marks[at + 1] = mark;
     marks[at + 2] = mark;
     marks[at + 3] = mark;
+}
+
+// Makes the places that are listed behind the first `mark` untouched, word by word where they are those of words.
+#[inline]
+fn untouch_since(marks: &mut [u8], touched: &Touched, mark: usize)
+    requires mark { mark ≤ length touched.now.items }
+    requires places { All (λ cell. cell.0 < length marks.old) (drop mark touched.now.items) }
+    ensures { statuses_of marks.new ≡ untouch (statuses_of marks.old) (drop mark touched.now.items) }
+{
+    let cells = touched.since(mark);
+    if touched.are_words_since(mark) {
+        untouch_words(marks, cells);
+    } else {
+        untouch(marks, cells);
+    }
+}
+
+// Makes the places of these words untouched.
+#[inline]
+fn untouch_words(marks: &mut [u8], cells: &[(u32, u8)])
+    requires places { All (λ cell. cell.0 < length marks.old) cells.now }
+    requires words { AreWords cells.now }
+    ensures { statuses_of marks.new ≡ untouch (statuses_of marks.old) cells.now }
+{
+    for word in 0..cells.len() / 4 {
+        mark_word(marks, cells[4 * word].0, UNTOUCHED);
+    }
 }
 
 // Makes these places untouched.

@@ -118,8 +118,9 @@ impl State {
         requires { place < length_of self.old.shape }
         ensures { self.new ≡ record self.old { bytes = slice_set self.old.bytes place byte } }
     {
-        self.changed.mark(place as usize / PAGE);
         self.bytes[place as usize] = byte;
+        // The mark comes last: so a function that ends with a put need not keep anything for it.
+        self.changed.mark(place as usize / PAGE);
     }
 
     /// The pc.
@@ -355,8 +356,9 @@ impl State {
         ensures { self.new ≡ record self.old { bytes = bytes_after self.old.bytes (cells place (bytes_of 4 word)) } }
     {
         let at = place as usize;
-        mark_word(&mut self.changed, at);
         self.bytes[at..at + 4].copy_from_slice(&word.to_le_bytes());
+        // Last, as in `set`.
+        mark_word(&mut self.changed, at);
     }
 }
 
@@ -413,12 +415,26 @@ fn mark_word(changed: &mut Marks, at: usize)
     ensures { IsMarked at 4 changed.old changed.new }
 {
     if at + 3 >= PAGE {
-        changed.mark(at / PAGE);
         // A word at a multiple of 4 lies in one page.
-        if !at.is_multiple_of(4) {
-            changed.mark((at + 3) / PAGE);
+        if at.is_multiple_of(4) {
+            changed.mark(at / PAGE);
+        } else {
+            mark_both(changed, at);
         }
     }
+}
+
+// Marks the pages of the first and of the last byte of the word at a place. It stands out of the loops, so that they
+// have one mark to set at most.
+#[cold]
+#[inline(never)]
+fn mark_both(changed: &mut Marks, at: usize)
+    requires within { at + 4 < 2 ^ 32 }
+    requires pages { (at + 3) / 4096 < length changed.old }
+    ensures { IsMarked at 4 changed.old changed.new }
+{
+    changed.mark(at / PAGE);
+    changed.mark((at + 3) / PAGE);
 }
 
 // Marks the pages of the n places from a place on.

@@ -1,5 +1,5 @@
 -- One attempt at a step of a tracer.
-use Rattle.std.proofs.Common.{◌≡◌, ℕ, ◌≤◌, true, List, [], length, take, Option, Some, None, IsSome, refl, ap, ◌∙◌, arith}
+use Rattle.std.proofs.Common.{◌≡◌, ℕ, ◌≤◌, List, [], length, take, Option, Some, None, IsSome, IsNone, refl, sym, ap, ◌∙◌, arith}
 use Rattle.std.proofs.lemmas.List.{length-take}
 use Rattle.std.specs.Option.{is_some}
 use Rattle.asc_model.specs.declared.status.Status.{Status}
@@ -10,6 +10,8 @@ use Rattle.asc_model.specs.Places.{places_read, writes}
 use Rattle.asc_model.specs.Reach.{step_room, why_no_step}
 use Rattle.asc_model.proofs.LawsHold.{step_writes_bytes}
 use Rattle.asc_shape.specs.Face.{Face, Marks, Untold, Told, room_of, face_after_reads, face_after_puts}
+use Rattle.asc_step.specs.declared.stepped.Stepped.{Stepped}
+use Rattle.asc_step.specs.declared.stepped.Stepped.TheVariants as answers
 use Rattle.asc_step.specs.Step.{face_after, stepped_of}
 use Rattle.asc_depvec.specs.Tracer.{Tracing, face_of, undone, touched_of}
 use Rattle.asc_depvec.proofs.Limits.{limits_stay}
@@ -67,7 +69,14 @@ why_of-stepped (At after) = refl
 why_of-stepped Call = refl
 why_of-stepped (Bad fault) = refl
 
--- what is told to be there is there
-pub some_by : (a b : Option Why) → a ≡ b → is_some a ≡ true → IsSome b
-some_by a None e h = absurd (cc)
-some_by a (Some why) e h = refl
+-- where a step was not taken there is a reason
+pub some_unless : (stepped : Stepped) (b : Option Why) → (stepped ≡ answers.Went → ⊥) → why_of stepped ≡ b → IsSome b
+some_unless answers.Went b other e = absurd (other refl)
+some_unless answers.Call b other e = ap is_some (sym e)
+some_unless (answers.Fault fault) b other e = ap is_some (sym e)
+
+-- what is there is not missing
+pub some_none : (a b : Option Why) → a ≡ b → IsSome b → IsNone a → ⊥
+some_none None None e some none = cc
+some_none None (Some why) e some none = cc
+some_none (Some why) b e some none = cc

@@ -10,3 +10,4 @@ pub mod Finding
 pub mod HaltSteps
 pub mod HaltShared
 pub mod Splits
+pub mod Halves

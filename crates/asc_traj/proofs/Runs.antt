@@ -41,7 +41,7 @@ HasSame-runs cells runs moved whole by = record {
       ∙ sym (sum_by-flat w (cells_of cells) runs)
       ∙ ap (sum_by w) whole;
   listed = All-flat (λ cell. Contains cells cell) (cells_of cells)
-      (λ run. All-take (λ cell. Contains cells cell) (run.last + 1 - run.from) (drop run.from cells) (All-drop (λ cell. Contains cells cell) run.from cells (All-contains_itself cells)))
+      (λ run. All-take (λ cell. Contains cells cell) (run.from + run.more + 1 - run.from) (drop run.from cells) (All-drop (λ cell. Contains cells cell) run.from cells (All-contains_itself cells)))
       moved;
 }
 
@@ -73,7 +73,7 @@ take-further from to cells le =
     ∙ take-append-drop from (take to cells)
 
 -- one run more
-pub AreRuns-more : (cells : List (ℕ × ℕ)) (from : ℕ) (runs : List Run) (run : Run) → AreRuns cells from runs → run.from ≡ from → IsRun cells run → AreRuns cells (run.last + 1) (runs ++ run ∷ [])
+pub AreRuns-more : (cells : List (ℕ × ℕ)) (from : ℕ) (runs : List Run) (run : Run) → AreRuns cells from runs → run.from ≡ from → IsRun cells run → AreRuns cells (run.from + run.more + 1) (runs ++ run ∷ [])
 AreRuns-more cells from runs run are is one = record {
   most = omega (arith, one.most);
   each = All-push (IsRun cells) runs run are.each one;
@@ -81,8 +81,8 @@ AreRuns-more cells from runs run are is one = record {
       flat_map-append (cells_of cells) runs (run ∷ [])
       ∙ ap (λ (list : List (ℕ × ℕ)). flat_map (cells_of cells) runs ++ list) (append-nil (cells_of cells run))
       ∙ ap (λ (list : List (ℕ × ℕ)). list ++ cells_of cells run) are.whole
-      ∙ ap (λ (n : ℕ). take from cells ++ take ((run.last + 1) - n) (drop n cells)) is
-      ∙ take-further from (run.last + 1) cells (omega (arith, is, one.some));
+      ∙ ap (λ (n : ℕ). take from cells ++ take ((run.from + run.more + 1) - n) (drop n cells)) is
+      ∙ take-further from (run.from + run.more + 1) cells (omega (arith, is, one.some));
 }
 
 -- ---- a stretch that grows
@@ -214,18 +214,18 @@ module _ (cells : List (ℕ × ℕ)) where
   abbrev times : ℕ → List (ℕ × ℕ) → ℕ
   times p list = count_by (λ cell. cell.0 == p) list
 
-  times-run : (run : Run) (p : ℕ) → IsRun cells run → run.place ≤ p → p < run.place + (run.last + 1 - run.from) → 1 ≤ times p (cells_of cells run)
+  times-run : (run : Run) (p : ℕ) → IsRun cells run → run.place ≤ p → p < run.place + (run.from + run.more + 1 - run.from) → 1 ≤ times p (cells_of cells run)
   times-run run p is le lt =
       let same = sym (times-places p (cells_of cells run)) ∙ ap (count_by (λ (k : ℕ). k == p)) is.row in
-      omega (arith, same, times-row p run.place (run.last + 1 - run.from) le lt)
+      omega (arith, same, times-row p run.place (run.from + run.more + 1 - run.from) le lt)
 
   times-first : (run : Run) (runs : List Run) (p : ℕ) → times p (flat_map (cells_of cells) (run ∷ runs)) ≡ times p (cells_of cells run) + times p (flat_map (cells_of cells) runs)
   times-first run runs p = sum_by-append (λ cell. cond (cell.0 == p) 1 0) (cells_of cells run) (flat_map (cells_of cells) runs)
 
   -- the next of two runs begins behind the first one, where no place is in both
   next_run : (run other : Run) (runs : List Run) → IsRun cells run → IsRun cells other → run.place ≤ other.place
-      → times other.place (flat_map (cells_of cells) (run ∷ other ∷ runs)) ≤ 1 → run.place + (run.last + 1 - run.from) ≤ other.place
-  next_run run other runs is is_other le once = elim (cases_lt other.place (run.place + (run.last + 1 - run.from))) [
+      → times other.place (flat_map (cells_of cells) (run ∷ other ∷ runs)) ≤ 1 → run.place + (run.from + run.more + 1 - run.from) ≤ other.place
+  next_run run other runs is is_other le once = elim (cases_lt other.place (run.place + (run.from + run.more + 1 - run.from))) [
     | inl lt ↦
         let here = times-run run other.place is le lt in
         let there = times-run other other.place is_other (omega arith) (omega (arith, is_other.some)) in
@@ -243,16 +243,16 @@ module _ (cells : List (ℕ × ℕ)) where
   RisesFrom-runs low [] are sorted once begins = tt
   RisesFrom-runs low (run ∷ runs) are sorted once begins =
       let is = All-head (IsRun cells) run runs are in
-      let high = run.place + (run.last + 1 - run.from) in
+      let high = run.place + (run.from + run.more + 1 - run.from) in
       let rest = places_of (flat_map (cells_of cells) runs) in
-      let parts : places_of (flat_map (cells_of cells) (run ∷ runs)) ≡ places_from run.place (run.last + 1 - run.from) ++ rest =
+      let parts : places_of (flat_map (cells_of cells) (run ∷ runs)) ≡ places_from run.place (run.from + run.more + 1 - run.from) ++ rest =
       map-append (λ (cell : ℕ × ℕ). cell.0) (cells_of cells run) (flat_map (cells_of cells) runs) ∙ ap (λ (list : List ℕ). list ++ rest) is.row in
-      subst (RisesFrom low) (sym parts) (RisesFrom-row low run.place (run.last + 1 - run.from) rest begins
+      subst (RisesFrom low) (sym parts) (RisesFrom-row low run.place (run.from + run.more + 1 - run.from) rest begins
       (RisesFrom-runs high runs (All-tail (IsRun cells) run runs are) (λ i j d le lt. sorted (suc i) (suc j) d (omega arith) (omega arith))
       (λ p. omega (arith, once p, times-first run runs p)) (begins_next runs is (All-tail (IsRun cells) run runs are) sorted once)))
     where
       begins_next : (runs : List Run) → IsRun cells run → All (IsRun cells) runs → IsNonDecreasingBy (λ run. run.place) (run ∷ runs)
-          → ((p : ℕ) → times p (flat_map (cells_of cells) (run ∷ runs)) ≤ 1) → BeginsAt (run.place + (run.last + 1 - run.from)) runs
+          → ((p : ℕ) → times p (flat_map (cells_of cells) (run ∷ runs)) ≤ 1) → BeginsAt (run.place + (run.from + run.more + 1 - run.from)) runs
       begins_next [] is are sorted once = tt
       begins_next (other ∷ runs) is are sorted once =
           next_run run other runs is (All-head (IsRun cells) other runs are) (sorted 0 1 run (omega arith) (omega arith)) (once other.place)

@@ -1,51 +1,55 @@
 -- Cells put behind two lists: those that were read first, and those that were written.
-use Rattle.std.proofs.Common.{◌≡◌, ℕ, zero, suc, ◌+◌, ◌<◌, ◌≤◌, Bool, true, false, cond, List, [], ◌∷◌, ◌++◌, length, map, get_or, slice_index, vec_capacity, vec_len, if◌then◌else◌, refl, sym, ap, subst, ◌∙◌, arith}
+use Rattle.std.proofs.Common.{◌≡◌, ℕ, zero, suc, ◌+◌, ◌<◌, ◌≤◌, Bool, true, false, cond, List, [], ◌∷◌, ◌++◌, length, map, get_or, slice_index, if◌then◌else◌, refl, sym, ap, subst, ◌∙◌, arith}
 use Rattle.std.specs.Prelude.{All, filter}
-use Rattle.std.specs.Global.{Vec}
-use Rattle.std.proofs.lemmas.List.{append-nil, append_assoc, length-append, map-append}
+use Rattle.std.proofs.lemmas.List.{append-nil, append_assoc, length-append, length-map, map-append}
 use Rattle.std.proofs.lemmas.List.Elements.{All-head, All-tail, filter-append}
+use Rattle.std.proofs.lemmas.List.Sums.{count_by-le-length, length-filter}
 use Rattle.asc_model.specs.declared.status.Status.{Status}
 use Rattle.asc_model.specs.Places.{places_from}
 use Rattle.asc_shape.specs.Face.{status_at}
 use Rattle.asc_depvec.specs.Tracer.{HaveStatus, Tracing}
-use Rattle.asc_traj.specs.Inside.{IsRow, Splits, is_read_first, is_written, read_first, written}
+use Rattle.asc_traj.specs.Halves.{Parted}
+use Rattle.asc_traj.specs.Inside.{HasRoomFor, IsRow, is_read_first, is_written, read_first, with_split, written}
 use Rattle.asc_traj.proofs.Places.{places_of}
 
 -- ---- one after another
 
-pub Splits-none : (t : Tracing) (reads writes : Vec (ℕ × ℕ)) → Splits t [] reads writes reads writes
-Splits-none t reads writes = record {
-  reads = sym (append-nil reads.items);
-  writes = sym (append-nil writes.items);
-  reads_len = omega arith;
-  writes_len = omega arith;
-  reads_room = omega arith;
-  writes_room = omega arith;
-}
+pub split-none : (t : Tracing) (lists : Parted) → lists ≡ with_split t [] lists
+split-none t lists =
+    ap (λ (list : List (ℕ × ℕ)). record lists { reads = list }) (sym (append-nil lists.reads))
+    ∙ ap (λ (list : List (ℕ × ℕ)). record lists { reads = lists.reads ++ []; writes = list }) (sym (append-nil lists.writes))
 
-pub Splits-more : (t : Tracing) (cells others : List (ℕ × ℕ)) (r w r1 w1 r2 w2 : Vec (ℕ × ℕ)) → Splits t cells r w r1 w1 → Splits t others r1 w1 r2 w2 → Splits t (cells ++ others) r w r2 w2
-Splits-more t cells others r w r1 w1 r2 w2 first second =
-    let size = length-append cells others in
-    record {
-      reads = second.reads
-          ∙ ap (λ (list : List (ℕ × ℕ)). list ++ read_first t others) first.reads
-          ∙ append_assoc r.items (read_first t cells) (read_first t others)
-          ∙ ap (λ (list : List (ℕ × ℕ)). r.items ++ list) (sym (filter-append (λ cell. is_read_first (status_at t.statuses cell.0)) cells others));
-      writes = second.writes
-          ∙ ap (λ (list : List (ℕ × ℕ)). list ++ written t others) first.writes
-          ∙ append_assoc w.items (written t cells) (written t others)
-          ∙ ap (λ (list : List (ℕ × ℕ)). w.items ++ list) (sym (both cells others));
-      reads_len = omega (arith, size, first.reads_len, second.reads_len);
-      writes_len = omega (arith, size, first.writes_len, second.writes_len);
-      reads_room = omega (arith, first.reads_room, second.reads_room);
-      writes_room = omega (arith, first.writes_room, second.writes_room);
-    }
+pub split-more : (t : Tracing) (cells others : List (ℕ × ℕ)) (lists : Parted) → with_split t others (with_split t cells lists) ≡ with_split t (cells ++ others) lists
+split-more t cells others lists =
+    ap (λ (list : List (ℕ × ℕ)). record lists { reads = list; writes = (lists.writes ++ written t cells) ++ written t others })
+    (append_assoc lists.reads (read_first t cells) (read_first t others)
+    ∙ ap (λ (list : List (ℕ × ℕ)). lists.reads ++ list) (sym (filter-append (λ cell. is_read_first (status_at t.statuses cell.0)) cells others)))
+    ∙ ap (λ (list : List (ℕ × ℕ)). record lists { reads = lists.reads ++ read_first t (cells ++ others); writes = list })
+    (append_assoc lists.writes (written t cells) (written t others)
+    ∙ ap (λ (list : List (ℕ × ℕ)). lists.writes ++ list) (sym both))
   where
-    both : (cells others : List (ℕ × ℕ)) → written t (cells ++ others) ≡ written t cells ++ written t others
-    both cells others =
+    both : written t (cells ++ others) ≡ written t cells ++ written t others
+    both =
         ap (map (λ (cell : ℕ × ℕ). (cell.0, slice_index t.state.bytes cell.0))) (filter-append (λ cell. is_written (status_at t.statuses cell.0)) cells others)
         ∙ map-append (λ (cell : ℕ × ℕ). (cell.0, slice_index t.state.bytes cell.0)) (filter (λ cell. is_written (status_at t.statuses cell.0)) cells)
         (filter (λ cell. is_written (status_at t.statuses cell.0)) others)
+
+-- lists with cells behind them have room for as many fewer
+pub room-less : (t : Tracing) (cells : List (ℕ × ℕ)) (lists now : Parted) (n m : ℕ) → now ≡ with_split t cells lists → length cells + n ≤ m → HasRoomFor lists m → HasRoomFor now n
+room-less t cells lists now n m is less room =
+    let reads = length-append lists.reads (read_first t cells) in
+    let writes = length-append lists.writes (written t cells) in
+    let passed = most (λ cell. is_read_first (status_at t.statuses cell.0)) in
+    let kept = most (λ cell. is_written (status_at t.statuses cell.0)) in
+    let with_now : ℕ × ℕ → ℕ × ℕ = λ cell. (cell.0, slice_index t.state.bytes cell.0) in
+    let same = length-map (filter (λ cell. is_written (status_at t.statuses cell.0)) cells) with_now in
+    subst (λ (lists : Parted). HasRoomFor lists n) (sym is) (record {
+      reads = omega (arith, reads, passed, less, room.reads);
+      writes = omega (arith, writes, kept, same, less, room.writes);
+    })
+  where
+    most : (q : ℕ × ℕ → Bool) → length (filter q cells) ≤ length cells
+    most q = omega (arith, length-filter q cells, count_by-le-length q cells)
 
 -- ---- rows
 
@@ -79,25 +83,19 @@ filter-same q statuses status place (suc n) (cell ∷ cells) row have =
     step false rest e = e
 
 -- what is put behind the lists for a row of four cells of one status
-pub Splits-same : (t : Tracing) (status : Status) (cells : List (ℕ × ℕ)) (r w r1 w1 : Vec (ℕ × ℕ)) → IsRow cells → length cells ≡ 4
-    → HaveStatus t.statuses status (get_or cells 0 (0, 0)).0 4
-    → r1.items ≡ r.items ++ (if is_read_first status then cells else [])
-    → w1.items ≡ w.items ++ map (λ (cell : ℕ × ℕ). (cell.0, slice_index t.state.bytes cell.0)) (if is_written status then cells else [])
-    → vec_len r1 ≤ vec_len r + 4 → vec_len w1 ≤ vec_len w + 4 → vec_capacity r ≤ vec_capacity r1 → vec_capacity w ≤ vec_capacity w1
-    → Splits t cells r w r1 w1
-Splits-same t status cells r w r1 w1 row four have reads writes reads_len writes_len reads_room writes_room =
+pub split-same : (t : Tracing) (status : Status) (cells : List (ℕ × ℕ)) (lists : Parted) → IsRow cells → length cells ≡ 4 → HaveStatus t.statuses status (get_or cells 0 (0, 0)).0 4
+    → with_split t cells lists ≡ record lists {
+      reads = lists.reads ++ (if is_read_first status then cells else []);
+      writes = lists.writes ++ map (λ (cell : ℕ × ℕ). (cell.0, slice_index t.state.bytes cell.0)) (if is_written status then cells else []);
+    }
+split-same t status cells lists row four have =
     let first = (get_or cells 0 (0, 0)).0 in
     let places : places_of cells ≡ places_from first 4 = row ∙ ap (places_from first) four in
-    record {
-      reads = reads ∙ ap (λ (list : List (ℕ × ℕ)). r.items ++ list) (sym (filter-same is_read_first t.statuses status first 4 cells places have));
-      writes = writes
-          ∙ ap (λ (list : List (ℕ × ℕ)). w.items ++ map (λ (cell : ℕ × ℕ). (cell.0, slice_index t.state.bytes cell.0)) list)
-          (sym (filter-same is_written t.statuses status first 4 cells places have));
-      reads_len = omega arith;
-      writes_len = omega arith;
-      reads_room = reads_room;
-      writes_room = writes_room;
-    }
+    ap (λ (list : List (ℕ × ℕ)). record lists { reads = lists.reads ++ list; writes = lists.writes ++ written t cells }) (filter-same is_read_first t.statuses status first 4 cells places have)
+    ∙ ap (λ (list : List (ℕ × ℕ)). record lists {
+      reads = lists.reads ++ (if is_read_first status then cells else []);
+      writes = lists.writes ++ map (λ (cell : ℕ × ℕ). (cell.0, slice_index t.state.bytes cell.0)) list;
+    }) (filter-same is_written t.statuses status first 4 cells places have)
 
 -- a row of four cells ends within the places that its cells are within
 pub row_within : (cells : List (ℕ × ℕ)) (n : ℕ) → IsRow cells → length cells ≡ 4 → All (λ cell. cell.0 < n) cells → (get_or cells 0 (0, 0)).0 + 4 ≤ n

@@ -1,4 +1,4 @@
-ghost use Rattle.std.specs.Prelude.{◌≡◌, ◌+◌, ◌-◌, ◌≤◌, ◌<◌, ◌^◌, ◌==◌, ◌++◌, true, false, All, IfOk, Some, flat_map, length, map, slice_index, slice_index_or, take, drop, vec_capacity, vec_len};
+ghost use Rattle.std.specs.Prelude.{◌≡◌, ◌+◌, ◌-◌, ◌≤◌, ◌<◌, ◌^◌, ◌==◌, true, false, All, IfOk, Some, flat_map, length, map, slice_index, slice_index_or, take, drop};
 ghost use Rattle.std.specs.List.{list_all};
 ghost use Rattle.std.specs.Arc.{arc_value};
 ghost use Rattle.asc_model.specs.Shape.{length_of};
@@ -9,8 +9,9 @@ ghost use Rattle.asc_model.specs.Places.{places_from};
 ghost use Rattle.asc_depvec.specs.Tracer.{IsTracing, most_cap};
 ghost use Rattle.asc_traj.specs.Content.{matches};
 ghost use Rattle.asc_traj.specs.Trace.{StandsFor, origin_of};
-ghost use Rattle.asc_traj.specs.Inside.{HasRoomFor, IsRow, IsRun, IsStretch, Splits, cells_of, read_first, written};
+ghost use Rattle.asc_traj.specs.Inside.{HasRoomFor, IsRow, IsRun, IsStretch, cells_of, read_first, run_end, with_split, written};
 
+use crate::lists::Lists;
 use crate::tracing::known;
 use asc_depvec::Tracer;
 use asc_shape::{Memory, Shape, State, Status};
@@ -26,8 +27,7 @@ use std::sync::Arc;
 #[derive(Drop)]
 pub struct Entry {
     shape: Shape,
-    reads: Vec<(u32, u8)>,
-    writes: Vec<(u32, u8)>,
+    lists: Lists,
     steps: u64,
 }
 
@@ -37,18 +37,19 @@ impl Model for Entry {
 
     ghost Value = { model.Entry };
 
-    ghost view = { λ e. record { shape = e.shape; reads = e.reads.items; writes = e.writes.items; steps = e.steps } };
+    ghost view = { λ e. record { shape = e.shape; reads = e.lists.reads; writes = e.lists.writes; steps = e.steps } };
 
     ghost invariant = { λ e. IsTrueEntry (record {
       shape = e.shape;
-      reads = e.reads.items;
-      writes = e.writes.items;
+      reads = e.lists.reads;
+      writes = e.lists.writes;
       steps = e.steps;
     }) };
 }
 
 impl Entry {
     /// The entry of the steps that a tracer stands for, as `trace` leaves it.
+    #[inline(never)]
     pub fn of(alloc: Global, tracer: &Tracer, steps: u64) -> Result<Arc<Entry>, Memory>
         requires steps { 1 ≤ steps }
         requires stands { StandsFor steps tracer.now }
@@ -63,8 +64,7 @@ impl Entry {
             alloc,
             Entry {
                 shape: tracer.state().shape(),
-                reads: lists.0,
-                writes: lists.1,
+                lists,
                 steps,
             },
         )?)
@@ -90,7 +90,7 @@ impl Entry {
     pub fn reads(&self) -> &[(u32, u8)]
         ensures { result.now ≡ self.now.reads }
     {
-        &self.reads
+        self.lists.reads()
     }
 
     /// The places that its steps write, rising, each with the byte that they leave there.
@@ -98,7 +98,7 @@ impl Entry {
     pub fn writes(&self) -> &[(u32, u8)]
         ensures { result.now ≡ self.now.writes }
     {
-        &self.writes
+        self.lists.writes()
     }
 
     /// How many steps it stands for, at least 1.
@@ -115,7 +115,7 @@ impl Entry {
         ensures no { result ≡ false → Matches self.now state.now → ⊥ }
         ensures test { result ≡ matches state.now self.now }
     {
-        self.shape == state.shape() && has_bytes(state, &self.reads)
+        self.shape == state.shape() && has_bytes(state, self.lists.reads())
     }
 
     /// Puts its written bytes into a state of its shape. Where it matches the state, that is what its steps, plainly
@@ -127,7 +127,7 @@ impl Entry {
     {
         // That it is a state.
         let _ = state.shape();
-        for &(place, byte) in &self.writes {
+        for &(place, byte) in self.lists.writes() {
             state.set(place, byte);
         }
     }
@@ -141,17 +141,18 @@ fn has_bytes(state: &State, cells: &[(u32, u8)]) -> bool
     cells.iter().all(|&(place, byte)| state.get(place) == byte)
 }
 
-/// Cells listed one after another, at places one after another. It has where the first and the last are listed, which
-/// is below `MOST_CAP`, and the place of the first. It takes 8 bytes: for so few the sort has code of its own.
+/// Cells listed one after another, at places one after another. It has the place of the first, where that is listed,
+/// and how many more there are. The last two are below `MOST_CAP`. It takes 8 bytes: for so few the sort has code of its
+/// own.
 #[derive(Clone, Copy)]
 struct Run {
     place: u32,
     from: u16,
-    last: u16,
+    more: u16,
 }
 
 /// The runs that cells are made of, in their order.
-#[inline(never)]
+#[inline]
 fn runs_of(alloc: Global, cells: &[(u32, u8)]) -> Result<Vec<Run>, AllocError>
     requires most { length cells.now ≤ most_cap }
     requires low { All (λ cell. cell.0 < 2 ^ 31) cells.now }
@@ -167,7 +168,7 @@ fn runs_of(alloc: Global, cells: &[(u32, u8)]) -> Result<Vec<Run>, AllocError>
         runs.push_reserved(Run {
             place,
             from: from as u16,
-            last: (to - 1) as u16,
+            more: (to - from - 1) as u16,
         });
         from = to;
     }
@@ -237,6 +238,7 @@ fn end_of_cells(cells: &[(u32, u8)], from: usize, place: u32, least: usize) -> u
 /// Whether the four cells from there on are those of four places in a row.
 #[inline]
 fn is_word(cells: &[(u32, u8)], at: usize) -> bool
+    requires most { length cells.now ≤ most_cap }
     requires at { at < length cells.now }
     requires low { (slice_index_or cells.now at (0, 0)).0 < 2 ^ 31 }
     ensures most { result ≡ true → at + 4 ≤ length cells.now }
@@ -244,7 +246,7 @@ fn is_word(cells: &[(u32, u8)], at: usize) -> bool
         ≡ places_from (slice_index_or cells.now at (0, 0)).0 4 }
 {
     let place = cells[at].0;
-    if cells.len() - at < 4 {
+    if at + 4 > cells.len() {
         return false;
     }
     cells[at + 1].0 == place + 1 && cells[at + 2].0 == place + 2 && cells[at + 3].0 == place + 3
@@ -252,128 +254,81 @@ fn is_word(cells: &[(u32, u8)], at: usize) -> bool
 
 /// Two lists, run by run. The first has the touched places that were read before they were written, each with its
 /// byte. The second has those that were written, each with its byte now.
-#[inline(never)]
-fn split(
-    alloc: Global,
-    tracer: &Tracer,
-    runs: &[Run],
-) -> Result<(Vec<(u32, u8)>, Vec<(u32, u8)>), AllocError>
+#[inline]
+fn split(alloc: Global, tracer: &Tracer, runs: &[Run]) -> Result<Lists, AllocError>
     requires tracer { IsTracing tracer.now }
     requires places { All (λ cell. cell.0 < length_of tracer.now.state.shape) tracer.now.touched }
     requires runs { All (IsRun tracer.now.touched) runs.now }
     requires most { length (flat_map (cells_of tracer.now.touched) runs.now) ≤ length tracer.now.touched }
-    ensures reads { IfOk result (λ lists. lists.0.items
+    ensures reads { IfOk result (λ lists. lists.reads
         ≡ read_first tracer.now (flat_map (cells_of tracer.now.touched) runs.now)) }
-    ensures writes { IfOk result (λ lists. lists.1.items
+    ensures writes { IfOk result (λ lists. lists.writes
         ≡ written tracer.now (flat_map (cells_of tracer.now.touched) runs.now)) }
 {
     let touched = tracer.touched();
-    let mut reads = Vec::with_capacity(alloc, touched.len())?;
-    let mut writes = Vec::with_capacity(alloc, touched.len())?;
+    let mut lists = Lists::none(alloc, touched.len())?;
     for run in runs {
-        split_run(tracer, touched, *run, &mut reads, &mut writes);
+        split_run(tracer, touched, run, &mut lists);
     }
-    Ok((reads, writes))
+    Ok(lists)
 }
 
 /// Puts the cells of a run behind the lists, where there is room for them.
 #[inline]
-fn split_run(
-    tracer: &Tracer,
-    cells: &[(u32, u8)],
-    run: Run,
-    reads: &mut Vec<(u32, u8)>,
-    writes: &mut Vec<(u32, u8)>,
-)
+fn split_run(tracer: &Tracer, cells: &[(u32, u8)], run: &Run, lists: &mut Lists)
     requires own { tracer.now.state.shape ≡ tracer.now.shape }
     requires places { All (λ cell. cell.0 < length_of tracer.now.state.shape) cells.now }
-    requires run { IsRun cells.now run }
-    requires room { HasRoomFor reads.old writes.old (run.last + 1 - run.from) }
-    ensures { Splits tracer.now (cells_of cells.now run) reads.old writes.old reads.new writes.new }
+    requires run { IsRun cells.now run.now }
+    requires room { HasRoomFor lists.old (run_end run.now - run.now.from) }
+    ensures { lists.new ≡ with_split tracer.now (cells_of cells.now run.now) lists.old }
 {
-    let end = run.last as usize + 1;
     let mut at = run.from as usize;
-    while end - at >= 4 {
-        split_word(tracer, &cells[at..at + 4], reads, writes);
+    let mut left = run.more as usize + 1;
+    while left >= 4 {
+        split_word(tracer, &cells[at..at + 4], lists);
         at += 4;
+        left -= 4;
     }
-    split_cells(tracer, &cells[at..end], reads, writes);
+    split_cells(tracer, &cells[at..at + left], lists);
 }
 
 /// Puts the four cells of a word behind the lists, at once where their places have one status.
 #[inline]
-fn split_word(
-    tracer: &Tracer,
-    cells: &[(u32, u8)],
-    reads: &mut Vec<(u32, u8)>,
-    writes: &mut Vec<(u32, u8)>,
-)
+fn split_word(tracer: &Tracer, cells: &[(u32, u8)], lists: &mut Lists)
     requires own { tracer.now.state.shape ≡ tracer.now.shape }
     requires places { All (λ cell. cell.0 < length_of tracer.now.state.shape) cells.now }
     requires row { IsRow cells.now }
     requires four { length cells.now ≡ 4 }
-    requires room { HasRoomFor reads.old writes.old 4 }
-    ensures { Splits tracer.now cells.now reads.old writes.old reads.new writes.new }
+    requires room { HasRoomFor lists.old 4 }
+    ensures { lists.new ≡ with_split tracer.now cells.now lists.old }
 {
-    match tracer.word_status(cells[0].0) {
-        Some(Status::Read) => push_read(cells, reads),
-        Some(Status::Written) => push_written(tracer, cells, writes),
+    let place = cells[0].0;
+    match tracer.word_status(place) {
+        Some(Status::Read) => lists.push_read_word(cells),
+        Some(Status::Written) => lists.push_written_word(cells, place, tracer.state()),
         Some(Status::ReadWritten) => {
-            push_read(cells, reads);
-            push_written(tracer, cells, writes);
+            lists.push_read_word(cells);
+            lists.push_written_word(cells, place, tracer.state());
         }
-        Some(Status::Untouched) | None => split_cells(tracer, cells, reads, writes),
-    }
-}
-
-/// Puts these cells behind a list, where there is room for them.
-#[inline]
-fn push_read(cells: &[(u32, u8)], reads: &mut Vec<(u32, u8)>)
-    requires { vec_len reads.old + length cells.now ≤ vec_capacity reads.old }
-    ensures items { reads.new.items ≡ reads.old.items ++ cells.now }
-    ensures len { vec_len reads.new ≡ vec_len reads.old + length cells.now }
-    ensures room { vec_capacity reads.new ≡ vec_capacity reads.old }
-{
-    for &cell in cells {
-        reads.push_reserved(cell);
-    }
-}
-
-/// Puts these cells, each with the byte that it has now, behind a list, where there is room for them.
-#[inline]
-fn push_written(tracer: &Tracer, cells: &[(u32, u8)], writes: &mut Vec<(u32, u8)>)
-    requires places { All (λ cell. cell.0 < length_of tracer.now.state.shape) cells.now }
-    requires room { vec_len writes.old + length cells.now ≤ vec_capacity writes.old }
-    ensures items { writes.new.items ≡ writes.old.items
-        ++ map (λ cell. (cell.0, slice_index tracer.now.state.bytes cell.0)) cells.now }
-    ensures len { vec_len writes.new ≡ vec_len writes.old + length cells.now }
-    ensures room { vec_capacity writes.new ≡ vec_capacity writes.old }
-{
-    for cell in cells {
-        writes.push_reserved((cell.0, tracer.state().get(cell.0)));
+        Some(Status::Untouched) | None => split_cells(tracer, cells, lists),
     }
 }
 
 /// Puts cells behind the lists one by one, where there is room for them.
 #[inline]
-fn split_cells(
-    tracer: &Tracer,
-    cells: &[(u32, u8)],
-    reads: &mut Vec<(u32, u8)>,
-    writes: &mut Vec<(u32, u8)>,
-)
+fn split_cells(tracer: &Tracer, cells: &[(u32, u8)], lists: &mut Lists)
     requires places { All (λ cell. cell.0 < length_of tracer.now.state.shape) cells.now }
-    requires room { HasRoomFor reads.old writes.old (length cells.now) }
-    ensures { Splits tracer.now cells.now reads.old writes.old reads.new writes.new }
+    requires room { HasRoomFor lists.old (length cells.now) }
+    ensures { lists.new ≡ with_split tracer.now cells.now lists.old }
 {
-    for cell in cells {
-        match tracer.status(cell.0) {
+    for &(place, byte) in cells {
+        match tracer.status(place) {
             Status::Untouched => {}
-            Status::Read => reads.push_reserved(*cell),
-            Status::Written => writes.push_reserved((cell.0, tracer.state().get(cell.0))),
+            Status::Read => lists.push_read(place, byte),
+            Status::Written => lists.push_written(place, tracer.state().get(place)),
             Status::ReadWritten => {
-                reads.push_reserved(*cell);
-                writes.push_reserved((cell.0, tracer.state().get(cell.0)));
+                lists.push_read(place, byte);
+                lists.push_written(place, tracer.state().get(place));
             }
         }
     }

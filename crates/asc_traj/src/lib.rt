@@ -6,6 +6,7 @@ mod finder;
 mod guessing;
 mod halt;
 mod halter;
+mod lists;
 mod longest;
 mod noted;
 #[cfg(test)]

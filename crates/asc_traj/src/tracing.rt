@@ -127,12 +127,14 @@ fn attempt<H: Halt>(tracer: &mut Tracer, shape: Shape) -> Option<Why>
 {
     known(tracer);
     let mark = tracer.mark();
-    let ended = why_of(try_step_of::<Tracer, H>(tracer, shape));
-    known(tracer);
-    if ended.is_some() {
-        tracer.undo(mark);
+    match try_step_of::<Tracer, H>(tracer, shape) {
+        Stepped::Went => None,
+        ended => {
+            known(tracer);
+            tracer.undo(mark);
+            why_of(ended)
+        }
     }
-    ended
 }
 
 /// Why a step was not taken.

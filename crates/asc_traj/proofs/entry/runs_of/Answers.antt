@@ -10,10 +10,10 @@ loop-from-preserved c =
     let from = c.loop-from.from in
     let to = c.end_of-to.result in
     let is = c.end_of-to.ensures in
-    let end : to ≡ to - 1 + 1 = omega (arith, is.some) in
+    let end : to ≡ from + (to - from - 1) + 1 = omega (arith, is.some) in
     record {
       runs = subst (λ (n : ℕ). AreRuns cells n c.push_reserved.new.self.items) (sym end)
-          (subst (λ (runs : List Run). AreRuns cells (to - 1 + 1) runs) (sym c.push_reserved.ensures.items)
+          (subst (λ (runs : List Run). AreRuns cells (from + (to - from - 1) + 1) runs) (sym c.push_reserved.ensures.items)
           (AreRuns-more cells from c.loop-from.runs.items _ c.loop-from.invariant.runs refl
           (subst (λ (n : ℕ). IsStretch cells (get_or cells from (0, 0)).0 from n) end is)));
       count = omega (arith, c.push_reserved.ensures.len, is.some, c.loop-from.invariant.count);

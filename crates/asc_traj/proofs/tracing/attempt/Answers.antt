@@ -5,54 +5,44 @@ use Rattle.asc_model.specs.Step.{next}
 use Rattle.asc_model.specs.Reach.{why_no_step}
 use Rattle.asc_depvec.specs.Tracer.{face_of, undone}
 use Rattle.asc_traj.specs.Inside.{why_of}
-use Rattle.asc_traj.proofs.Attempts.{limits-step, back-face, back-mark, why_of-stepped, same_tracing, some_by}
+use Rattle.asc_traj.proofs.Attempts.{limits-step, back-face, back-mark, why_of-stepped, same_tracing, some_unless, some_none}
 use Rattle.asc_traj.proofs.tracing.attempt.Goals as goal
 
 pub undo-requires : goal.undo-requires
 undo-requires g c =
     let t = c.args.tracer.now in
-    let ends = c.why_of-ended.ensures ∙ ap why_of c.try_step_of.ensures.answer ∙ why_of-stepped (next t.state) in
-    let some : IsSome (why_no_step (next t.state)) = some_by _ _ ends (sym c.is_some.ensures ∙ c.if-is_some.true) in
+    let ends = ap why_of c.try_step_of.ensures.answer ∙ why_of-stepped (next t.state) in
+    let some : IsSome (why_no_step (next t.state)) = some_unless _ _ c.in_default.not-Went ends in
     let good : IsState t.state = c.known.ensures.state in
     subst (λ mark. mark ≤ length c.try_step_of.new.bytes.touched) (sym c.mark-mark.ensures.mark)
     (back-mark t c.try_step_of.new.bytes good some c.try_step_of.ensures.places)
 
-pub returns-then-is_some-clause-back : goal.returns-then-is_some-clause-back
-returns-then-is_some-clause-back g c = λ _.
+pub returns-in-Went-clause-shape : goal.returns-in-Went-clause-shape
+returns-in-Went-clause-shape g c =
+    let t = c.args.tracer.now in
+    let limits = limits-step t c.try_step_of.new.bytes c.requires.room c.try_step_of.ensures.places in
+    limits.0
+
+pub returns-in-Went-clause-cap : goal.returns-in-Went-clause-cap
+returns-in-Went-clause-cap g c =
+    let t = c.args.tracer.now in
+    let limits = limits-step t c.try_step_of.new.bytes c.requires.room c.try_step_of.ensures.places in
+    limits.1
+
+pub returns-in_default : goal.returns-in_default
+returns-in_default g c =
     let t = c.args.tracer.now in
     let later = c.try_step_of.new.bytes in
-    let ends = c.why_of-ended.ensures ∙ ap why_of c.try_step_of.ensures.answer ∙ why_of-stepped (next t.state) in
-    let some : IsSome (why_no_step (next t.state)) = some_by _ _ ends (sym c.is_some.ensures ∙ c.if-is_some.true) in
+    let ends = ap why_of c.try_step_of.ensures.answer ∙ why_of-stepped (next t.state) in
+    let some : IsSome (why_no_step (next t.state)) = some_unless _ _ c.in_default.not-Went ends in
     let good : IsState t.state = c.known.ensures.state in
     let limits = limits-step t later c.requires.room c.try_step_of.ensures.places in
     let back : face_of (undone later c.mark-mark.result) ≡ face_of t =
     ap (λ mark. face_of (undone later mark)) c.mark-mark.ensures.mark ∙ back-face t later good some c.try_step_of.ensures.places in
-    c.undo.ensures ∙ same_tracing (undone later c.mark-mark.result) t limits.0 limits.1 back
-
-pub returns-then-is_some-clause-shape : goal.returns-then-is_some-clause-shape
-returns-then-is_some-clause-shape g c =
-    let t = c.args.tracer.now in
-    let good : IsState t.state = c.known.ensures.state in
-    let limits = limits-step t c.try_step_of.new.bytes c.requires.room c.try_step_of.ensures.places in
-    ap (λ u. u.shape) c.undo.ensures ∙ limits.0
-
-pub returns-then-is_some-clause-cap : goal.returns-then-is_some-clause-cap
-returns-then-is_some-clause-cap g c =
-    let t = c.args.tracer.now in
-    let good : IsState t.state = c.known.ensures.state in
-    let limits = limits-step t c.try_step_of.new.bytes c.requires.room c.try_step_of.ensures.places in
-    ap (λ u. u.cap) c.undo.ensures ∙ limits.1
-
-pub returns-else-is_some-clause-shape : goal.returns-else-is_some-clause-shape
-returns-else-is_some-clause-shape g c =
-    let t = c.args.tracer.now in
-    let good : IsState t.state = c.known.ensures.state in
-    let limits = limits-step t c.try_step_of.new.bytes c.requires.room c.try_step_of.ensures.places in
-    limits.0
-
-pub returns-else-is_some-clause-cap : goal.returns-else-is_some-clause-cap
-returns-else-is_some-clause-cap g c =
-    let t = c.args.tracer.now in
-    let good : IsState t.state = c.known.ensures.state in
-    let limits = limits-step t c.try_step_of.new.bytes c.requires.room c.try_step_of.ensures.places in
-    limits.1
+    record {
+      ends = c.why_of.ensures ∙ ends;
+      goes = λ none. absurd (some_none _ _ (c.why_of.ensures ∙ ends) some none);
+      back = λ _. c.undo.ensures ∙ same_tracing (undone later c.mark-mark.result) t limits.0 limits.1 back;
+      shape = ap (λ u. u.shape) c.undo.ensures ∙ limits.0;
+      cap = ap (λ u. u.cap) c.undo.ensures ∙ limits.1;
+    }

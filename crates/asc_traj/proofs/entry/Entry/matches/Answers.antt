@@ -7,7 +7,7 @@ use Rattle.asc_traj.proofs.entry.Entry.matches.Goals as goal
 
 pub returns-then-eq-clause-no : goal.returns-then-eq-clause-no
 returns-then-eq-clause-no c = λ no matched.
-    false≢true (sym no ∙ c.has_bytes.ensures ∙ ap (list_all (λ cell. slice_index c.args.state.now.bytes cell.0 == cell.1)) (c.deref.ensures.value ∙ ap (λ e. e.reads) c.self.view_is)
+    false≢true (sym no ∙ c.has_bytes.ensures ∙ ap (list_all (λ cell. slice_index c.args.state.now.bytes cell.0 == cell.1)) (c.reads.ensures ∙ ap (λ e. e.reads) c.self.view_is)
     ∙ has_all c.args.state.now.bytes c.args.self.now.reads matched.reads)
 
 pub returns-then-eq-clause-test : goal.returns-then-eq-clause-test
@@ -16,7 +16,7 @@ returns-then-eq-clause-test c =
     let s = c.args.state.now in
     let shape : s.shape ≡ e.shape = search rules in
     matches-by s e c.has_bytes.result shape
-    (c.has_bytes.ensures ∙ ap (list_all (λ cell. slice_index s.bytes cell.0 == cell.1)) (c.deref.ensures.value ∙ ap (λ (entry : Entry). entry.reads) c.self.view_is))
+    (c.has_bytes.ensures ∙ ap (list_all (λ cell. slice_index s.bytes cell.0 == cell.1)) (c.reads.ensures ∙ ap (λ (entry : Entry). entry.reads) c.self.view_is))
 
 pub returns-else-eq-clause-test : goal.returns-else-eq-clause-test
 returns-else-eq-clause-test c =

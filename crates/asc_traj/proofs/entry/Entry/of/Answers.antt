@@ -39,8 +39,8 @@ invariant_of-new c =
     let t = c.args.tracer.now in
     let runs = c.in_ok-runs.runs.items in
     let moved = c.sort_unstable_by_key.new.self.items in
-    let reads = c.in_ok-lists.lists.0.items in
-    let writes = c.in_ok-lists.lists.1.items in
+    let reads = c.in_ok-lists.lists.reads in
+    let writes = c.in_ok-lists.lists.writes in
     let made : Makes c.args.steps t (flat_map (cells_of t.touched) moved) reads writes = runs_make c.args.steps t runs moved reads writes
     c.requires.steps c.requires.stands c.known.ensures.state
     (subst (All (λ cell. cell.1 < 2 ^ 8)) c.touched.ensures c.are_bytes.ensures)
@@ -60,8 +60,8 @@ returns c =
     let t = c.args.tracer.now in
     let runs = c.in_ok-runs.runs.items in
     let moved = c.sort_unstable_by_key.new.self.items in
-    let reads = c.in_ok-lists.lists.0.items in
-    let writes = c.in_ok-lists.lists.1.items in
+    let reads = c.in_ok-lists.lists.reads in
+    let writes = c.in_ok-lists.lists.writes in
     let made : Makes c.args.steps t (flat_map (cells_of t.touched) moved) reads writes = runs_make c.args.steps t runs moved reads writes
     c.requires.steps c.requires.stands c.known.ensures.state
     (subst (All (λ cell. cell.1 < 2 ^ 8)) c.touched.ensures c.are_bytes.ensures)

@@ -12,7 +12,7 @@ loop-place-preserved c =
     let cells = c.args.self.now.writes in
     let i = c.loop-place.place-index in
     let cell = get_or cells i (0, 0) in
-    let listed : c.deref-place-items.result.now ≡ cells = c.deref-place-items.ensures.value ∙ ap (λ e. e.writes) c.self.view_is in
+    let listed : c.writes-place-items.result.now ≡ cells = c.writes-place-items.ensures ∙ ap (λ e. e.writes) c.self.view_is in
     let within : i < length cells = subst (λ (list : List (ℕ × ℕ)). i < length list) listed c.loop-place-test.true in
     c.set.ensures
     ∙ ap (λ (list : List (ℕ × ℕ)). record now { bytes = slice_set now.bytes (get_or list i (0, 0)).0 (get_or list i (0, 0)).1 }) listed
