@@ -3,9 +3,9 @@ use Rattle.std.proofs.Common.{◌≡◌, ℕ, Bool, true, false, cond, ◌||◌,
 use Rattle.std.proofs.lemmas.Bool.{and_parts, or_parts, eqb-true, eq-eqb, cases_Bool, both_ways, cond-true, cond-false}
 use Rattle.asc_model.specs.declared.version.Version.{Version}
 use Rattle.asc_model.specs.declared.instruction.Op.{Op}
-use Rattle.asc_model.specs.Instruction.{Key, Major, Minor, Full, Atomic, AtomicLoad, Whole, Row, Format, U, J, I, Shift, S, B, R, Plain, decode, find, table, base_table, atomic_table, fits, opcode, operands}
+use Rattle.asc_model.specs.Instruction.{Key, Major, Minor, Full, Atomic, AtomicLoad, Whole, Row, Format, U, J, I, Shift, S, B, R, Plain, decode, find, table, base_table, atomic_table, fits, opcode, funct3, operands}
 use Rattle.asc_isa.specs.Decode.{version_of, HasRegisters}
-use Rattle.asc_isa.specs.Rows.{opcode_of, rows_of}
+use Rattle.asc_isa.specs.Rows.{opcode_of, is_at, meets, rows_for}
 
 -- a word that a row is for has the row's opcode
 pub fits-opcode : (key : Key) (word : ℕ) → fits key word ≡ true → opcode word ≡ opcode_of key
@@ -16,34 +16,58 @@ fits-opcode (Atomic funct) word h = eqb-true _ _ (and_parts _ _ (and_parts _ _ h
 fits-opcode (AtomicLoad funct) word h = eqb-true _ _ (and_parts _ _ (and_parts _ _ (and_parts _ _ h).0).0).0
 fits-opcode (Whole whole) word h = ap opcode (eqb-true _ _ h)
 
--- no row of another opcode is for a word
-fits-other : (key : Key) (op word : ℕ) → eqb (opcode_of key) op ≡ false → opcode word ≡ op → fits key word ≡ false
-fits-other key op word h e = elim (cases_Bool (fits key word)) [
-  | inl f ↦ absurd (both_ways (eqb (opcode_of key) op) h (eq-eqb _ _ (sym (fits-opcode key word f) ∙ e)))
-  | inr f ↦ f
+both-true : (a b : Bool) → a ≡ true → b ≡ true → a && b ≡ true
+both-true true b x y = y
+both-true false b x y = cc
+
+at-whole : (whole word : ℕ) → word ≡ whole → is_at (Whole whole) (opcode word) (funct3 word) ≡ true
+at-whole whole word e = both-true _ _ (eq-eqb _ _ (ap opcode e)) (eq-eqb _ _ (ap funct3 e))
+
+-- a row that is for a word is for words of its opcode and funct3
+pub fits-at : (key : Key) (word : ℕ) → fits key word ≡ true → is_at key (opcode word) (funct3 word) ≡ true
+fits-at (Major major) word h = h
+fits-at (Minor major minor) word h = h
+fits-at (Full major minor funct) word h = (and_parts _ _ h).0
+fits-at (Atomic funct) word h = (and_parts _ _ h).0
+fits-at (AtomicLoad funct) word h = (and_parts _ _ (and_parts _ _ h).0).0
+fits-at (Whole whole) word h = at-whole whole word (eqb-true _ _ h)
+
+-- a row that is for a word of a key may be
+fits-meets : (key row : Key) (word : ℕ) → fits key word ≡ true → fits row word ≡ true → meets key row ≡ true
+fits-meets (Major major) row word h r = eq-eqb _ _ (sym (eqb-true _ _ h) ∙ fits-opcode row word r)
+fits-meets (Minor major minor) row word h r =
+    let parts = and_parts _ _ h in
+    subst (λ o. is_at row o minor ≡ true) (eqb-true _ _ parts.0)
+    (subst (λ f. is_at row (opcode word) f ≡ true) (eqb-true _ _ parts.1) (fits-at row word r))
+fits-meets (Full major minor funct) row word h r = refl
+fits-meets (Atomic funct) row word h r = refl
+fits-meets (AtomicLoad funct) row word h r = refl
+fits-meets (Whole whole) row word h r = refl
+
+-- the rows that may be for a word are enough
+pub find-rows_for : (key : Key) (rows : List Row) (word : ℕ) → fits key word ≡ true → find (rows_for key rows) word ≡ find rows word
+find-rows_for key [] word h = refl
+find-rows_for key (row ∷ rows) word h = elim (cases_Bool (meets key row.key)) [
+  | inl m ↦ ap (λ kept. find kept word) (cond-true _ (row ∷ rows_for key rows) (rows_for key rows) m)
+      ∙ ap (cond (fits row.key word) (Some (operands row.format row.op word))) (find-rows_for key rows word h)
+  | inr m ↦ ap (λ kept. find kept word) (cond-false _ (row ∷ rows_for key rows) (rows_for key rows) m)
+      ∙ find-rows_for key rows word h ∙ elim (cases_Bool (fits row.key word)) [
+        | inl f ↦ absurd (both_ways (meets key row.key) m (fits-meets key row.key word h f))
+        | inr f ↦ sym (cond-false _ (Some (operands row.format row.op word)) (find rows word) f)
+      ]
 ]
 
--- the rows of a word's opcode are enough
-find-rows_of : (op : ℕ) (rows : List Row) (word : ℕ) → opcode word ≡ op → find (rows_of op rows) word ≡ find rows word
-find-rows_of op [] word e = refl
-find-rows_of op (row ∷ rows) word e = elim (cases_Bool (eqb (opcode_of row.key) op)) [
-  | inl h ↦ ap (λ kept. find kept word) (cond-true _ (row ∷ rows_of op rows) (rows_of op rows) h)
-      ∙ ap (cond (fits row.key word) (Some (operands row.format row.op word))) (find-rows_of op rows word e)
-  | inr h ↦ ap (λ kept. find kept word) (cond-false _ (row ∷ rows_of op rows) (rows_of op rows) h)
-      ∙ find-rows_of op rows word e ∙ sym (cond-false _ _ _ (fits-other row.key op word h e))
-]
-
--- a word of an opcode that has no atomic is the same in both versions
-pub decode-base : (atomics : Bool) (op word : ℕ) → rows_of op (table (version_of true)) ≡ rows_of op base_table → opcode word ≡ op → find (rows_of op base_table) word ≡ decode (version_of atomics) word
+-- a word of a key that no atomic has is the same in both versions
+pub decode-for : (atomics : Bool) (key : Key) (word : ℕ) → rows_for key (table (version_of true)) ≡ rows_for key base_table → fits key word ≡ true → find (rows_for key base_table) word ≡ decode (version_of atomics) word
 unfolding decode
-decode-base false op word e h = find-rows_of op base_table word h
-decode-base true op word e h = ap (λ rows. find rows word) (sym e) ∙ find-rows_of op (base_table ++ atomic_table) word h
+decode-for false key word e h = find-rows_for key base_table word h
+decode-for true key word e h = ap (λ rows. find rows word) (sym e) ∙ find-rows_for key (base_table ++ atomic_table) word h
 
--- an atomic
-pub decode-atomic : (atomics : Bool) (word : ℕ) → atomics ≡ true → opcode word ≡ 0b0101111 → find (rows_of 0b0101111 atomic_table) word ≡ decode (version_of atomics) word
+-- a word of a key that only atomics have is one in version Two
+pub decode-atomic : (atomics : Bool) (key : Key) (word : ℕ) → rows_for key (table (version_of true)) ≡ rows_for key atomic_table → atomics ≡ true → fits key word ≡ true → find (rows_for key atomic_table) word ≡ decode (version_of atomics) word
 unfolding decode
-decode-atomic false word a h = cc
-decode-atomic true word a h = find-rows_of 0b0101111 (base_table ++ atomic_table) word h
+decode-atomic false key word e a h = cc
+decode-atomic true key word e a h = ap (λ rows. find rows word) (sym e) ∙ find-rows_for key (base_table ++ atomic_table) word h
 
 -- a number of the list
 abbrev pub is_one_of : ℕ → List ℕ → Bool

@@ -1,8 +1,8 @@
 //! Which instruction a word is (RISC-V unprivileged manual 20191213, chapter 24).
 ghost use Rattle.std.specs.Prelude.{◌≡◌, IfSome};
-ghost use Rattle.asc_model.specs.Instruction.{decode, opcode, find, base_table, atomic_table};
+ghost use Rattle.asc_model.specs.Instruction.{decode, opcode, find, base_table, atomic_table, Major};
 ghost use Rattle.asc_isa.specs.Decode.{version_of, HasRegisters};
-ghost use Rattle.asc_isa.specs.Rows.{rows_of};
+ghost use Rattle.asc_isa.specs.Rows.{rows_for};
 
 use crate::fields::{funct3, funct5, funct7, opcode, rs2};
 use crate::operands::{b_type, i_type, j_type, r_type, s_type, shift, u_type};
@@ -44,36 +44,36 @@ fn instruction(word: u32, atomics: bool) -> Option<Instr>
 
 /// LUI.
 #[inline]
-pub(crate) fn lui(word: u32) -> Option<Instr>
+fn lui(word: u32) -> Option<Instr>
     requires { opcode word ≡ 0b0110111 }
-    ensures { result ≡ find (rows_of 0b0110111 base_table) word }
+    ensures { result ≡ find (rows_for (Major 0b0110111) base_table) word }
 {
     Some(u_type(Op::Lui, word))
 }
 
 /// AUIPC.
 #[inline]
-pub(crate) fn auipc(word: u32) -> Option<Instr>
+fn auipc(word: u32) -> Option<Instr>
     requires { opcode word ≡ 0b0010111 }
-    ensures { result ≡ find (rows_of 0b0010111 base_table) word }
+    ensures { result ≡ find (rows_for (Major 0b0010111) base_table) word }
 {
     Some(u_type(Op::Auipc, word))
 }
 
 /// JAL.
 #[inline]
-pub(crate) fn jal(word: u32) -> Option<Instr>
+fn jal(word: u32) -> Option<Instr>
     requires { opcode word ≡ 0b1101111 }
-    ensures { result ≡ find (rows_of 0b1101111 base_table) word }
+    ensures { result ≡ find (rows_for (Major 0b1101111) base_table) word }
 {
     Some(j_type(Op::Jal, word))
 }
 
 /// JALR.
 #[inline]
-pub(crate) fn jalr(word: u32) -> Option<Instr>
+fn jalr(word: u32) -> Option<Instr>
     requires { opcode word ≡ 0b1100111 }
-    ensures { result ≡ find (rows_of 0b1100111 base_table) word }
+    ensures { result ≡ find (rows_for (Major 0b1100111) base_table) word }
 {
     match funct3(word) {
         0b000 => Some(i_type(Op::Jalr, word)),
@@ -85,7 +85,7 @@ pub(crate) fn jalr(word: u32) -> Option<Instr>
 #[inline]
 fn branch(word: u32) -> Option<Instr>
     requires { opcode word ≡ 0b1100011 }
-    ensures { result ≡ find (rows_of 0b1100011 base_table) word }
+    ensures { result ≡ find (rows_for (Major 0b1100011) base_table) word }
 {
     let op = match funct3(word) {
         0b000 => Op::Beq,
@@ -103,7 +103,7 @@ fn branch(word: u32) -> Option<Instr>
 #[inline]
 fn load(word: u32) -> Option<Instr>
     requires { opcode word ≡ 0b0000011 }
-    ensures { result ≡ find (rows_of 0b0000011 base_table) word }
+    ensures { result ≡ find (rows_for (Major 0b0000011) base_table) word }
 {
     let op = match funct3(word) {
         0b000 => Op::Lb,
@@ -120,7 +120,7 @@ fn load(word: u32) -> Option<Instr>
 #[inline]
 fn store(word: u32) -> Option<Instr>
     requires { opcode word ≡ 0b0100011 }
-    ensures { result ≡ find (rows_of 0b0100011 base_table) word }
+    ensures { result ≡ find (rows_for (Major 0b0100011) base_table) word }
 {
     let op = match funct3(word) {
         0b000 => Op::Sb,
@@ -135,7 +135,7 @@ fn store(word: u32) -> Option<Instr>
 #[inline]
 fn op_imm(word: u32) -> Option<Instr>
     requires { opcode word ≡ 0b0010011 }
-    ensures { result ≡ find (rows_of 0b0010011 base_table) word }
+    ensures { result ≡ find (rows_for (Major 0b0010011) base_table) word }
 {
     let op = match (funct3(word), funct7(word)) {
         (0b000, _) => Op::Addi,
@@ -156,7 +156,7 @@ fn op_imm(word: u32) -> Option<Instr>
 #[inline]
 fn op(word: u32) -> Option<Instr>
     requires { opcode word ≡ 0b0110011 }
-    ensures { result ≡ find (rows_of 0b0110011 base_table) word }
+    ensures { result ≡ find (rows_for (Major 0b0110011) base_table) word }
 {
     let op = match (funct7(word), funct3(word)) {
         (0b0000000, 0b000) => Op::Add,
@@ -184,9 +184,9 @@ fn op(word: u32) -> Option<Instr>
 
 /// MISC-MEM: the fences.
 #[inline]
-pub(crate) fn misc_mem(word: u32) -> Option<Instr>
+fn misc_mem(word: u32) -> Option<Instr>
     requires { opcode word ≡ 0b0001111 }
-    ensures { result ≡ find (rows_of 0b0001111 base_table) word }
+    ensures { result ≡ find (rows_for (Major 0b0001111) base_table) word }
 {
     match funct3(word) {
         0b000 => Some(Instr::Plain { op: Op::Fence }),
@@ -199,7 +199,7 @@ pub(crate) fn misc_mem(word: u32) -> Option<Instr>
 #[inline]
 pub(crate) fn system(word: u32) -> Option<Instr>
     requires { opcode word ≡ 0b1110011 }
-    ensures { result ≡ find (rows_of 0b1110011 base_table) word }
+    ensures { result ≡ find (rows_for (Major 0b1110011) base_table) word }
 {
     match word {
         0x0000_0073 => Some(Instr::Plain { op: Op::Ecall }),
@@ -212,7 +212,7 @@ pub(crate) fn system(word: u32) -> Option<Instr>
 #[inline]
 fn amo(word: u32) -> Option<Instr>
     requires { opcode word ≡ 0b0101111 }
-    ensures { result ≡ find (rows_of 0b0101111 atomic_table) word }
+    ensures { result ≡ find (rows_for (Major 0b0101111) atomic_table) word }
 {
     if funct3(word) != 0b010 {
         return None;

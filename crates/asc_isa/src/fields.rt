@@ -1,5 +1,5 @@
 //! The fields of an instruction word (RISC-V unprivileged manual 20191213, sections 2.2 and 2.3).
-ghost use Rattle.std.specs.Prelude.{◌≡◌, ◌+◌, ◌≤◌, ◌<◌, ◌^◌};
+ghost use Rattle.std.specs.Prelude.{◌≡◌, ◌==◌, ◌+◌, ◌-◌, ◌≤◌, ◌<◌, ◌^◌, if◌then◌else◌};
 ghost use Rattle.asc_model.specs.Number.{bits, sign_extend};
 ghost use Rattle.asc_model.specs.Instruction.{opcode, funct3, funct5, funct7, rd, rs1, rs2, immediate_U, immediate_J, immediate_I, immediate_S, immediate_B, shamt};
 
@@ -23,6 +23,14 @@ fn sign_extend(number: u32, n: u32) -> u32
     ensures { result ≡ sign_extend n number }
 {
     ((number << (32 - n)).cast_signed() >> (32 - n)).cast_unsigned()
+}
+
+/// The sign of an immediate in all bits: in each format it is bit 31 of the word.
+#[inline(always)]
+fn sign(word: u32) -> u32
+    ensures { result ≡ (if bits word 31 1 == 0 then 0 else 2 ^ 32 - 1) }
+{
+    0u32.wrapping_sub(bits(word, 31, 1))
 }
 
 #[inline(always)]
@@ -88,9 +96,8 @@ pub(crate) fn immediate_u(word: u32) -> u32
 pub(crate) fn immediate_j(word: u32) -> u32
     ensures { result ≡ immediate_J word }
 {
-    let high = (bits(word, 31, 1) << 20) + (bits(word, 12, 8) << 12);
-    let low = (bits(word, 20, 1) << 11) + (bits(word, 21, 10) << 1);
-    sign_extend(high + low, 21)
+    let high = (bits(word, 12, 8) << 12) + (bits(word, 20, 1) << 11);
+    (sign(word) << 20) + high + (bits(word, 21, 10) << 1)
 }
 
 /// The immediate of format I, extended by its sign.
@@ -101,12 +108,12 @@ pub(crate) fn immediate_i(word: u32) -> u32
     sign_extend(bits(word, 20, 12), 12)
 }
 
-/// The immediate of format S, extended by its sign.
+/// The immediate of format S, extended by its sign. It is that of format I, but for the five lowest bits.
 #[inline(always)]
 pub(crate) fn immediate_s(word: u32) -> u32
     ensures { result ≡ immediate_S word }
 {
-    sign_extend((bits(word, 25, 7) << 5) + bits(word, 7, 5), 12)
+    (immediate_i(word) >> 5 << 5) + bits(word, 7, 5)
 }
 
 /// The immediate of format B, extended by its sign: an offset of a multiple of 2.
@@ -114,9 +121,8 @@ pub(crate) fn immediate_s(word: u32) -> u32
 pub(crate) fn immediate_b(word: u32) -> u32
     ensures { result ≡ immediate_B word }
 {
-    let high = (bits(word, 31, 1) << 12) + (bits(word, 7, 1) << 11);
-    let low = (bits(word, 25, 6) << 5) + (bits(word, 8, 4) << 1);
-    sign_extend(high + low, 13)
+    let high = (bits(word, 7, 1) << 11) + (bits(word, 25, 6) << 5);
+    (sign(word) << 12) + high + (bits(word, 8, 4) << 1)
 }
 
 /// How far a shift by an immediate shifts: 0 to 31.

@@ -3,6 +3,7 @@
 
 mod decoding;
 mod fields;
+mod kind;
 mod likely;
 mod operands;
 mod specialized;

@@ -3,14 +3,15 @@
 //! It answers as `decode` does. From each of these arms a compiler can lead to code for that operation alone, which
 //! makes a plain step cheaper. There are two since a decoder that is called from two places would be taken
 //! into neither.
-ghost use Rattle.std.specs.Prelude.{◌≡◌, IfSome};
-ghost use Rattle.asc_model.specs.Instruction.{decode, opcode, find, base_table, atomic_table};
+ghost use Rattle.std.specs.Prelude.{◌≡◌, ◌==◌, IfSome, None, Some, true, if◌then◌else◌};
+ghost use Rattle.asc_model.specs.Instruction.{decode, find, fits, operands, base_table, atomic_table, funct7, Minor, R};
 ghost use Rattle.asc_isa.specs.Decode.{version_of, HasRegisters};
-ghost use Rattle.asc_isa.specs.Rows.{rows_of};
+ghost use Rattle.asc_isa.specs.Rows.{rows_for};
 
-use crate::decoding::{auipc, jal, jalr, lui, misc_mem, system};
-use crate::fields::{funct3, funct5, funct7, opcode, rs2};
-use crate::operands::{b_type, i_type, r_type, s_type, shift};
+use crate::decoding::system;
+use crate::fields::{funct5, funct7, rs2};
+use crate::kind::{Kind, kind_of};
+use crate::operands::{b_type, i_type, j_type, r_type, s_type, shift, u_type};
 use asc_model::{Instr, Op};
 
 /// The instruction that a word is, as `decode` answers it, for a caller that has code of its own for each operation.
@@ -25,140 +26,121 @@ pub fn decode_specialized<const COPY: bool>(word: u32, atomics: bool) -> Option<
     instruction::<COPY>(word, atomics)
 }
 
-/// The instruction of a word, by its opcode. It is not in `decode_specialized`, so that what is said of registers is
-/// shown once.
+/// The instruction of a word, by its kind. It is not in `decode_specialized`, so that what is said of registers is shown
+/// once.
 #[inline(always)]
 fn instruction<const COPY: bool>(word: u32, atomics: bool) -> Option<Instr>
     ensures { result ≡ decode (version_of atomics) word }
 {
-    match opcode(word) {
-        0b0110111 => lui(word),
-        0b0010111 => auipc(word),
-        0b1101111 => jal(word),
-        0b1100111 => jalr(word),
-        0b1100011 => branch::<COPY>(word),
-        0b0000011 => load::<COPY>(word),
-        0b0100011 => store::<COPY>(word),
-        0b0010011 => op_imm::<COPY>(word),
-        0b0110011 => op::<COPY>(word),
-        0b0001111 => misc_mem(word),
-        0b1110011 => system(word),
-        0b0101111 => if atomics { amo::<COPY>(word) } else { None },
-        _ => None,
+    match kind_of(word) {
+        Kind::Lui => Some(u_type(Op::Lui, word)),
+        Kind::Auipc => Some(u_type(Op::Auipc, word)),
+        Kind::Jal => Some(j_type(Op::Jal, word)),
+        Kind::Jalr => Some(i_type(Op::Jalr, word)),
+        Kind::Beq => Some(b_type(Op::Beq, word)),
+        Kind::Bne => Some(b_type(Op::Bne, word)),
+        Kind::Blt => Some(b_type(Op::Blt, word)),
+        Kind::Bge => Some(b_type(Op::Bge, word)),
+        Kind::Bltu => Some(b_type(Op::Bltu, word)),
+        Kind::Bgeu => Some(b_type(Op::Bgeu, word)),
+        Kind::Lb => Some(i_type(Op::Lb, word)),
+        Kind::Lh => Some(i_type(Op::Lh, word)),
+        Kind::Lw => Some(i_type(Op::Lw, word)),
+        Kind::Lbu => Some(i_type(Op::Lbu, word)),
+        Kind::Lhu => Some(i_type(Op::Lhu, word)),
+        Kind::Sb => Some(s_type(Op::Sb, word)),
+        Kind::Sh => Some(s_type(Op::Sh, word)),
+        Kind::Sw => Some(s_type(Op::Sw, word)),
+        Kind::Addi => Some(i_type(Op::Addi, word)),
+        Kind::Slti => Some(i_type(Op::Slti, word)),
+        Kind::Sltiu => Some(i_type(Op::Sltiu, word)),
+        Kind::Xori => Some(i_type(Op::Xori, word)),
+        Kind::Ori => Some(i_type(Op::Ori, word)),
+        Kind::Andi => Some(i_type(Op::Andi, word)),
+        Kind::Slli => slli(word),
+        Kind::Srli => srli_or_srai(word),
+        Kind::Add => op_or(word, Op::Add, Op::Sub, Op::Mul),
+        Kind::Sll => op(word, Op::Sll, Op::Mulh),
+        Kind::Slt => op(word, Op::Slt, Op::Mulhsu),
+        Kind::Sltu => op(word, Op::Sltu, Op::Mulhu),
+        Kind::Xor => op(word, Op::Xor, Op::Div),
+        Kind::Srl => op_or(word, Op::Srl, Op::Sra, Op::Divu),
+        Kind::Or => op(word, Op::Or, Op::Rem),
+        Kind::And => op(word, Op::And, Op::Remu),
+        Kind::Fence => Some(Instr::Plain { op: Op::Fence }),
+        Kind::FenceI => Some(Instr::Plain { op: Op::FenceI }),
+        Kind::System => system(word),
+        Kind::Atomic => if atomics { amo(word) } else { None },
+        Kind::Other => None,
     }
 }
 
-/// BRANCH: the conditional branches.
-#[inline]
-fn branch<const COPY: bool>(word: u32) -> Option<Instr>
-    requires { opcode word ≡ 0b1100011 }
-    ensures { result ≡ find (rows_of 0b1100011 base_table) word }
+/// SLLI, whose words have 0 in funct7.
+#[inline(always)]
+fn slli(word: u32) -> Option<Instr>
+    requires { fits (Minor 0b0010011 0b001) word ≡ true }
+    ensures { result ≡ find (rows_for (Minor 0b0010011 0b001) base_table) word }
 {
-    match funct3(word) {
-        0b000 => Some(b_type(Op::Beq, word)),
-        0b001 => Some(b_type(Op::Bne, word)),
-        0b100 => Some(b_type(Op::Blt, word)),
-        0b101 => Some(b_type(Op::Bge, word)),
-        0b110 => Some(b_type(Op::Bltu, word)),
-        0b111 => Some(b_type(Op::Bgeu, word)),
+    match funct7(word) {
+        0b0000000 => Some(shift(Op::Slli, word)),
         _ => None,
     }
 }
 
-/// LOAD.
-#[inline]
-fn load<const COPY: bool>(word: u32) -> Option<Instr>
-    requires { opcode word ≡ 0b0000011 }
-    ensures { result ≡ find (rows_of 0b0000011 base_table) word }
+/// SRLI and SRAI, which funct7 tells apart.
+#[inline(always)]
+fn srli_or_srai(word: u32) -> Option<Instr>
+    requires { fits (Minor 0b0010011 0b101) word ≡ true }
+    ensures { result ≡ find (rows_for (Minor 0b0010011 0b101) base_table) word }
 {
-    match funct3(word) {
-        0b000 => Some(i_type(Op::Lb, word)),
-        0b001 => Some(i_type(Op::Lh, word)),
-        0b010 => Some(i_type(Op::Lw, word)),
-        0b100 => Some(i_type(Op::Lbu, word)),
-        0b101 => Some(i_type(Op::Lhu, word)),
+    match funct7(word) {
+        0b0000000 => Some(shift(Op::Srli, word)),
+        0b0100000 => Some(shift(Op::Srai, word)),
         _ => None,
     }
 }
 
-/// STORE.
-#[inline]
-fn store<const COPY: bool>(word: u32) -> Option<Instr>
-    requires { opcode word ≡ 0b0100011 }
-    ensures { result ≡ find (rows_of 0b0100011 base_table) word }
-{
-    match funct3(word) {
-        0b000 => Some(s_type(Op::Sb, word)),
-        0b001 => Some(s_type(Op::Sh, word)),
-        0b010 => Some(s_type(Op::Sw, word)),
-        _ => None,
-    }
-}
-
-/// OP-IMM: the operations on a register and an immediate.
-#[inline]
-fn op_imm<const COPY: bool>(word: u32) -> Option<Instr>
-    requires { opcode word ≡ 0b0010011 }
-    ensures { result ≡ find (rows_of 0b0010011 base_table) word }
-{
-    match (funct3(word), funct7(word)) {
-        (0b000, _) => Some(i_type(Op::Addi, word)),
-        (0b010, _) => Some(i_type(Op::Slti, word)),
-        (0b011, _) => Some(i_type(Op::Sltiu, word)),
-        (0b100, _) => Some(i_type(Op::Xori, word)),
-        (0b110, _) => Some(i_type(Op::Ori, word)),
-        (0b111, _) => Some(i_type(Op::Andi, word)),
-        (0b001, 0b0000000) => Some(shift(Op::Slli, word)),
-        (0b101, 0b0000000) => Some(shift(Op::Srli, word)),
-        (0b101, 0b0100000) => Some(shift(Op::Srai, word)),
-        _ => None,
-    }
-}
-
-/// OP: the operations on two registers.
-#[inline]
-fn op<const COPY: bool>(word: u32) -> Option<Instr>
-    requires { opcode word ≡ 0b0110011 }
-    ensures { result ≡ find (rows_of 0b0110011 base_table) word }
+/// An operation on two registers: this one of RV32I where funct7 is 0, and this one of RV32M where it is 1.
+#[inline(always)]
+fn op(word: u32, base: Op, multiply: Op) -> Option<Instr>
+    ensures { result ≡ (if funct7 word == 0b0000000 then Some (operands R base word)
+        else if funct7 word == 0b0000001 then Some (operands R multiply word) else None) }
 {
     // Most words of it have 0 in the seven bits of funct7.
     if word < 1 << 25 {
-        return match funct3(word) {
-            0b000 => Some(r_type(Op::Add, word)),
-            0b001 => Some(r_type(Op::Sll, word)),
-            0b010 => Some(r_type(Op::Slt, word)),
-            0b011 => Some(r_type(Op::Sltu, word)),
-            0b100 => Some(r_type(Op::Xor, word)),
-            0b101 => Some(r_type(Op::Srl, word)),
-            0b110 => Some(r_type(Op::Or, word)),
-            0b111 => Some(r_type(Op::And, word)),
-            _ => None,
-        };
+        return Some(r_type(base, word));
     }
-    match (funct7(word), funct3(word)) {
-        (0b0100000, 0b000) => Some(r_type(Op::Sub, word)),
-        (0b0100000, 0b101) => Some(r_type(Op::Sra, word)),
-        (0b0000001, 0b000) => Some(r_type(Op::Mul, word)),
-        (0b0000001, 0b001) => Some(r_type(Op::Mulh, word)),
-        (0b0000001, 0b010) => Some(r_type(Op::Mulhsu, word)),
-        (0b0000001, 0b011) => Some(r_type(Op::Mulhu, word)),
-        (0b0000001, 0b100) => Some(r_type(Op::Div, word)),
-        (0b0000001, 0b101) => Some(r_type(Op::Divu, word)),
-        (0b0000001, 0b110) => Some(r_type(Op::Rem, word)),
-        (0b0000001, 0b111) => Some(r_type(Op::Remu, word)),
+    match funct7(word) {
+        0b0000001 => Some(r_type(multiply, word)),
+        _ => None,
+    }
+}
+
+/// An operation on two registers as `op` has it, and this other one of RV32I where funct7 is 32.
+#[inline(always)]
+fn op_or(word: u32, base: Op, other: Op, multiply: Op) -> Option<Instr>
+    ensures { result ≡ (if funct7 word == 0b0000000 then Some (operands R base word)
+        else if funct7 word == 0b0100000 then Some (operands R other word)
+        else if funct7 word == 0b0000001 then Some (operands R multiply word) else None) }
+{
+    if word < 1 << 25 {
+        return Some(r_type(base, word));
+    }
+    match funct7(word) {
+        0b0100000 => Some(r_type(other, word)),
+        0b0000001 => Some(r_type(multiply, word)),
         _ => None,
     }
 }
 
 /// AMO: the atomics on words.
-#[inline]
-fn amo<const COPY: bool>(word: u32) -> Option<Instr>
-    requires { opcode word ≡ 0b0101111 }
-    ensures { result ≡ find (rows_of 0b0101111 atomic_table) word }
+///
+/// It is always taken into its caller. Else its answer would lie in memory, and then no arm leads to its own code.
+#[inline(always)]
+fn amo(word: u32) -> Option<Instr>
+    requires { fits (Minor 0b0101111 0b010) word ≡ true }
+    ensures { result ≡ find (rows_for (Minor 0b0101111 0b010) atomic_table) word }
 {
-    if funct3(word) != 0b010 {
-        return None;
-    }
     match funct5(word) {
         0b00010 if rs2(word) == 0 => Some(r_type(Op::LrW, word)),
         0b00011 => Some(r_type(Op::ScW, word)),

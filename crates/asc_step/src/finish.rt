@@ -12,7 +12,7 @@ ghost use Rattle.asc_step.specs.Execute.{AtInstruction, Finishes, IsOfVersion, P
 
 use crate::arithmetic::one_if;
 use crate::effect::{Amo, Effect, Size, changed, loaded_word};
-use crate::faults::{fault, is_aligned, word_fault};
+use crate::faults::{fault, holds, is_aligned, word_fault};
 use crate::places::{
     is_reserved, put_number, read_number, read_word, release, reserve, set_pc, set_register,
 };
@@ -105,7 +105,7 @@ fn load<B: Words>(
 {
     // That its state is one, and its marks fit it.
     let _ = bytes.shape();
-    if !shape.holds(address, size.bytes()) {
+    if !holds(shape, address, size.bytes()) {
         return fault(FaultKind::LoadOutside, pc, address);
     }
     let number = read_number(bytes, shape.place_of(address), size);
@@ -130,7 +130,7 @@ fn store<B: Words>(
 {
     // That its state is one, and its marks fit it.
     let _ = bytes.shape();
-    if !shape.holds(address, size.bytes()) {
+    if !holds(shape, address, size.bytes()) {
         return fault(FaultKind::StoreOutside, pc, address);
     }
     set_pc(bytes, pc.wrapping_add(4));

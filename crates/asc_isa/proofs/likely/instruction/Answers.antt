@@ -1,41 +1,86 @@
-use Rattle.std.proofs.Common.{false, ◌∙◌, sym, refl, ap, arith}
-use Rattle.std.proofs.lemmas.Bool.Decides.{nat_tests}
+use Rattle.std.proofs.Common.{Some, false, [], ◌∷◌, ap, ◌∙◌, refl}
+use Rattle.asc_model.specs.declared.instruction.Op.TheVariants.{Add, Addi, And, Andi, Beq, Bge, Bgeu, Blt, Bltu, Bne, Div, Jal, Jalr, Lbu, Lui, Lw, Mul, Mulhu, Or, Rem, Remu, Sb, Slli, Sltu, Srai, Srli, Sub, Sw, Xor}
+use Rattle.asc_model.specs.Instruction.{Major, Minor, U, J, I, S, B, R, Shift}
+use Rattle.asc_isa.specs.declared.kind.Kind.TheVariants as kinds
 use Rattle.asc_isa.specs.Likely.{likely}
-use Rattle.asc_isa.proofs.Rows.{decode-base}
-use Rattle.asc_isa.proofs.Frequent.{unlikely-other}
+use Rattle.asc_isa.proofs.ByKind.{decode-only, decode-likely, decode-unlikely}
 use Rattle.asc_isa.proofs.likely.instruction.Goals as goal
 
-pub returns-in-55 : goal.returns-in-55
-returns-in-55 c =
-    c.lui.ensures ∙ ap likely (decode-base false 55 c.args.word refl (sym c.opcode.ensures ∙ c.in-55.is))
+pub returns-in-Lui : goal.returns-in-Lui
+returns-in-Lui c = ap Some c.u_type.ensures ∙ ap likely (decode-only false (Major 0b0110111) U Lui c.args.word refl refl c.in-Lui.ensures)
 
-pub returns-in-111 : goal.returns-in-111
-returns-in-111 c =
-    c.jal.ensures ∙ ap likely (decode-base false 111 c.args.word refl (sym c.opcode.ensures ∙ c.in-111.is))
+pub returns-in-Jal : goal.returns-in-Jal
+returns-in-Jal c = ap Some c.j_type.ensures ∙ ap likely (decode-only false (Major 0b1101111) J Jal c.args.word refl refl c.in-Jal.ensures)
 
-pub returns-in-103 : goal.returns-in-103
-returns-in-103 c =
-    c.jalr.ensures ∙ ap likely (decode-base false 103 c.args.word refl (sym c.opcode.ensures ∙ c.in-103.is))
+pub returns-in-Jalr : goal.returns-in-Jalr
+returns-in-Jalr c = ap Some c.i_type.ensures ∙ ap likely (decode-only false (Minor 0b1100111 0b000) I Jalr c.args.word refl refl c.in-Jalr.ensures)
 
-pub returns-in-99 : goal.returns-in-99
-returns-in-99 c =
-    c.branch-word.ensures ∙ ap likely (decode-base false 99 c.args.word refl (sym c.opcode.ensures ∙ c.in-99.is))
+pub returns-in-Beq : goal.returns-in-Beq
+returns-in-Beq c = ap Some c.b_type.ensures ∙ ap likely (decode-only false (Minor 0b1100011 0b000) B Beq c.args.word refl refl c.in-Beq.ensures)
 
-pub returns-in-3 : goal.returns-in-3
-returns-in-3 c =
-    c.load.ensures ∙ ap likely (decode-base false 3 c.args.word refl (sym c.opcode.ensures ∙ c.in-3.is))
+pub returns-in-Bne : goal.returns-in-Bne
+returns-in-Bne c = ap Some c.b_type-in-Bne.ensures ∙ ap likely (decode-only false (Minor 0b1100011 0b001) B Bne c.args.word refl refl c.in-Bne.ensures)
 
-pub returns-in-35 : goal.returns-in-35
-returns-in-35 c =
-    c.store.ensures ∙ ap likely (decode-base false 35 c.args.word refl (sym c.opcode.ensures ∙ c.in-35.is))
+pub returns-in-Blt : goal.returns-in-Blt
+returns-in-Blt c = ap Some c.b_type-in-Blt.ensures ∙ ap likely (decode-only false (Minor 0b1100011 0b100) B Blt c.args.word refl refl c.in-Blt.ensures)
 
-pub returns-in-19 : goal.returns-in-19
-returns-in-19 c =
-    c.op_imm.ensures ∙ ap likely (decode-base false 19 c.args.word refl (sym c.opcode.ensures ∙ c.in-19.is))
+pub returns-in-Bge : goal.returns-in-Bge
+returns-in-Bge c = ap Some c.b_type-in-Bge.ensures ∙ ap likely (decode-only false (Minor 0b1100011 0b101) B Bge c.args.word refl refl c.in-Bge.ensures)
 
-pub returns-in-51 : goal.returns-in-51
-returns-in-51 c =
-    c.op.ensures ∙ ap likely (decode-base false 51 c.args.word refl (sym c.opcode.ensures ∙ c.in-51.is))
+pub returns-in-Bltu : goal.returns-in-Bltu
+returns-in-Bltu c = ap Some c.b_type-in-Bltu.ensures ∙ ap likely (decode-only false (Minor 0b1100011 0b110) B Bltu c.args.word refl refl c.in-Bltu.ensures)
 
-pub returns-in_default : goal.returns-in_default
-returns-in_default c = unlikely-other c.args.word (grind (arith, nat_tests))
+pub returns-in-Bgeu : goal.returns-in-Bgeu
+returns-in-Bgeu c = ap Some c.b_type-in-Bgeu.ensures ∙ ap likely (decode-only false (Minor 0b1100011 0b111) B Bgeu c.args.word refl refl c.in-Bgeu.ensures)
+
+pub returns-in-Lw : goal.returns-in-Lw
+returns-in-Lw c = ap Some c.i_type-in-Lw.ensures ∙ ap likely (decode-only false (Minor 0b0000011 0b010) I Lw c.args.word refl refl c.in-Lw.ensures)
+
+pub returns-in-Lbu : goal.returns-in-Lbu
+returns-in-Lbu c = ap Some c.i_type-in-Lbu.ensures ∙ ap likely (decode-only false (Minor 0b0000011 0b100) I Lbu c.args.word refl refl c.in-Lbu.ensures)
+
+pub returns-in-Sb : goal.returns-in-Sb
+returns-in-Sb c = ap Some c.s_type.ensures ∙ ap likely (decode-only false (Minor 0b0100011 0b000) S Sb c.args.word refl refl c.in-Sb.ensures)
+
+pub returns-in-Sw : goal.returns-in-Sw
+returns-in-Sw c = ap Some c.s_type-in-Sw.ensures ∙ ap likely (decode-only false (Minor 0b0100011 0b010) S Sw c.args.word refl refl c.in-Sw.ensures)
+
+pub returns-in-Addi : goal.returns-in-Addi
+returns-in-Addi c = ap Some c.i_type-in-Addi.ensures ∙ ap likely (decode-only false (Minor 0b0010011 0b000) I Addi c.args.word refl refl c.in-Addi.ensures)
+
+pub returns-in-Andi : goal.returns-in-Andi
+returns-in-Andi c = ap Some c.i_type-in-Andi.ensures ∙ ap likely (decode-only false (Minor 0b0010011 0b111) I Andi c.args.word refl refl c.in-Andi.ensures)
+
+pub returns-in-Slli : goal.returns-in-Slli
+returns-in-Slli c =
+    c.shift_by.ensures ∙ decode-likely Shift 0b0010011 0b001 c.args.word ((0b0000000, Slli) ∷ []) [] refl refl refl refl c.in-Slli.ensures
+
+pub returns-in-Srli : goal.returns-in-Srli
+returns-in-Srli c =
+    c.shift_by-in-Srli.ensures ∙ decode-likely Shift 0b0010011 0b101 c.args.word ((0b0000000, Srli) ∷ []) ((0b0100000, Srai) ∷ []) refl refl refl refl c.in-Srli.ensures
+
+pub returns-in-Add : goal.returns-in-Add
+returns-in-Add c =
+    c.add_or_sub.ensures ∙ decode-likely R 0b0110011 0b000 c.args.word ((0b0000000, Add) ∷ (0b0100000, Sub) ∷ []) ((0b0000001, Mul) ∷ []) refl refl refl refl c.in-Add.ensures
+
+pub returns-in-Sltu : goal.returns-in-Sltu
+returns-in-Sltu c =
+    c.base.ensures ∙ decode-likely R 0b0110011 0b011 c.args.word ((0b0000000, Sltu) ∷ []) ((0b0000001, Mulhu) ∷ []) refl refl refl refl c.in-Sltu.ensures
+
+pub returns-in-Xor : goal.returns-in-Xor
+returns-in-Xor c =
+    c.base-in-Xor.ensures ∙ decode-likely R 0b0110011 0b100 c.args.word ((0b0000000, Xor) ∷ []) ((0b0000001, Div) ∷ []) refl refl refl refl c.in-Xor.ensures
+
+pub returns-in-Or : goal.returns-in-Or
+returns-in-Or c =
+    c.base-in-Or.ensures ∙ decode-likely R 0b0110011 0b110 c.args.word ((0b0000000, Or) ∷ []) ((0b0000001, Rem) ∷ []) refl refl refl refl c.in-Or.ensures
+
+pub returns-in-And : goal.returns-in-And
+returns-in-And c =
+    c.base-in-And.ensures ∙ decode-likely R 0b0110011 0b111 c.args.word ((0b0000000, And) ∷ []) ((0b0000001, Remu) ∷ []) refl refl refl refl c.in-And.ensures
+
+pub returns-in-Auipc : goal.returns-in-Auipc
+returns-in-Auipc c =
+    decode-unlikely c.kind_of.result kinds.Auipc
+    (kinds.Lb ∷ kinds.Lh ∷ kinds.Lhu ∷ kinds.Sh ∷ kinds.Slti ∷ kinds.Sltiu ∷ kinds.Xori ∷ kinds.Ori ∷ kinds.Sll ∷ kinds.Slt ∷ kinds.Srl ∷ kinds.Fence ∷ kinds.FenceI ∷ kinds.System ∷ kinds.Atomic ∷ kinds.Other ∷ [])
+    c.args.word refl c.in-Auipc.is c.kind_of.ensures
