@@ -30,7 +30,7 @@ ROOT = Path(__file__).resolve().parent.parent
 # ---------------------------------------------------------------------------------------------------------------------
 # The program
 
-NEEDED = "asc_model asc_outside asc_shape asc_depvec asc_isa asc_step asc_traj asc_shard asc_cache"
+NEEDED = "asc_model asc_outside asc_pages asc_shape asc_depvec asc_isa asc_step asc_traj asc_shard asc_cache"
 
 LINE = "asc_looks may_wait=9: asc_cache asc_shard asc_traj asc_depvec asc_shape asc_model\n"
 
@@ -43,7 +43,7 @@ ghost use Rattle.asc_traj.specs.Trace.{StandsFor};
 
 use asc_cache::{Cache, ShardReaders, ShardWriter};
 use asc_depvec::Tracer;
-use asc_shape::{Memory, Shape, State};
+use asc_shape::{Guess, Memory, Shape, Snapshot, State};
 use asc_shard::Inserted;
 use asc_traj::{Entry, Finder, Flag, Halt, Halter, Never, Stop, trace};
 use std::alloc::Global;
@@ -92,18 +92,21 @@ fn traced(alloc: Global, from: &State) -> Result<(u64, Tracer), Memory>
     ensures { IfOk result (λ t. StandsFor t.0 t.1) }
 {
     let mut tracer = Tracer::new(alloc, from.shape(), 4096)?;
-    tracer.start(from);
+    let guess = Guess::last(Snapshot::of(alloc, from)?);
+    // That it is a state, of the same shape.
+    let _ = guess.shape();
+    tracer.start(guess);
     let stop = Stop { pc: 0x1001C, laps: 1, span: 1000 };
     let traced = trace(&mut tracer, &stop, &mut Never);
     Ok((traced.steps, tracer))
 }
 
 fn entry_of(alloc: Global, from: &State) -> Result<Arc<Entry>, Memory> {
-    let (steps, tracer) = traced(alloc, from)?;
+    let (steps, mut tracer) = traced(alloc, from)?;
     if steps == 0 {
         return Err(Memory);
     }
-    Entry::of(alloc, &tracer, steps)
+    Entry::of(alloc, &mut tracer, steps)
 }
 
 /// The entries of numbers, from one on.

@@ -16,7 +16,7 @@ answer it prints the processor's nanoseconds of a look-up, the least of three ru
     hit   one of the entries matches the state
     miss  none does
 
-It ends with an error where an answer is not the one that it must be, or the last entry does not read so many places.
+It ends with an error where an answer is not the one that it must be, or the last entry does not read so many parts of words.
 """
 
 import resource
@@ -31,7 +31,7 @@ ROOT = Path(__file__).resolve().parent.parent
 # ---------------------------------------------------------------------------------------------------------------------
 # The program
 
-NEEDED = "asc_model asc_outside asc_shape asc_depvec asc_isa asc_step asc_traj asc_shard"
+NEEDED = "asc_model asc_outside asc_pages asc_shape asc_depvec asc_isa asc_step asc_traj asc_shard"
 
 LINE = "asc_looks: asc_shard asc_traj asc_depvec asc_shape asc_model\n"
 
@@ -43,7 +43,7 @@ ghost use Rattle.std.specs.Prelude.{◌≡◌, ◌<◌, ◌≤◌, IfSome};
 ghost use Rattle.asc_traj.specs.Trace.{StandsFor};
 
 use asc_depvec::Tracer;
-use asc_shape::{Shape, State, Steps};
+use asc_shape::{Guess, Shape, Snapshot, State, Steps};
 use asc_shard::Shard;
 use asc_traj::{Entry, Never, Stop, Traced, longest_match, trace};
 use std::alloc::Global;
@@ -102,18 +102,21 @@ fn traced(alloc: Global, from: &State) -> Option<(Traced, Tracer)>
     ensures { IfSome result (λ t. StandsFor t.0.steps t.1) }
 {
     let mut tracer = Tracer::new(alloc, from.shape(), 4096).ok()?;
-    tracer.start(from);
+    let guess = Guess::last(Snapshot::of(alloc, from).ok()?);
+    // That it is a state, of the same shape.
+    let _ = guess.shape();
+    tracer.start(guess);
     let stop = Stop { pc: 0x1001C, laps: 1, span: 1000 };
     let traced = trace(&mut tracer, &stop, &mut Never);
     Some((traced, tracer))
 }
 
 fn entry_of(alloc: Global, from: &State) -> Option<Arc<Entry>> {
-    let (traced, tracer) = traced(alloc, from)?;
+    let (traced, mut tracer) = traced(alloc, from)?;
     if traced.steps == 0 {
         return None;
     }
-    Entry::of(alloc, &tracer, traced.steps).ok()
+    Entry::of(alloc, &mut tracer, traced.steps).ok()
 }
 
 fn start(alloc: Global, mode: u64, k: u32) -> Option<State> {
@@ -217,8 +220,8 @@ def build(folder):
 
 SCAN, FIND = range(2)
 
-# How many places the last entry of each kind reads.
-READS = (316, 316, 316, 328, 332)
+# How many parts of words the last entry of each kind reads.
+READS = (79, 79, 79, 82, 83)
 
 def seconds(command, answer):
     """The processor's seconds of a run that must write this answer, the least of three."""

@@ -8,12 +8,13 @@ A program over `asc_shape` is added to a copy of the crates under it in a tempor
 `rt run`, and run.
 
 Microseconds are of memory of 256 KiB, 1 MiB and 64 MiB of which 60 KiB are used: for a whole copy, for a freeze after
-a byte changed in each of 1, 4 and 16 pages, for a restore, for a pair of snapshots that differ in one page, for a
-stride of that pair, and for `fill` after one byte changed.
+the pc and a byte in each of 1, 4 and 16 places 16 KiB apart changed, for a guess of two copies that is written into a
+state, and for `fill` after one byte changed.
 
-Instructions are of memory of 64 KiB, 1 MiB and 64 MiB of which the first 1 or 16 pages are used. In each of these a
-byte changes before each call, and both snapshots of a pair differ in them. What the changes cost that mark nothing new
-is taken off.
+Instructions are of memory of 64 KiB, 1 MiB and 64 MiB of which 4, 64 or 480 KiB are used: for a freeze after the pc
+changed, and after a byte of one page changed too, each with letting go of the copy before; and for `fill`. What the
+changes cost is taken off. The last column is a byte in the first page and one in the last. Below stands what a word of
+a guess costs, of one copy and of two, with some 11 of the loop around it.
 """
 
 import os
@@ -29,7 +30,7 @@ ROOT = Path(__file__).resolve().parent.parent
 # ---------------------------------------------------------------------------------------------------------------------
 # The program
 
-NEEDED = "asc_model asc_outside asc_shape"
+NEEDED = "asc_model asc_outside asc_pages asc_shape"
 
 LINE = "asc_copies: asc_shape\n"
 
@@ -37,9 +38,9 @@ MAIN = """\
 //! What copies of states cost. It is timed from outside.
 #![tactic(auto)]
 
-ghost use Rattle.std.specs.Prelude.{◌≡◌, ◌≤◌};
+ghost use Rattle.std.specs.Prelude.{◌≡◌, ◌≤◌, ◌+◌};
 
-use asc_shape::{Pair, Shape, Snapshot, State};
+use asc_shape::{Guess, Shape, State};
 use std::alloc::Global;
 use std::env;
 use std::process::ExitCode;
@@ -51,7 +52,8 @@ fn main(rt: HostRuntime) -> ExitCode {
     let Some(given) = numbers(&rt) else {
         return ExitCode::FAILURE;
     };
-    match measured(rt.alloc(), given[0], given[1], given[2], Pages { count: given[3], apart: given[4] }, given[5]) {
+    let pages = Pages { count: given[3], apart: given[4] };
+    match measured(rt.alloc(), given[0], given[1], given[2], pages, given[5]) {
         Some(_) => ExitCode::SUCCESS,
         None => ExitCode::FAILURE,
     }
@@ -67,7 +69,7 @@ fn numbers(rt: &HostRuntime) -> Option<[u64; 6]> {
     Some(found)
 }
 
-/// The pages in which a byte changes.
+/// The pages of 4096 bytes in which a byte changes.
 #[derive(Clone, Copy)]
 struct Pages {
     count: u64,
@@ -82,9 +84,9 @@ fn measured(alloc: Global, what: u64, size: u64, used: u64, pages: Pages, rounds
     match what {
         0 => copies(alloc, &state, rounds),
         1 => freezes(alloc, &mut state, pages, rounds),
-        2 => restores(alloc, &mut state, pages, rounds),
-        3 => pairs(alloc, &mut state, pages, rounds),
-        4 => strides(alloc, &mut state, pages, rounds),
+        2 => words(alloc, &mut state, pages, rounds, false),
+        3 => words(alloc, &mut state, pages, rounds, true),
+        4 => guesses(alloc, &mut state, pages, rounds),
         5 => fills(&mut state, pages, rounds),
         6 => changes(&mut state, pages, rounds),
         _ => None,
@@ -98,9 +100,12 @@ fn changes(state: &mut State, pages: Pages, rounds: u64) -> Option<u64> {
     Some(rounds)
 }
 
+/// The pc changes, and a byte in each of the pages.
 fn change(state: &mut State, pages: Pages, round: u64) {
+    state.set_pc((round % 256) as u32);
     for page in 0..pages.count {
-        put(state, page.saturating_mul(pages.apart).saturating_mul(4096), (round % 256) as u8);
+        let place = page.saturating_mul(pages.apart).saturating_mul(4096).saturating_add(200);
+        put(state, place, (round % 256) as u8);
     }
 }
 
@@ -108,7 +113,7 @@ fn change(state: &mut State, pages: Pages, round: u64) {
 fn touch(state: &mut State, used: u64) {
     for place in 0..used {
         if place % 1024 == 7 {
-            put(state, place, 1);
+            put(state, place.saturating_add(200), 1);
         }
     }
 }
@@ -147,70 +152,52 @@ fn freezes(alloc: Global, state: &mut State, pages: Pages, rounds: u64) -> Optio
     Some(rounds)
 }
 
-/// A state made equal to one copy and the other in turn.
-fn restores(alloc: Global, state: &mut State, pages: Pages, rounds: u64) -> Option<u64> {
-    let (first, second) = both(alloc, state, pages)?;
-    let mut copy = State::new(alloc, state.shape()).ok()?;
-    for round in 0..rounds {
-        change(&mut copy, pages, round);
-        restore(&mut copy, &first);
-        change(&mut copy, pages, round);
-        restore(&mut copy, &second);
-    }
-    Some(copy.len() as u64)
-}
-
-fn restore(copy: &mut State, from: &Snapshot) {
-    if copy.shape() == from.shape() {
-        copy.restore(from);
-    }
-}
-
-/// Two copies, which differ in the pages, or in the first one where these are none.
-fn both(alloc: Global, state: &mut State, pages: Pages) -> Option<(Arc<Snapshot>, Arc<Snapshot>)> {
-    let first = state.freeze(alloc).ok()?;
-    put(state, 0, 9);
+/// Two copies, which differ in the pages, as a guess.
+fn guess_of(alloc: Global, state: &mut State, pages: Pages, two: bool) -> Option<Guess> {
+    let prev = state.freeze(alloc).ok()?;
     change(state, pages, 9);
-    let second = state.freeze(alloc).ok()?;
-    Some((first, second))
-}
-
-fn pair_of(alloc: Global, prev: &Arc<Snapshot>, last: &Arc<Snapshot>) -> Option<Pair> {
-    let prev = Arc::try_clone(prev).ok()?;
-    let last = Arc::try_clone(last).ok()?;
+    let last = state.freeze(alloc).ok()?;
     if prev.shape() != last.shape() {
         return None;
     }
-    Pair::of(alloc, prev, last).ok()
+    Some(if two { Guess::stride(prev, last, 3) } else { Guess::last(last) })
 }
 
-fn pairs(alloc: Global, state: &mut State, pages: Pages, rounds: u64) -> Option<u64> {
-    let (first, second) = both(alloc, state, pages)?;
+/// A thousand words of a guess of one copy or of two a round, 256 places from one to the next.
+fn words(alloc: Global, state: &mut State, pages: Pages, rounds: u64, two: bool) -> Option<u64> {
+    let guess = guess_of(alloc, state, pages, two)?;
+    let mut sum = 0;
     for _ in 0..rounds {
-        let _ = pair_of(alloc, &first, &second)?;
+        sum = sum_of(&guess, sum);
     }
-    Some(rounds)
+    Some(u64::from(sum))
 }
 
-/// A state made the guess of one pair and the other in turn.
-fn strides(alloc: Global, state: &mut State, pages: Pages, rounds: u64) -> Option<u64> {
-    let (first, second) = both(alloc, state, pages)?;
-    let up = pair_of(alloc, &first, &second)?;
-    let down = pair_of(alloc, &second, &first)?;
+#[inline(never)]
+fn sum_of(guess: &Guess, first: u32) -> u32 {
+    let shape = guess.shape();
+    let _ = shape.base();
+    let len = shape.start() + shape.size();
+    let mut sum = first;
+    for k in 0..1000 {
+        let place = 256 * k;
+        if place < len && len - place >= 4 {
+            sum = sum.wrapping_add(guess.word(place));
+        }
+    }
+    sum
+}
+
+/// A guess of two copies, written into a whole state.
+fn guesses(alloc: Global, state: &mut State, pages: Pages, rounds: u64) -> Option<u64> {
+    let guess = guess_of(alloc, state, pages, true)?;
     let mut copy = State::new(alloc, state.shape()).ok()?;
-    for round in 0..rounds {
-        change(&mut copy, pages, round);
-        stride(&mut copy, &up, 3);
-        change(&mut copy, pages, round);
-        stride(&mut copy, &down, 5);
+    for _ in 0..rounds {
+        if copy.shape() == guess.shape() {
+            guess.fill(&mut copy);
+        }
     }
     Some(copy.len() as u64)
-}
-
-fn stride(copy: &mut State, pair: &Pair, ahead: u32) {
-    if copy.shape() == pair.last().shape() {
-        copy.stride(pair, ahead);
-    }
 }
 
 fn fills(state: &mut State, pages: Pages, rounds: u64) -> Option<u64> {
@@ -243,7 +230,7 @@ def build(folder):
 # ---------------------------------------------------------------------------------------------------------------------
 # Measuring
 
-COPY, FREEZE, RESTORE, PAIR, STRIDE, FILL, CHANGE = range(7)
+COPY, FREEZE, WORD, WORD_OF_TWO, GUESS, FILL, CHANGE = range(7)
 
 def seconds(command):
     """The processor's seconds of a run, the least of five."""
@@ -271,24 +258,27 @@ def a_round(cost, path, what, size, used, pages, apart, rounds):
 def time(path):
     def microseconds(what, size, pages, rounds):
         return a_round(seconds, path, what, size, 60, pages, 4, rounds) * 1e6
-    print("   KiB  whole copy  freeze 1       4      16  restore    pair  stride    fill")
+    print("   KiB  whole copy  freeze 1       4      16    guess    fill")
     for size in (256, 1024, 65536):
-        whole = microseconds(COPY, size, 0, 40 if size == 65536 else 5000)
+        few = 40 if size == 65536 else 5000
         rounds = 20000
+        whole = microseconds(COPY, size, 0, few)
         freezes = [microseconds(FREEZE, size, pages, rounds) for pages in (1, 4, 16)]
-        both = [microseconds(RESTORE, size, 0, rounds) / 2, microseconds(PAIR, size, 0, rounds),
-                microseconds(STRIDE, size, 0, rounds) / 2, microseconds(FILL, size, 1, rounds)]
+        both = [microseconds(GUESS, size, 1, few), microseconds(FILL, size, 1, few)]
         print(f"{size:6}{whole:12.1f}{freezes[0]:10.2f}{freezes[1]:8.2f}{freezes[2]:8.2f}"
-              f"{both[0]:9.2f}{both[1]:8.2f}{both[2]:8.2f}{both[3]:8.2f}", flush=True)
+              f"{both[0]:9.2f}{both[1]:8.2f}", flush=True)
 
 def count(path):
-    print("pages     KiB   freeze     pair  restore   stride     fill")
-    for pages in (1, 16):
-        for size in (64, 1024, 65536):
-            of = lambda what: a_round(instructions, path, what, size, 4 * pages, pages, 1, 100)
-            changes = of(CHANGE)
-            print(f"{pages:5}{size:8}{of(FREEZE) - changes:9.0f}{of(PAIR):9.0f}{of(RESTORE) / 2 - changes:9.0f}"
-                  f"{of(STRIDE) / 2 - changes:9.0f}{of(FILL) - changes:9.0f}", flush=True)
+    def of(what, size, used, pages, apart):
+        return a_round(instructions, path, what, size, used, pages, apart, 100)
+    def freeze(size, used, pages, apart):
+        return of(FREEZE, size, used, pages, apart) - of(CHANGE, size, used, pages, apart)
+    print("   KiB  used   none    one     fill  first and last")
+    for size, used in ((64, 4), (64, 64), (1024, 4), (1024, 480), (65536, 4), (65536, 480)):
+        fill = of(FILL, size, used, 1, 1) - of(CHANGE, size, used, 1, 1)
+        print(f"{size:6}{used:6}{freeze(size, used, 0, 1):7.0f}{freeze(size, used, 1, 1):7.0f}{fill:9.0f}"
+              f"{freeze(size, used, 2, size // 4 - 2):16.0f}", flush=True)
+    print("a word of one copy, of two:", *(of(what, 256, 256, 1, 1) / 1000 for what in (WORD, WORD_OF_TWO)))
 
 def main():
     with tempfile.TemporaryDirectory() as folder:

@@ -35,7 +35,7 @@ from loops import ROOT, WIDE, addi, counted, loops, lui, lw, op, sw
 # ---------------------------------------------------------------------------------------------------------------------
 # The program
 
-NEEDED = "asc_model asc_outside asc_shape asc_depvec asc_isa asc_step asc_traj"
+NEEDED = "asc_model asc_outside asc_pages asc_shape asc_depvec asc_isa asc_step asc_traj"
 
 LINE = "asc_tracing: asc_traj asc_depvec asc_step asc_shape\n"
 
@@ -43,16 +43,17 @@ MAIN = """\
 //! Plain and traced steps of loops. It is timed from outside.
 #![tactic(auto)]
 
-ghost use Rattle.std.specs.Prelude.{{◌≡◌, ◌<◌, ◌≤◌}};
+ghost use Rattle.std.specs.Prelude.{{◌≡◌, ◌<◌, ◌≤◌, IfSome}};
 
 use asc_depvec::Tracer;
-use asc_shape::{{Shape, State, Steps}};
+use asc_shape::{{Guess, Shape, Snapshot, State, Steps}};
 use asc_step::{{Stepped, step_many}};
 use asc_traj::{{Entry, Never, Stop, trace}};
 use std::alloc::Global;
 use std::env;
 use std::marker::Brand;
 use std::process::ExitCode;
+use std::sync::Arc;
 use std::sync::ledger::{{Blank, Ledger}};
 
 /// The words of the loops, which are put to 0x10000.
@@ -129,12 +130,14 @@ fn walk_counted<L: Ledger>(state: &mut State, most: u64, blank: Blank) -> bool
     step_many(state, most, &mut steps).1 == Stepped::Went
 }}
 
-/// Rounds of a trace and what follows it: 1 `reset`, 2 `start`, 3 `Entry::of` and `reset`. No pc is odd.
+/// Rounds of a trace and what follows it: 1 `reset`, 2 `start`, 3 `Entry::of` and `reset`, 4 `start` of a state that
+/// two snapshots lead to. No pc is odd.
 fn traces(alloc: Global, state: &State, what: u64, rounds: u64, span: u64) -> Option<usize>
     requires {{ 1 ≤ span }}
 {{
     let mut tracer = Tracer::new(alloc, state.shape(), 65_536).ok()?;
-    tracer.start(state);
+    let snapshot = Snapshot::of(alloc, state).ok()?;
+    tracer.start(started(&snapshot, what)?);
     let stop = Stop {{
         pc: 1,
         laps: 1,
@@ -143,17 +146,29 @@ fn traces(alloc: Global, state: &State, what: u64, rounds: u64, span: u64) -> Op
     let mut touched = 0;
     for _ in 0..rounds {{
         let steps = trace(&mut tracer, &stop, &mut Never).steps;
-        if steps != span || what == 3 && Entry::of(alloc, &tracer, steps).is_err() {{
+        if steps != span || what == 3 && Entry::of(alloc, &mut tracer, steps).is_err() {{
             return None;
         }}
         touched = tracer.mark();
-        if what == 2 {{
-            tracer.start(state);
+        if what == 2 || what == 4 {{
+            tracer.start(started(&snapshot, what)?);
         }} else {{
             tracer.reset();
         }}
     }}
     Some(touched)
+}}
+
+fn started(snapshot: &Arc<Snapshot>, what: u64) -> Option<Guess>
+    ensures {{ IfSome result (λ start. start.shape ≡ snapshot.now.value.shape) }}
+{{
+    let last = Arc::try_clone(snapshot).ok()?;
+    if what == 4 {{
+        let prev = Arc::try_clone(snapshot).ok()?;
+        Some(Guess::stride(prev, last, 1))
+    }} else {{
+        Some(Guess::last(last))
+    }}
 }}
 """
 
@@ -166,7 +181,7 @@ abbrev pub invariant-loop : goal.invariant-loop
 invariant-loop l = record {
   touched : l.tracer.touched ≡ [];
   own : l.tracer.state.shape ≡ l.tracer.shape;
-  same : l.tracer.shape ≡ l.fn.state.shape;
+  same : l.tracer.shape ≡ l.snapshot.value.shape;
 }
 """
 
@@ -219,7 +234,7 @@ def build(folder):
 # ---------------------------------------------------------------------------------------------------------------------
 # Measuring
 
-PLAIN, RESET, START, ENTRY = range(4)
+PLAIN, RESET, START, ENTRY, STRIDE = range(5)
 SPAN = 1000
 
 def seconds(command):
@@ -256,12 +271,21 @@ def main():
     with tempfile.TemporaryDirectory() as folder:
         path, names = build(folder)
         if count:
-            print("          plain  traced   ratio  places  first and reset  Entry::of")
+            print("          plain  traced   ratio  places  first and reset  Entry::of  first and start  of two")
             for name, plain, traced, taken in measure(path, names, instructions, steps):
                 reset, places = taken(RESET, rounds, SPAN)
                 entry = taken(ENTRY, rounds, SPAN)[0]
+                start = taken(START, rounds, SPAN)[0]
+                stride = taken(STRIDE, rounds, SPAN)[0]
                 print(f"{name:8}{plain / steps:7.1f}{traced / steps:8.1f}{traced / plain:8.2f}{places:8}"
-                      f"{(reset - traced) / rounds / places:17.1f}{(entry - reset) / rounds / places:11.1f}")
+                      f"{(reset - traced) / rounds / places:17.1f}{(entry - reset) / rounds / places:11.1f}"
+                      f"{(start - traced) / rounds / places:17.1f}{(stride - traced) / rounds / places:8.1f}")
+            name = names[0]
+            words = lambda *numbers: [str(path), *map(str, numbers)]
+            for what in (START, STRIDE):
+                few = instructions(words(0, what, 1000, 10))[0] - instructions(words(0, what, 1, 10))[0]
+                resets = instructions(words(0, RESET, 1000, 10))[0] - instructions(words(0, RESET, 1, 10))[0]
+                print(f"start {what}: {(few - resets) / 999:.1f} more than reset, at 10 steps; a round {few / 999:.1f}")
         else:
             print("        plain ns traced ns   ratio  start us")
             for name, plain, traced, taken in measure(path, names, seconds, steps):

@@ -23,7 +23,7 @@ ROOT = Path(__file__).resolve().parent.parent
 # ---------------------------------------------------------------------------------------------------------------------
 # The program
 
-NEEDED = ("asc_model asc_outside asc_shape asc_depvec asc_elf asc_isa asc_step asc_traj asc_shard asc_guess asc_calls"
+NEEDED = ("asc_model asc_outside asc_pages asc_shape asc_depvec asc_elf asc_isa asc_step asc_traj asc_shard asc_guess asc_calls"
           " asc_run")
 
 LINE = "asc_visiting: asc_run asc_step asc_traj asc_shape\n"

@@ -1,6 +1,10 @@
 -- One more shard that was just opened.
-use Rattle.std.proofs.Common.{◌≡◌, ℕ, zero, suc, ◌+◌, ◌<◌, ◌≤◌, List, [], ◌∷◌, ◌++◌, length, get_or, refl, ap, sym, ◌∙◌, subst, arith, ⊎_elim, length-append}
+use Rattle.std.proofs.Common.{◌≡◌, ℕ, zero, suc, ◌+◌, ◌<◌, ◌≤◌, Bool, true, false, Result, Ok, Err, OnOk, drop, List, [], ◌∷◌, ◌++◌, length, get_or, refl, ap, sym, ◌∙◌, subst, arith, ⊎_elim, length-append}
 use Rattle.std.proofs.lemmas.Bool.{cases_lt}
+use Rattle.std.specs.Result.{is_err}
+use Rattle.asc_shard.specs.Content.{content_of}
+use Rattle.asc_cache.specs.ShardRule.{Front, IsAlike, IsFolded}
+use Rattle.asc_cache.specs.declared.instance.Instance.{Instance}
 use Rattle.asc_cache.specs.Cache.{Cache, ShardWriter, ShardReader, ShardReaders, AreLater, AreOpened, IsOpened, IsOwnReader}
 
 -- a list with one element more, at its old places and at the new one
@@ -56,3 +60,27 @@ own-stays v w rs qs shard index later own = record {
   there = omega (arith, index, own.there, later.count);
   shard = λ d. ap (λ k. (get_or qs k d).shard) index ∙ (later.each v.index d own.there).shard ∙ own.shard d ∙ sym shard;
 }
+
+-- what holds where there is a value, and it is known that there is one
+clash : true ≡ false → ⊥
+clash e = cc
+
+pub no-error : {T E P : Type 0} (r : Result T E) → OnOk r P → is_err r ≡ false → P
+no-error (Ok x) holds none = holds
+no-error (Err x) holds none = absurd (clash none)
+
+-- what is shown of a shard that was empty, and of one like it
+pub begun : (whole : Front) (first shown after : Instance) → whole.log ≡ [] → first.shard.held ≡ [] → first.front ≡ whole → shown ≡ first → IsAlike shown after
+    → IsFolded after × (whole.book ≡ after.front.book) × (whole.log ≡ after.front.log)
+begun whole first shown after none empty front is alike =
+    let same : after.front ≡ whole = alike.1 ∙ ap (λ (x : Instance). x.front) is ∙ front in
+    let held : after.shard.held ≡ [] = ap (λ s. s.held) (alike.0 ∙ ap (λ (x : Instance). x.shard) is) ∙ empty in
+    let log : after.front.log ≡ [] = ap (λ (f : Front). f.log) same ∙ none in
+    (held ∙ sym (ap (content_of after.shard.capacity) log), sym (ap (λ (f : Front). f.book) same), sym (ap (λ (f : Front). f.log) same))
+
+-- a shard that is the same is as like it
+pub told : (shown after now : Instance) → now ≡ after → IsAlike shown after → IsAlike shown now
+told shown after now is alike = (ap (λ (x : Instance). x.shard) is ∙ alike.0, ap (λ (x : Instance). x.front) is ∙ alike.1)
+
+pub none-behind : {X : Type 0} (n m : ℕ) (xs ys : List X) → n ≡ m → xs ≡ ys → drop m ys ≡ [] → drop n xs ≡ []
+none-behind n m xs ys count same none = ap (λ k. drop k xs) count ∙ ap (drop m) same ∙ none

@@ -7,18 +7,21 @@ use Rattle.std.proofs.lemmas.List.Elements.{All-cons, All-head, All-nil, All-tai
 use Rattle.std.proofs.lemmas.Nat.{and_block}
 use Rattle.asc_model.specs.declared.status.Status.{Status}
 use Rattle.asc_model.specs.declared.status.Status.TheVariants.{Untouched, Read, Written, ReadWritten}
-use Rattle.asc_model.specs.Number.{AreBytes, bytes_of, word_at}
-use Rattle.asc_model.specs.Shape.{is_same_shape}
+use Rattle.asc_model.specs.Number.{AreBytes, word_at}
 use Rattle.asc_model.specs.State.{State}
-use Rattle.asc_model.specs.Places.{bytes_after, cells, places_from}
+use Rattle.asc_model.specs.Places.{bytes_after, places_from}
 use Rattle.asc_model.proofs.Numbers.{number_at-suc}
 use Rattle.asc_shape.specs.Face.{Face, Marks, Untold, Told, status_at, is_untouched, status_after_read, status_after_write, marks_after, face_after_read, face_after_put, face_after_reads, face_after_puts, untouched_count}
-use Rattle.asc_shape.proofs.Faces.{state-reads, state-puts, untouched_count-cons}
-use Rattle.asc_depvec.specs.declared.tracer.Tracer.TheInside.{Inside}
-use Rattle.asc_depvec.specs.Tracer.{HaveStatus, Tracing, cap_of, face_of}
-use Rattle.asc_depvec.specs.Inside.{AreWritten, status_of, statuses_of, tracing_of, IsTracer}
-use Rattle.asc_depvec.proofs.Insides.{HasRoom, tracing_of-own, untouched_count-one}
+use Rattle.asc_shape.proofs.Faces.{untouched_count-cons}
+use Rattle.asc_depvec.specs.Tracer.{HaveStatus}
+use Rattle.asc_depvec.specs.Inside.{AreWritten, status_of, statuses_of}
+use Rattle.asc_depvec.proofs.Rows.{told}
 use Rattle.asc_depvec.proofs.UndoneReads.{after_read_touched}
+
+-- one place that is touched for the first time, or none
+pub untouched_count-one : (cap : ℕ) (statuses : List Status) (touched : List (ℕ × ℕ)) (place : ℕ) → untouched_count (Told cap statuses touched) (place ∷ []) ≡ (if is_untouched (status_at statuses place) then 1 else 0)
+unfolding untouched_count
+untouched_count-one cap statuses touched place = grind arith
 
 -- a place that does not count as untouched is touched
 touched_by : (b : Bool) (count : ℕ) → count ≡ (if b then 1 else 0) → count ≡ 0 → b ≡ false
@@ -60,6 +63,16 @@ not_untouched mark none = by_tests (mark == 3) (mark == 2) (mark == 4) (ne_eqb m
     by_tests false false true e = refl
     by_tests false false false e = refl
 
+-- a byte that is another than the mark of an untouched place
+pub other_mark : (mark : ℕ) → (mark ≡ 3 → ⊥) → is_untouched (status_of mark) ≡ false
+other_mark mark other = by_tests (mark == 3) (mark == 2) (mark == 4) (ne_eqb mark 3 other)
+  where
+    by_tests : (a b c : Bool) → a ≡ false → is_untouched (if a then Untouched else (if b then Read else (if c then Written else ReadWritten))) ≡ false
+    by_tests true b c e = absurd (false≢true (sym e))
+    by_tests false true c e = refl
+    by_tests false false true e = refl
+    by_tests false false false e = refl
+
 -- a byte without bit 1 is the mark of a place that was written
 written_mark : (mark : ℕ) → bit_and mark 2 ≡ 0 → (status_after_write (status_of mark) ≡ status_of mark) × (is_untouched (status_of mark) ≡ false)
 written_mark mark none =
@@ -89,56 +102,43 @@ marks_read (Told cap statuses touched) place byte none =
     ∙ ap (λ (list : List Status). Told cap list touched) (set-get_or statuses place Untouched)
 
 -- nor anything else
-read_touched : (f : Face) (place : ℕ) → untouched_count f.marks (place ∷ []) ≡ 0 → face_after_read f place ≡ f
+pub read_touched : (f : Face) (place : ℕ) → untouched_count f.marks (place ∷ []) ≡ 0 → face_after_read f place ≡ f
 unfolding face_after_read
 read_touched f place none =
     ap (λ (m : Marks). let g : Face = record { state = f.state; marks = m } in g) (marks_read f.marks place (slice_index f.state.bytes place) none)
 
 -- reads of touched places change nothing
-reads_touched : (f : Face) (places : List ℕ) → untouched_count f.marks places ≡ 0 → face_after_reads f places ≡ f
+pub reads_touched : (f : Face) (places : List ℕ) → untouched_count f.marks places ≡ 0 → face_after_reads f places ≡ f
 unfolding face_after_reads
 reads_touched f [] none = refl
 reads_touched f (place ∷ places) none =
     let parts = untouched_count-cons f.marks place places in
     ap (λ (g : Face). face_after_reads g places) (read_touched f place (omega arith)) ∙ reads_touched f places (omega arith)
 
+-- four places of which none counts as untouched
+pub four_touched : (statuses : List Status) (place : ℕ) → untouched_count (Told 0 statuses []) (places_from place 4) ≡ 0
+    → (is_untouched (status_at statuses place) ≡ false) × (is_untouched (status_at statuses (place + 1)) ≡ false)
+    × (is_untouched (status_at statuses (place + 2)) ≡ false) × (is_untouched (status_at statuses (place + 3)) ≡ false)
+four_touched statuses place none =
+    let marks = Told 0 statuses [] in
+    let third : place + 1 + 1 ≡ place + 2 = omega arith in
+    let fourth : place + 1 + 1 + 1 ≡ place + 3 = omega arith in
+    let a = untouched_count-cons marks place ((place + 1) ∷ (place + 1 + 1) ∷ (place + 1 + 1 + 1) ∷ []) in
+    let b = untouched_count-cons marks (place + 1) ((place + 1 + 1) ∷ (place + 1 + 1 + 1) ∷ []) in
+    let c = untouched_count-cons marks (place + 1 + 1) ((place + 1 + 1 + 1) ∷ []) in
+    let one : (k : ℕ) → untouched_count marks (k ∷ []) ≡ 0 → is_untouched (status_at statuses k) ≡ false = place_touched 0 statuses [] in (
+      one place (omega arith),
+      one (place + 1) (omega arith),
+      ap (λ (k : ℕ). is_untouched (status_at statuses k)) (sym third) ∙ one (place + 1 + 1) (omega arith),
+      ap (λ (k : ℕ). is_untouched (status_at statuses k)) (sym fourth) ∙ one (place + 1 + 1 + 1) (omega arith),
+    )
+
 -- the count of untouched places does not depend on the cap and the list of touched ones
-count-list : (cap : ℕ) (statuses : List Status) (touched : List (ℕ × ℕ)) (places : List ℕ) → untouched_count (Told cap statuses touched) places ≡ untouched_count (Told 0 statuses []) places
+pub count-list : (cap : ℕ) (statuses : List Status) (touched : List (ℕ × ℕ)) (places : List ℕ) → untouched_count (Told cap statuses touched) places ≡ untouched_count (Told 0 statuses []) places
 unfolding untouched_count
 count-list cap statuses touched places = refl
 
--- what the code found out of the marks
-pub none_untouched : (t : Inside) (marks places : List ℕ) → marks ≡ t.marks.items
-    → untouched_count (Told 0 (statuses_of marks) []) places ≡ 0 → untouched_count (Told 0 (statuses_of t.marks.items) []) places ≡ 0
-none_untouched t marks places read none = ap (λ (list : List ℕ). untouched_count (Told 0 (statuses_of list) []) places) (sym read) ∙ none
-
--- reads of touched places leave what code sees of the tracer
-pub face-reads : (t : Inside) (now : Tracing) (places : List ℕ) → tracing_of t ≡ now → HasRoom t → untouched_count (Told 0 (statuses_of t.marks.items) []) places ≡ 0
-    → face_after_reads (face_of now) places ≡ face_of now
-face-reads t now places is has none =
-    reads_touched (face_of now) places (ap (λ (v : Tracing). untouched_count (face_of v).marks places) (sym is ∙ tracing_of-own t has.own)
-    ∙ count-list (cap_of (tracing_of t)) (statuses_of t.marks.items) t.touched.items places ∙ none)
-
--- the fields with another state
-abbrev pub with_state : Inside → State → Inside
-with_state t state = record { shape = t.shape; cap = t.cap; state = state; marks = t.marks; touched = t.touched }
-
--- A state that was read is the same.
-pub with_state-reads : (t : Inside) (state : State) (places : List ℕ)
-    → (let f : Face = record { state = state; marks = Untold } in f) ≡ face_after_reads (record { state = t.state; marks = Untold }) places
-    → with_state t state ≡ t
-with_state-reads t state places read =
-    let same : state ≡ t.state = ap (λ (f : Face). f.state) read ∙ state-reads (record { state = t.state; marks = Untold }) places in
-    ap (λ (s : State). with_state t s) same
-
 -- ---- puts
-
-abbrev told : State → (cap : ℕ) → List Status → List (ℕ × ℕ) → Face
-told state cap statuses touched = record { state = state; marks = Told cap statuses touched }
-
--- the places of cells
-abbrev pub places_of : List (ℕ × ℕ) → List ℕ
-places_of list = map (λ cell. cell.0) list
 
 -- a put at a touched place lists nothing
 put_touched : (state : State) (cap : ℕ) (statuses : List Status) (touched : List (ℕ × ℕ)) (place byte : ℕ) → is_untouched (status_at statuses place) ≡ false
@@ -150,61 +150,18 @@ put_touched state cap statuses touched place byte known =
     (if b then touched ++ (place, slice_index state.bytes place) ∷ [] else touched)) known
 
 -- puts at places that were written change no mark
-puts_written : (state : State) (cap : ℕ) (statuses : List Status) (touched list : List (ℕ × ℕ)) → AreWritten statuses (places_of list)
+pub puts_written : (state : State) (cap : ℕ) (statuses : List Status) (touched list : List (ℕ × ℕ)) → AreWritten statuses (map (λ c. c.0) list)
     → face_after_puts (told state cap statuses touched) list ≡ told (record state { bytes = bytes_after state.bytes list }) cap statuses touched
 unfolding face_after_puts
 puts_written state cap statuses touched [] were = refl
 puts_written state cap statuses touched (cell ∷ list) were =
     let P = λ (place : ℕ). (status_after_write (status_at statuses place) ≡ status_at statuses place) × (is_untouched (status_at statuses place) ≡ false) in
-    let first = All-head P cell.0 (places_of list) were in
+    let first = All-head P cell.0 (map (λ c. c.0) list) were in
     let next_state : State = record state { bytes = slice_set state.bytes cell.0 cell.1 } in
     let once = put_touched state cap statuses touched cell.0 cell.1 first.1
     ∙ ap (λ (s : Status). told next_state cap (slice_set statuses cell.0 s) touched) first.0
     ∙ ap (λ (kept : List Status). told next_state cap kept touched) (set-get_or statuses cell.0 Untouched) in
-    ap (λ (f : Face). face_after_puts f list) once ∙ puts_written next_state cap statuses touched list (All-tail P cell.0 (places_of list) were)
-
--- what the code did at a put of cells, all of whose places were written
-pub record Writes (t : Inside) (state : State) (list : List (ℕ × ℕ)) : Type 0 where
-  pub were : AreWritten (statuses_of t.marks.items) (places_of list)
-  pub put : state ≡ record t.state { bytes = bytes_after t.state.bytes list }
-
--- the state that was put
-pub state_put : (before after : State) (list : List (ℕ × ℕ))
-    → (let f : Face = record { state = after; marks = Untold } in f) ≡ face_after_puts (record { state = before; marks = Untold }) list
-    → after ≡ record before { bytes = bytes_after before.bytes list }
-state_put before after list put = ap (λ (f : Face). f.state) put ∙ state-puts (record { state = before; marks = Untold }) list
-
--- what the code did at a put of a word, from what its calls ensure
-pub Writes-from : (t : Inside) (state : State) (read : List ℕ) (place word : ℕ) → read ≡ t.marks.items → AreWritten (statuses_of read) (places_from place 4)
-    → (let f : Face = record { state = state; marks = Untold } in f) ≡ face_after_puts (record { state = t.state; marks = Untold }) (cells place (bytes_of 4 word))
-    → Writes t state (cells place (bytes_of 4 word))
-Writes-from t state read place word is_read were put = record {
-  were = subst (λ (list : List ℕ). AreWritten (statuses_of list) (places_from place 4)) is_read were;
-  put = state_put t.state state (cells place (bytes_of 4 word)) put;
-}
-
--- a state whose bytes alone changed is of the tracer's shape still
-own_shape : (t : Inside) (state : State) (list : List (ℕ × ℕ)) → HasRoom t → Writes t state list → is_same_shape state.shape t.shape ≡ true
-own_shape t state list has did = ap (λ (s : State). is_same_shape s.shape t.shape) did.put ∙ has.own
-
--- the fields stand for a tracer again
-pub IsTracer-written : (t : Inside) (state : State) (list : List (ℕ × ℕ)) → IsTracer t → HasRoom t → Writes t state list → IsTracer (with_state t state)
-IsTracer-written t state list inv has did = record {
-  cap = inv.cap;
-  room = inv.room;
-  filled = inv.filled;
-  places = inv.places;
-  other = λ e. absurd (false≢true (sym e ∙ own_shape t state list has did));
-}
-
--- what the puts leave
-pub face-written : (t : Inside) (now : Tracing) (state : State) (list : List (ℕ × ℕ)) → tracing_of t ≡ now → HasRoom t
-    → Writes t state list → face_of (tracing_of (with_state t state)) ≡ face_after_puts (face_of now) list
-face-written t now state list is has did =
-    ap face_of (tracing_of-own (with_state t state) (own_shape t state list has did))
-    ∙ ap (λ (s : State). told s (if is_same_shape s.shape t.shape then t.cap else 0) (statuses_of t.marks.items) t.touched.items) did.put
-    ∙ sym (puts_written t.state (cap_of (tracing_of t)) (statuses_of t.marks.items) t.touched.items list did.were)
-    ∙ ap (λ (v : Tracing). face_after_puts (face_of v) list) (sym (tracing_of-own t has.own) ∙ is)
+    ap (λ (f : Face). face_after_puts f list) once ∙ puts_written next_state cap statuses touched list (All-tail P cell.0 (map (λ c. c.0) list) were)
 
 -- ---- what a mask of the marks of a word tells
 

@@ -1,12 +1,12 @@
 -- How a tracer's fields stand for a tracer, and words of private contracts.
-use Rattle.std.specs.Prelude.{◌≡◌, ℕ, zero, suc, ◌+◌, ◌≤◌, false, ◌==◌, List, [], length, map, replicate, slice_set, All, vec_capacity, if◌then◌else◌}
+use Rattle.std.specs.Prelude.{◌≡◌, ℕ, zero, suc, ◌+◌, ◌*◌, ◌^◌, ◌≤◌, Bool, true, false, ◌==◌, nat_lt, List, [], ◌∷◌, length, map, slice_index, slice_set, All, if◌then◌else◌}
 use Rattle.asc_model.specs.declared.status.Status.{Status}
 use Rattle.asc_model.specs.declared.status.Status.TheVariants.{Untouched, Read, Written, ReadWritten}
-use Rattle.asc_model.specs.Shape.{length_of, is_same_shape}
+use Rattle.asc_model.specs.Shape.{length_of}
+use Rattle.asc_model.specs.State.{IsState}
 use Rattle.asc_shape.specs.Face.{Told, FitPlaces, status_at, is_untouched, status_after_write}
 use Rattle.asc_depvec.specs.declared.tracer.Tracer.TheInside.{Inside}
-use Rattle.asc_depvec.specs.declared.reserved.ReservedTracer.TheInside as reserved
-use Rattle.asc_depvec.specs.Tracer.{Tracing, most_cap}
+use Rattle.asc_depvec.specs.Tracer.{Tracing, most_cap, places_of}
 
 -- the status that a mark tells
 abbrev pub status_of : ℕ → Status
@@ -17,30 +17,51 @@ status_of mark = if mark == 3 then Untouched
 abbrev pub statuses_of : List ℕ → List Status
 statuses_of marks = map status_of marks
 
--- The statuses are those of a state of the tracer's shape. While there is a state of another shape nothing is touched.
+-- the bytes of a start at the untouched places, and others at the touched ones
+abbrev pub mixed : (start bytes : List ℕ) → List Status → List ℕ
+mixed (first ∷ start) (byte ∷ bytes) (status ∷ statuses) =
+    (if is_untouched status then first else byte) ∷ mixed start bytes statuses
+mixed start bytes statuses = []
+
+-- places, each with its byte
+abbrev pub noted : List ℕ → List ℕ → List (ℕ × ℕ)
+noted bytes [] = []
+noted bytes (place ∷ places) = (place, slice_index bytes place) ∷ noted bytes places
+
+-- An untouched place has the start's byte. What else stands for it in memory is of no account.
 abbrev pub tracing_of : Inside → Tracing
 tracing_of t = record {
   shape = t.shape;
   cap = t.cap;
-  state = t.state;
-  statuses = if is_same_shape t.state.shape t.shape then statuses_of t.marks.items
-      else replicate (length_of t.state.shape) Untouched;
-  touched = t.touched.items;
+  state = record { shape = t.shape; bytes = mixed t.start.bytes t.bytes.items (statuses_of t.marks.items) };
+  statuses = statuses_of t.marks.items;
+  touched = noted t.start.bytes (places_of t.touched.items);
 }
+
+-- whether the start's byte stands in memory too: where a place was only read, and for the four of the pc also where it is
+-- untouched
+abbrev pub is_kept : (place : ℕ) → Status → Bool
+is_kept place Untouched = nat_lt place 4
+is_kept place Read = true
+is_kept place Written = false
+is_kept place ReadWritten = false
+
+abbrev pub Keeps : (start bytes : List ℕ) → List Status → Type 0
+Keeps start bytes statuses = (place : ℕ) → is_kept place (status_at statuses place) ≡ true → slice_index bytes place ≡ slice_index start place
 
 pub record IsTracer (t : Inside) : Type 0 where
   pub cap : t.cap ≤ most_cap
-  pub room : length t.touched.items ≤ t.cap
+  pub own : t.start.shape ≡ t.shape
+  pub start : IsState t.start
+  pub size : length t.bytes.items ≡ length_of t.shape
+  pub room : length (places_of t.touched.items) ≤ t.cap
   pub filled : t.cap ≤ t.touched.cap
-  pub places : FitPlaces (length_of t.shape) (Told t.cap (statuses_of t.marks.items) t.touched.items)
-  pub other : is_same_shape t.state.shape t.shape ≡ false → t.touched.items ≡ []
-
-pub record IsReserved (r : reserved.Inside) : Type 0 where
-  pub cap : r.cap ≤ most_cap
-  pub no_marks : r.marks.items ≡ []
-  pub none : r.touched.items ≡ []
-  pub places : length_of r.state ≤ vec_capacity r.marks
-  pub reserved : r.cap ≤ vec_capacity r.touched
+  pub places : FitPlaces (length_of t.shape)
+      (Told 0 (statuses_of t.marks.items) (noted t.start.bytes (places_of t.touched.items)))
+  pub kept : Keeps t.start.bytes t.bytes.items (statuses_of t.marks.items)
+  pub blocks : length_of t.shape ≤ 256 * length t.blocks.items
+  pub few_blocks : length t.blocks.items ≤ 2 ^ 24
+  pub clear : (block : ℕ) → slice_index t.blocks.items block ≡ 0
 
 -- the statuses of all places of a list are those of places that were written
 abbrev pub AreWritten : List Status → List ℕ → Type 0
@@ -51,3 +72,13 @@ AreWritten statuses places = All (λ place. status_after_write (status_at status
 abbrev pub with_statuses : List Status → (place : ℕ) → Status → (n : ℕ) → List Status
 with_statuses statuses place status zero = statuses
 with_statuses statuses place status (suc n) = with_statuses (slice_set statuses place status) (place + 1) status n
+
+-- the statuses once these places are untouched again
+abbrev pub without : List Status → List ℕ → List Status
+without statuses [] = statuses
+without statuses (place ∷ places) = slice_set (without statuses places) place Untouched
+
+-- the bytes once these places have the start's again
+abbrev pub given : (start bytes places : List ℕ) → List ℕ
+given start bytes [] = bytes
+given start bytes (place ∷ places) = slice_set (given start bytes places) place (slice_index start place)

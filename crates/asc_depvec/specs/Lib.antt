@@ -1,5 +1,6 @@
 pub mod Touched
 pub mod Tracer
 pub mod Inside
+pub mod Bits
 pub mod Dependency
 pub mod Laws

@@ -1,12 +1,13 @@
 -- What a tracer is to contracts: a state that tells how each of its places was touched.
-use Rattle.std.specs.Prelude.{◌≡◌, ℕ, ◌+◌, ◌<◌, ◌≤◌, List, [], ◌∷◌, length, take, drop, replicate, slice_set, if◌then◌else◌}
+use Rattle.std.specs.List.{list_any}
+use Rattle.std.specs.Prelude.{◌≡◌, ℕ, ◌+◌, ◌*◌, ◌/◌, ◌%◌, ◌<◌, ◌≤◌, ◌==◌, Bool, not, filter, List, [], ◌∷◌, ◌++◌, length, take, drop, replicate, slice_set, if◌then◌else◌}
 use Rattle.asc_model.specs.declared.status.Status.{Status}
 use Rattle.asc_model.specs.declared.status.Status.TheVariants.{Untouched}
 use Rattle.asc_model.specs.Shape.{Shape, length_of, is_same_shape}
 use Rattle.asc_model.specs.State.{State}
-use Rattle.asc_model.specs.Places.{bytes_after}
+use Rattle.asc_model.specs.Places.{bytes_after, places_from}
 use Rattle.asc_model.specs.Reach.{step_room}
-use Rattle.asc_shape.specs.Face.{Face, Marks, Untold, Told, status_at}
+use Rattle.asc_shape.specs.Face.{Face, Marks, Untold, Told, is_untouched, status_at}
 
 -- The shape that it was made with, at most how many places may be touched, the state, the status of each place of it,
 -- and each touched place with its byte before its first touch, in the order of those touches.
@@ -17,11 +18,6 @@ pub record Tracing : Type 0 where
   pub statuses : List Status
   pub touched : List (ℕ × ℕ)
 
--- what memory for a tracer is for: its state's shape, and at most how many places may be touched
-pub record Reserve : Type 0 where
-  pub shape : Shape
-  pub cap : ℕ
-
 -- the least and the greatest number of places that a tracer may be made to touch: room for a step, and 64 Ki
 abbrev pub least_cap : ℕ
 least_cap = step_room
@@ -29,12 +25,12 @@ least_cap = step_room
 abbrev pub most_cap : ℕ
 most_cap = 65536
 
--- What holds of every tracer: no more is touched than may be, and where anything is touched, the state is of the
--- tracer's shape.
+-- What holds of every tracer: no more is touched than may be, and the state is of the tracer's shape.
 pub record IsTracing (t : Tracing) : Type 0 where
   pub cap : t.cap ≤ most_cap
   pub room : length t.touched ≤ t.cap
   pub own : 0 < length t.touched → t.state.shape ≡ t.shape
+  pub same : t.state.shape ≡ t.shape
 
 -- At most how many places of the state may be touched. None may be while the state has another shape than that which
 -- the tracer was made with.
@@ -65,9 +61,21 @@ untouch statuses [] = statuses
 untouch statuses (noted ∷ rest) = slice_set (untouch statuses rest) noted.0 Untouched
 
 -- The first touches since a mark taken back: the list is cut to its length at the mark, and each place cut off is
--- Untouched again. No byte and no other status changes.
+-- Untouched again and has the byte from before its first touch. No other byte and no other status changes.
 abbrev pub undone : Tracing → (mark : ℕ) → Tracing
-undone t mark = record t { statuses = untouch t.statuses (drop mark t.touched); touched = take mark t.touched }
+undone t mark = record t {
+  state = record t.state { bytes = bytes_after t.state.bytes (drop mark t.touched) };
+  statuses = untouch t.statuses (drop mark t.touched);
+  touched = take mark t.touched;
+}
+
+-- The places of an item of the list of touched places: where it is odd those of a word, and else one.
+abbrev pub places_of_item : ℕ → List ℕ
+places_of_item item = if item % 2 == 1 then places_from (item / 2) 4 else item / 2 ∷ []
+
+abbrev pub places_of : List ℕ → List ℕ
+places_of [] = []
+places_of (item ∷ items) = places_of_item item ++ places_of items
 
 -- the places that are told to be touched, each with its byte before its first touch
 abbrev pub touched_of : Marks → List (ℕ × ℕ)
@@ -77,3 +85,11 @@ touched_of (Told cap statuses touched) = touched
 -- where a tracer started: its state with the first byte of each touched place put back
 abbrev pub start_of_face : Face → State
 start_of_face f = record f.state { bytes = bytes_after f.state.bytes (touched_of f.marks) }
+
+-- whether one of the four places of a word is touched
+abbrev pub is_touched_word : List Status → (word : ℕ) → Bool
+is_touched_word statuses word = list_any (λ place. not (is_untouched (status_at statuses place))) (places_from (4 * word) 4)
+
+-- the words with a touched place, rising
+abbrev pub touched_words : Tracing → List ℕ
+touched_words t = filter (is_touched_word t.statuses) (places_from 0 (length t.statuses / 4))

@@ -1,8 +1,8 @@
 //! A state that tells how each of its places was touched, and what stood there before.
 #![tactic(auto)]
 
+mod bitmap;
 mod laws;
-mod reserved;
 #[cfg(test)]
 mod tests;
 mod touched;
@@ -12,5 +12,4 @@ pub use asc_shape::Status;
 pub use laws::{
     limits_stay, no_statuses, reads_are_undone, starts_are_told, starts_stay, statuses_follow,
 };
-pub use reserved::ReservedTracer;
 pub use tracer::{LEAST_CAP, MOST_CAP, Tracer};

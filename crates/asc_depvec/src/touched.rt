@@ -1,21 +1,21 @@
-ghost use Rattle.std.specs.Prelude.{◌≡◌, true, ◌+◌, ◌^◌, ◌<◌, ◌≤◌, [], ◌∷◌, ◌++◌, length, take, drop, slice_set, vec_capacity};
-ghost use Rattle.asc_model.specs.Number.{bytes_of};
-ghost use Rattle.asc_model.specs.Places.{cells};
-ghost use Rattle.asc_depvec.specs.Touched.{AreWords};
+ghost use Rattle.std.specs.Prelude.{◌≡◌, ◌+◌, ◌-◌, ◌*◌, ◌^◌, ◌<◌, ◌≤◌, [], ◌∷◌, ◌++◌, All, IfOk, length, take};
+ghost use Rattle.asc_depvec.specs.Tracer.{places_of};
 
+use std::alloc::{AllocError, Global};
 use std::marker::Model;
 
-/// The touched places, each with its byte before its first touch. All of its memory is filled at first. So a place is
-/// listed by plain writes, with no look at a capacity.
+/// The touched places, in the order of their first touches, as items: the four places of a word that was touched as a
+/// whole, or one place. All of its memory is filled at first. So an item is listed by plain writes, with no look at a
+/// capacity.
 ///
-/// Contracts see it as the list of them, and how many there may be.
+/// Contracts see it as the list of the items, and how many places they may have.
 #[derive(Drop)]
 pub(crate) struct Touched {
-    noted: Vec<(u32, u8)>,
-    // How many of `noted` are in use.
+    items: Vec<u32>,
+    // How many of `items` are in use.
     count: usize,
-    // Where it is so, those in use are the places of words, four by four. A word more leaves it as it is.
-    words: bool,
+    // How many places they have.
+    places: usize,
 }
 
 impl Model for Touched {
@@ -24,119 +24,114 @@ impl Model for Touched {
 
     ghost Value = { Listing };
 
-    ghost view = { λ t. record { items = take t.count t.noted.items; cap = length t.noted.items } };
+    ghost view = { λ t. record { items = take t.count t.items.items; cap = length t.items.items } };
 
     ghost invariant = { IsTouched };
 }
 
 impl Touched {
-    /// An empty list with room for `cap` places, in memory that was taken for them.
-    pub(crate) fn none(cap: usize, mut noted: Vec<(u32, u8)>) -> Touched
-        requires empty { noted.items ≡ [] }
-        requires reserved { cap ≤ vec_capacity noted }
-        ensures items { result.items ≡ [] }
-        ensures cap { result.cap ≡ cap }
+    /// An empty list with room for `cap` places.
+    pub(crate) fn none(alloc: Global, cap: usize) -> Result<Touched, AllocError>
+        ensures { IfOk result (λ touched. touched ≡ record { items = []; cap = cap }) }
     {
-        match noted.resize(cap, (0, 0)) {
-            Ok(()) => Touched {
-                noted,
-                count: 0,
-                words: true,
-            },
-            Err(_) => unreachable!(),
-        }
+        Ok(Touched {
+            items: vec![in alloc; 0; cap]?,
+            count: 0,
+            places: 0,
+        })
     }
 
-    /// How many there are.
+    /// How many places there are.
     #[inline]
     pub(crate) fn len(&self) -> usize
-        ensures { result ≡ length self.now.items }
+        ensures { result ≡ length (places_of self.now.items) }
     {
-        self.count
+        self.places
     }
 
-    /// All of them.
+    /// All items.
     #[inline]
-    pub(crate) fn all(&self) -> &[(u32, u8)]
+    pub(crate) fn all(&self) -> &[u32]
         ensures { result.now ≡ self.now.items }
     {
-        &self.noted[..self.count]
-    }
-
-    /// Those behind the first `mark`.
-    #[inline]
-    pub(crate) fn since(&self, mark: usize) -> &[(u32, u8)]
-        requires { mark ≤ length self.now.items }
-        ensures { result.now ≡ drop mark self.now.items }
-    {
-        &self.noted[mark..self.count]
-    }
-
-    /// Where it is so, those behind the first `mark` are the places of words, four by four.
-    #[inline]
-    pub(crate) fn are_words_since(&self, mark: usize) -> bool
-        ensures { result ≡ true → AreWords (drop mark self.now.items) }
-    {
-        self.words && mark % 4 == 0
+        &self.items[..self.count]
     }
 
     /// Lists one place more.
     #[inline]
-    pub(crate) fn push(&mut self, place: u32, byte: u8)
-        requires { length self.old.items < self.old.cap }
-        ensures items { self.new.items ≡ self.old.items ++ (place, byte) ∷ [] }
+    pub(crate) fn push(&mut self, place: u32)
+        requires low { place < 2 ^ 31 }
+        requires room { length (places_of self.old.items) < self.old.cap }
+        ensures items { self.new.items ≡ self.old.items ++ 2 * place ∷ [] }
         ensures cap { self.new.cap ≡ self.old.cap }
     {
-        put_cell(&mut self.noted, self.count, place, byte);
+        put_item(&mut self.items, self.count, 2 * place);
         self.count += 1;
-        self.words = false;
+        self.places += 1;
     }
 
-    /// Lists the four places of a word, each with its byte of the word.
+    /// Lists the four places of a word.
     #[inline]
-    pub(crate) fn push_word(&mut self, place: u32, word: u32)
-        requires addresses { place + 4 ≤ 2 ^ 32 }
-        requires room { length self.old.items + 4 ≤ self.old.cap }
-        ensures items { self.new.items ≡ self.old.items ++ cells place (bytes_of 4 word) }
+    pub(crate) fn push_word(&mut self, place: u32)
+        requires low { place < 2 ^ 31 }
+        requires room { length (places_of self.old.items) + 4 ≤ self.old.cap }
+        ensures items { self.new.items ≡ self.old.items ++ (2 * place + 1) ∷ [] }
         ensures cap { self.new.cap ≡ self.old.cap }
     {
-        put_word(&mut self.noted, self.count, place, word);
-        self.count += 4;
+        put_item(&mut self.items, self.count, 2 * place + 1);
+        self.count += 1;
+        self.places += 4;
     }
 
-    /// Cuts the list to its first `mark` places.
-    #[inline]
-    pub(crate) fn truncate(&mut self, mark: usize)
-        requires { mark ≤ length self.old.items }
-        ensures items { self.new.items ≡ take mark self.old.items }
+    /// Takes the last place off the list, and answers it.
+    pub(crate) fn pop(&mut self) -> u32
+        requires some { 0 < length (places_of self.old.items) }
+        requires low { All (λ place. place < 2 ^ 30) (places_of self.old.items) }
+        ensures places { places_of self.old.items ≡ places_of self.new.items ++ result ∷ [] }
         ensures cap { self.new.cap ≡ self.old.cap }
     {
-        self.words = mark == 0 || (self.words && mark % 4 == 0);
-        self.count = mark;
+        let last = self.count - 1;
+        let item = self.items[last];
+        let place = item / 2;
+        self.places -= 1;
+        if item % 2 == 1 {
+            put_three(&mut self.items, last, place);
+            self.count += 2;
+            place + 3
+        } else {
+            self.count = last;
+            place
+        }
+    }
+
+    /// Takes all places off the list.
+    #[inline]
+    pub(crate) fn clear(&mut self)
+        ensures items { self.new.items ≡ [] }
+        ensures cap { self.new.cap ≡ self.old.cap }
+    {
+        self.count = 0;
+        self.places = 0;
     }
 }
 
-// Puts the four places of a word at number `at`.
+// Puts an item at number `at`.
 #[inline]
-fn put_word(noted: &mut [(u32, u8)], at: usize, place: u32, word: u32)
-    requires addresses { place + 4 ≤ 2 ^ 32 }
-    requires room { at + 4 ≤ length noted.old }
-    ensures { take (at + 4) noted.new ≡ take at noted.old ++ cells place (bytes_of 4 word) }
+fn put_item(items: &mut [u32], at: usize, item: u32)
+    requires { at < length items.old }
+    ensures { take (at + 1) items.new ≡ take at items.old ++ item ∷ [] }
 {
-    let [first, second, third, fourth] = word.to_le_bytes();
-    put_cell(noted, at, place, first);
-    put_cell(noted, at + 1, place + 1, second);
-    put_cell(noted, at + 2, place + 2, third);
-    put_cell(noted, at + 3, place + 3, fourth);
+    items[at] = item;
 }
 
-// Puts a place with its byte at number `at`, field by field: written as a pair, its padding would be written too.
-#[inline]
-fn put_cell(noted: &mut [(u32, u8)], at: usize, place: u32, byte: u8)
-    requires { at < length noted.old }
-    ensures { noted.new ≡ slice_set noted.old at (place, byte) }
+// Puts the first three places of a word at number `at`, each as an item.
+fn put_three(items: &mut [u32], at: usize, place: u32)
+    requires low { place < 2 ^ 30 }
+    requires room { at + 3 ≤ length items.old }
+    ensures { take (at + 3) items.new
+        ≡ take at items.old ++ 2 * place ∷ (2 * (place + 1)) ∷ (2 * (place + 2)) ∷ [] }
 {
-    let cell = &mut noted[at];
-    cell.0 = place;
-    cell.1 = byte;
+    items[at] = 2 * place;
+    items[at + 1] = 2 * (place + 1);
+    items[at + 2] = 2 * (place + 2);
 }

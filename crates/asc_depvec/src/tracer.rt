@@ -1,20 +1,19 @@
-ghost use Rattle.std.specs.Prelude.{◌≡◌, true, ◌+◌, ◌^◌, ◌<◌, ◌≤◌, [], ◌∷◌, ◌++◌, All, IfOk, IfSome, IsNone, length, drop, replicate, if◌then◌else◌};
-ghost use Rattle.std.specs.Borrow.{Lends, sem};
+ghost use Rattle.std.specs.Prelude.{◌≡◌, ℕ, true, ◌+◌, ◌^◌, ◌<◌, ◌≤◌, ◌*◌, [], ◌∷◌, ◌++◌, All, IfOk, IfSome, IsNone, length, map, take, drop, replicate, slice_index, if◌then◌else◌};
 ghost use Rattle.asc_model.specs.declared.status.Status.{Status};
+ghost use Rattle.asc_model.specs.declared.status.Status.TheVariants.{Read, Untouched};
+ghost use Rattle.asc_model.specs.Machine.{view_of};
 ghost use Rattle.asc_model.specs.Number.{AreBytes, bytes_of, word_at};
-ghost use Rattle.asc_model.specs.Places.{cells, places_from};
+ghost use Rattle.asc_model.specs.Places.{bytes_after, cells, places_from};
 ghost use Rattle.asc_model.specs.Shape.{length_of};
-ghost use Rattle.asc_shape.specs.Face.{Told, status_at, is_untouched, status_after_read, status_after_write, face_after_reads, face_after_puts, untouched_count, room_of};
+ghost use Rattle.asc_model.specs.State.{IsState};
+ghost use Rattle.asc_shape.specs.Face.{Told, status_at, is_untouched, status_after_read, status_after_write, face_after_read, face_after_reads, face_after_puts, untouched_count, room_of};
 ghost use Rattle.asc_shape.specs.State.{zero_state};
-ghost use Rattle.asc_shape.specs.contracts.state.State as state;
-ghost use Rattle.asc_depvec.specs.contracts.tracer.Tracer.{the_row};
-ghost use Rattle.asc_depvec.specs.Tracer.{HaveStatus, IsTracing, least_cap, most_cap, face_of, fresh, undone, untouch};
-ghost use Rattle.asc_depvec.specs.Touched.{AreWords};
-ghost use Rattle.asc_depvec.specs.Inside.{AreWritten, status_of, statuses_of, with_statuses};
+ghost use Rattle.asc_depvec.specs.Tracer.{HaveStatus, IsTracing, least_cap, most_cap, face_of, fresh, undone, places_of, places_of_item, start_of_face, touched_words};
+ghost use Rattle.asc_depvec.specs.Inside.{AreWritten, given, status_of, statuses_of, with_statuses, without};
 
-use crate::ReservedTracer;
+use crate::bitmap::{clear, set_items, words_of};
 use crate::touched::Touched;
-use asc_shape::{Bytes, Memory, Shape, State, Status, Words, get_by_bytes, put_by_bytes};
+use asc_shape::{Bytes, Guess, Memory, Shape, Snapshot, Status, Words, get_by_bytes, put_by_bytes};
 use std::alloc::Global;
 use std::marker::Model;
 
@@ -29,19 +28,24 @@ pub const MOST_CAP: usize = 65_536;
 /// A place is `Untouched` at first. A read of an untouched place makes it `Read`; a put makes `Untouched` into
 /// `Written` and `Read` into `ReadWritten`; nothing else but `start`, `reset` and `undo` changes a status.
 ///
+/// The bytes of untouched places are the start's, and stand there alone. So a start costs what was touched before it,
+/// however large the state is.
+///
 /// Only `new` is handed an allocator. Contracts see a tracer as the `Tracing` of `specs/`.
 #[derive(Drop)]
 pub struct Tracer {
     shape: Shape,
     cap: usize,
-    state: State,
+    start: Guess,
+    // Those of the touched places, and of the pc. What stands at others is of no account.
+    bytes: Vec<u8>,
     marks: Vec<u8>,
     touched: Touched,
+    // A bit for each word, which is set inside of `touched_words` alone.
+    blocks: Vec<u64>,
 }
 
 impl Model for Tracer {
-    ghost use Rattle.std.specs.Prelude.{length, if◌then◌else◌};
-    ghost use Rattle.asc_model.specs.declared.status.Status.TheVariants.{Untouched};
     ghost use Rattle.asc_depvec.specs.Tracer.{Tracing};
 
     ghost Value = { Tracing };
@@ -61,62 +65,108 @@ impl Tracer {
         requires most { cap ≤ most_cap }
         ensures { IfOk result (λ t. t ≡ fresh shape cap (zero_state shape)) }
     {
-        Ok(ReservedTracer::new(alloc, shape, cap)?.fill())
+        let len = (shape.start() + shape.size()) as usize;
+        let start = Guess::last(Snapshot::zeros(alloc, shape)?);
+        // That it is a state.
+        let _ = start.shape();
+        Ok(Tracer {
+            shape,
+            cap,
+            start,
+            bytes: vec![in alloc; 0; len]?,
+            marks: vec![in alloc; UNTOUCHED; len]?,
+            touched: Touched::none(alloc, cap)?,
+            blocks: vec![in alloc; 0; len / 256 + 1]?,
+        })
     }
 
-    /// A tracer of this state, nothing of it touched.
-    pub(crate) fn untouched(cap: usize, state: State, marks: Vec<u8>, touched: Touched) -> Tracer
-        requires cap { cap ≤ most_cap }
-        requires marks { marks.items ≡ replicate (length_of state.shape) 3 }
-        requires none { touched.items ≡ [] }
-        requires filled { cap ≤ touched.cap }
-        ensures { result ≡ fresh state.shape cap state }
+    /// Makes this a tracer of another state of its shape, nothing of it touched. It costs what was touched.
+    pub fn start(&mut self, from: Guess)
+        requires { from.shape ≡ self.old.shape }
+        ensures { self.new ≡ fresh self.old.shape self.old.cap from }
     {
-        Tracer {
-            shape: state.shape(),
-            cap,
-            state,
-            marks,
-            touched,
+        // That it is a state.
+        let _ = from.shape();
+        untouch_all(&mut self.marks, self.touched.all());
+        self.touched.clear();
+        put_word(&mut self.bytes, 0, from.word(0));
+        self.start = from;
+    }
+
+    /// Makes this a tracer of the state that it started from. It costs what was touched.
+    pub fn reset(&mut self)
+        ensures { self.new ≡ fresh self.old.shape self.old.cap (start_of_face (face_of self.old)) }
+    {
+        // That it is a state.
+        let _ = self.start.shape();
+        untouch_all(&mut self.marks, self.touched.all());
+        self.touched.clear();
+        put_word(&mut self.bytes, 0, self.start.word(0));
+    }
+
+    /// The state that it started from.
+    #[inline]
+    pub fn started(&self) -> &Guess
+        ensures { result.now ≡ start_of_face (face_of self.now) }
+    {
+        &self.start
+    }
+
+    /// The byte at a place, which this does not touch.
+    #[inline]
+    pub fn byte(&self, place: u32) -> u8
+        requires { place < length_of self.now.state.shape }
+        ensures { result ≡ slice_index self.now.state.bytes place }
+    {
+        // That its state is one, and its marks fit it.
+        let _ = Bytes::shape(self);
+        if self.marks[place as usize] == UNTOUCHED {
+            self.start.byte(place)
+        } else {
+            self.bytes[place as usize]
         }
     }
 
-    /// Makes this a tracer of another state of its shape, nothing of it touched.
-    pub fn start(&mut self, from: &State)
-        requires same_shape { from.now.shape ≡ self.old.shape }
-        requires own_shape { self.old.state.shape ≡ self.old.shape }
-        ensures { self.new ≡ fresh self.old.shape self.old.cap from.now }
-    {
-        self.reset();
-        self.state.copy_from(from);
-    }
-
-    /// Makes all places untouched. The bytes stay. It costs what was touched.
-    pub fn reset(&mut self)
-        ensures { self.new ≡ fresh self.old.shape self.old.cap self.old.state }
-    {
-        // That its marks fit its places: those that are not listed are untouched.
-        let _ = Bytes::shape(self);
-        self.undo(0);
-    }
-
-    /// The state.
+    /// The word in the four bytes from a place on, which this does not touch.
     #[inline]
-    pub fn state(&self) -> &State
-        ensures { result.now ≡ self.now.state }
+    pub fn word(&self, place: u32) -> u32
+        requires { place + 4 ≤ length_of self.now.state.shape }
+        ensures { result ≡ word_at self.now.state.bytes place }
     {
-        &self.state
+        // That its state is one, and its marks fit it.
+        let _ = Bytes::shape(self);
+        if are_touched(&self.marks, place) {
+            word_of(&self.bytes, place)
+        } else {
+            self.word_by_bytes(place)
+        }
     }
 
-    /// The state, while nothing of it is touched. Any state may be put there; while it has another shape than that
-    /// which the tracer was made with, there is no room.
-    pub fn state_mut(&mut self) -> &mut State
-        requires { self.old.touched ≡ [] }
-        ensures* writes_back { sem 𝓛 (Lends the_row state.the_row self.entry result
-            (fresh self.old.shape self.old.cap)) }
-        ensures value { result.now ≡ self.old.state }
+    // The same, byte by byte.
+    #[cold]
+    #[inline(never)]
+    fn word_by_bytes(&self, place: u32) -> u32
+        requires { place + 4 ≤ length_of self.now.state.shape }
+        ensures { result ≡ word_at self.now.state.bytes place }
     {
-        &mut self.state
+        // That its state is one, and its marks fit it.
+        let _ = Bytes::shape(self);
+        u32::from_le_bytes([
+            self.byte(place),
+            self.byte(place + 1),
+            self.byte(place + 2),
+            self.byte(place + 3),
+        ])
+    }
+
+    /// The pc.
+    #[inline]
+    pub fn pc(&self) -> u32
+        ensures { result ≡ (view_of self.now.state).pc }
+    {
+        // That its state is one.
+        let _ = Bytes::shape(self);
+        word_of(&self.bytes, 0)
     }
 
     /// How a place was touched. A place past the last one is untouched.
@@ -132,7 +182,6 @@ impl Tracer {
     #[inline]
     pub fn word_status(&self, place: u32) -> Option<Status>
         requires place { place + 4 ≤ length_of self.now.state.shape }
-        requires own { self.now.state.shape ≡ self.now.shape }
         ensures one { IfSome result (λ status. HaveStatus self.now.statuses status place 4) }
         ensures none { IsNone result → (status : Status) → HaveStatus self.now.statuses status place 4 → ⊥ }
     {
@@ -170,31 +219,46 @@ impl Tracer {
         Some(status)
     }
 
-    /// Each touched place with its byte before its first touch, in the order of those touches.
+    /// The touched places as items, in the order of their first touches. The places of a word that was touched as a
+    /// whole are one item.
     #[inline]
-    pub fn touched(&self) -> &[(u32, u8)]
-        ensures { result.now ≡ self.now.touched }
+    pub fn items(&self) -> &[u32]
+        ensures { places_of result.now ≡ map (λ cell. cell.0) self.now.touched }
     {
         self.touched.all()
     }
 
-    /// How many more places may be touched: as many as `new` was told less those that are, and none while the state has
-    /// another shape than that of `new`.
-    #[inline]
-    pub fn room(&self) -> usize
-        ensures { result ≡ room_of (face_of self.now).marks }
+    /// The words with a touched place by their numbers, rising.
+    pub fn touched_words(&mut self, alloc: Global) -> Result<Vec<u32>, Memory>
+        ensures words { IfOk result (λ words. words.items ≡ touched_words self.old) }
+        ensures tracer { self.new ≡ self.old }
     {
-        if self.state.shape() == self.shape {
-            self.cap - self.touched.len()
-        } else {
-            0
-        }
+        // That its state is one, and its marks fit it.
+        let _ = Bytes::shape(self);
+        let items = self.touched.all();
+        let mut used = Vec::with_capacity(alloc, 2 * items.len())?;
+        set_items(&mut self.blocks, &mut used, items);
+        used.sort_unstable();
+        let words = words_of(alloc, &self.blocks, &used);
+        clear(&mut self.blocks, &used);
+        Ok(words?)
     }
 
-    /// How many more places may be touched, while the state has the shape of `new`.
+    /// The word that stood at the start in four places that were only read.
     #[inline]
-    pub fn left(&self) -> usize
-        requires { self.now.state.shape ≡ self.now.shape }
+    pub fn read_word(&self, place: u32) -> u32
+        requires place { place + 4 ≤ length_of self.now.state.shape }
+        requires read { HaveStatus self.now.statuses Read place 4 }
+        ensures { result ≡ word_at (start_of_face (face_of self.now)).bytes place }
+    {
+        // That its state is one, and its marks fit it.
+        let _ = Bytes::shape(self);
+        word_of(&self.bytes, place)
+    }
+
+    /// How many more places may be touched: as many as `new` was told less those that are.
+    #[inline]
+    pub fn room(&self) -> usize
         ensures { result ≡ room_of (face_of self.now).marks }
     {
         self.cap - self.touched.len()
@@ -209,14 +273,21 @@ impl Tracer {
         self.touched.len()
     }
 
-    /// Makes the places that were first touched since a mark untouched again. Where they were only read, and nothing
-    /// was put since, all is as it was at the mark.
+    /// Makes the places that were first touched since a mark untouched again, with the bytes that they had. Where they
+    /// were only read, and nothing was put since, all is as it was at the mark.
     pub fn undo(&mut self, mark: usize)
         requires { mark ≤ length self.old.touched }
         ensures { self.new ≡ undone self.old mark }
     {
-        untouch_since(&mut self.marks, &self.touched, mark);
-        self.touched.truncate(mark);
+        // That it is a state.
+        let _ = self.start.shape();
+        take_back(
+            &self.start,
+            &mut self.bytes,
+            &mut self.marks,
+            &mut self.touched,
+            mark,
+        );
     }
 
     // The word in four places that are not all touched, at once where all are untouched.
@@ -231,9 +302,10 @@ impl Tracer {
         // That its state is one, and its marks fit it.
         let _ = Bytes::shape(self);
         if have_mark(&self.marks, place, UNTOUCHED) {
-            let word = Words::get_word(&mut self.state, place);
+            let word = self.start.word(place);
+            put_word(&mut self.bytes, place, word);
             mark_word(&mut self.marks, place, READ);
-            self.touched.push_word(place, word);
+            self.touched.push_word(place);
             word
         } else {
             self.get_partly(place)
@@ -264,7 +336,7 @@ impl Tracer {
         let _ = Bytes::shape(self);
         if have_mark(&self.marks, place, READ) {
             mark_word(&mut self.marks, place, READ_WRITTEN);
-            Words::put_word(&mut self.state, place, word);
+            put_word(&mut self.bytes, place, word);
         } else {
             self.put_first(place, word);
         }
@@ -282,10 +354,9 @@ impl Tracer {
         // That its state is one, and its marks fit it.
         let _ = Bytes::shape(self);
         if have_mark(&self.marks, place, UNTOUCHED) {
-            let before = Words::get_word(&mut self.state, place);
             mark_word(&mut self.marks, place, WRITTEN);
-            self.touched.push_word(place, before);
-            Words::put_word(&mut self.state, place, word);
+            self.touched.push_word(place);
+            put_word(&mut self.bytes, place, word);
         } else {
             self.put_partly(place, word);
         }
@@ -301,6 +372,25 @@ impl Tracer {
     {
         put_by_bytes(self, place, word);
     }
+
+    // The byte at an untouched place.
+    #[cold]
+    #[inline(never)]
+    fn get_first(&mut self, place: u32) -> u8
+        requires place { place < length self.old.state.bytes }
+        requires room { 1 ≤ room_of (face_of self.old).marks }
+        requires untouched { status_at self.old.statuses place ≡ Untouched }
+        ensures byte { result ≡ slice_index self.old.state.bytes place }
+        ensures face { face_of self.new ≡ face_after_read (face_of self.old) place }
+    {
+        // That its state is one, and its marks fit it.
+        let _ = Bytes::shape(self);
+        let byte = self.start.byte(place);
+        self.bytes[place as usize] = byte;
+        self.marks[place as usize] = READ;
+        self.touched.push(place);
+        byte
+    }
 }
 
 /// It tells how its places were touched. Its room falls by one with each place that is touched for the first time.
@@ -309,7 +399,8 @@ impl Bytes for Tracer {
 
     #[inline]
     fn shape(&self) -> Shape {
-        self.state.shape()
+        are_bytes(&self.bytes);
+        self.shape
     }
 
     #[inline]
@@ -321,62 +412,62 @@ impl Bytes for Tracer {
     fn get(&mut self, place: u32) -> u8 {
         // That its state is one, and its marks fit it.
         let _ = Bytes::shape(self);
-        let byte = self.state.get(place);
-        let status = status_of(self.marks[place as usize]);
-        note(&mut self.touched, status, place, byte);
-        self.marks[place as usize] = mark_of(after_read(status));
-        byte
+        if self.marks[place as usize] == UNTOUCHED {
+            self.get_first(place)
+        } else {
+            self.bytes[place as usize]
+        }
     }
 
     #[inline]
     fn put(&mut self, place: u32, byte: u8) {
         // That its state is one, and its marks fit it.
         let _ = Bytes::shape(self);
-        let before = self.state.get(place);
         let status = status_of(self.marks[place as usize]);
-        note(&mut self.touched, status, place, before);
+        note(&mut self.touched, status, place);
         self.marks[place as usize] = mark_of(after_write(status));
-        self.state.set(place, byte);
+        self.bytes[place as usize] = byte;
     }
 }
 
 /// A word whose four places were touched alike is read and put at once, and any other byte by byte.
 impl Words for Tracer {
-    /// Where the four places are touched, a read changes nothing, and the state's own word is read.
+    /// Where the four places are touched, a read changes nothing.
     #[inline]
     fn get_word(&mut self, place: u32) -> u32 {
         // That its state is one, and its marks fit it.
         let _ = Bytes::shape(self);
         if are_touched(&self.marks, place) {
-            Words::get_word(&mut self.state, place)
+            word_of(&self.bytes, place)
         } else {
             self.get_new(place)
         }
     }
 
-    /// Where the four places are written a put changes no status, and the state's own word is put.
+    /// Where the four places are written a put changes no status.
     #[inline]
     fn put_word(&mut self, place: u32, word: u32) {
         // That its state is one, and its marks fit it.
         let _ = Bytes::shape(self);
         if are_written(&self.marks, place) {
-            Words::put_word(&mut self.state, place, word);
+            put_word(&mut self.bytes, place, word);
         } else {
             self.put_new(place, word);
         }
     }
 }
 
-// Lists a place with its byte where its status says that it is not touched yet.
+// Lists a place where its status says that it is not touched yet.
 #[inline]
-fn note(touched: &mut Touched, status: Status, place: u32, byte: u8)
-    requires { length touched.old.items < touched.old.cap }
+fn note(touched: &mut Touched, status: Status, place: u32)
+    requires low { place < 2 ^ 31 }
+    requires room { length (places_of touched.old.items) < touched.old.cap }
     ensures touched { touched.new.items
-        ≡ (if is_untouched status then touched.old.items ++ (place, byte) ∷ [] else touched.old.items) }
+        ≡ (if is_untouched status then touched.old.items ++ 2 * place ∷ [] else touched.old.items) }
     ensures cap { touched.new.cap ≡ touched.old.cap }
 {
     if let Status::Untouched = status {
-        touched.push(place, byte);
+        touched.push(place);
     }
 }
 
@@ -429,45 +520,64 @@ fn mark_word(marks: &mut [u8], place: u32, mark: u8)
     marks[at + 3] = mark;
 }
 
-// Makes the places that are listed behind the first `mark` untouched, word by word where they are those of words.
+// Puts the word of four places.
 #[inline]
-fn untouch_since(marks: &mut [u8], touched: &Touched, mark: usize)
-    requires mark { mark ≤ length touched.now.items }
-    requires places { All (λ cell. cell.0 < length marks.old) (drop mark touched.now.items) }
-    ensures { statuses_of marks.new ≡ untouch (statuses_of marks.old) (drop mark touched.now.items) }
+fn put_word(bytes: &mut [u8], place: u32, word: u32)
+    requires { place + 4 ≤ length bytes.old }
+    ensures { bytes.new ≡ bytes_after bytes.old (cells place (bytes_of 4 word)) }
 {
-    let cells = touched.since(mark);
-    if touched.are_words_since(mark) {
-        untouch_words(marks, cells);
+    let at = place as usize;
+    bytes[at..at + 4].copy_from_slice(&word.to_le_bytes());
+}
+
+// Makes the places of all items untouched.
+#[inline]
+fn untouch_all(marks: &mut [u8], items: &[u32])
+    requires { All (λ place. place < length marks.old) (places_of items.now) }
+    ensures { statuses_of marks.new ≡ without (statuses_of marks.old) (places_of items.now) }
+{
+    for &item in items {
+        untouch(marks, item);
+    }
+}
+
+// Makes the places of an item untouched.
+#[inline]
+fn untouch(marks: &mut [u8], item: u32)
+    requires { All (λ place. place < length marks.old) (places_of_item item) }
+    ensures { statuses_of marks.new ≡ without (statuses_of marks.old) (places_of_item item) }
+{
+    let place = item / 2;
+    if item % 2 == 1 {
+        mark_word(marks, place, UNTOUCHED);
     } else {
-        untouch(marks, cells);
-    }
-}
-
-// Makes the places of these words untouched.
-#[inline]
-fn untouch_words(marks: &mut [u8], cells: &[(u32, u8)])
-    requires places { All (λ cell. cell.0 < length marks.old) cells.now }
-    requires words { AreWords cells.now }
-    ensures { statuses_of marks.new ≡ untouch (statuses_of marks.old) cells.now }
-{
-    for word in 0..cells.len() / 4 {
-        mark_word(marks, cells[4 * word].0, UNTOUCHED);
-    }
-}
-
-// Makes these places untouched.
-#[inline]
-fn untouch(marks: &mut [u8], cells: &[(u32, u8)])
-    requires { All (λ cell. cell.0 < length marks.old) cells.now }
-    ensures { statuses_of marks.new ≡ untouch (statuses_of marks.old) cells.now }
-{
-    for &(place, _) in cells {
         marks[place as usize] = UNTOUCHED;
     }
 }
 
-// The marks of the four places from a place on.
+// Takes the places behind the first `mark` off the list, and makes them untouched with the start's bytes, the last one
+// first.
+fn take_back(start: &Guess, bytes: &mut [u8], marks: &mut [u8], touched: &mut Touched, mark: usize)
+    requires mark { mark ≤ length (places_of touched.old.items) }
+    requires low { length marks.old ≤ 2 ^ 30 }
+    requires start { length_of start.now.shape ≡ length marks.old }
+    requires bytes { length bytes.old ≡ length marks.old }
+    requires places { All (λ place. place < length marks.old) (places_of touched.old.items) }
+    ensures bytes { bytes.new
+        ≡ given start.now.bytes bytes.old (drop mark (places_of touched.old.items)) }
+    ensures statuses { statuses_of marks.new
+        ≡ without (statuses_of marks.old) (drop mark (places_of touched.old.items)) }
+    ensures places { places_of touched.new.items ≡ take mark (places_of touched.old.items) }
+    ensures cap { touched.new.cap ≡ touched.old.cap }
+{
+    while touched.len() > mark {
+        let place = touched.pop();
+        marks[place as usize] = UNTOUCHED;
+        bytes[place as usize] = start.byte(place);
+    }
+}
+
+// The word of four bytes or marks from a place on.
 #[inline]
 fn word_of(marks: &[u8], place: u32) -> u32
     requires { place + 4 ≤ length marks.now }

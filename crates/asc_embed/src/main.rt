@@ -11,10 +11,10 @@ ghost use Rattle.std.specs.Prelude.{◌≡◌, ◌<◌};
 use asc_calls::{Calls, Served};
 use asc_depvec::Tracer;
 use asc_elf::read;
-use asc_shape::{Memory, Sink, Source, State, Steps, Version};
+use asc_shape::{Guess, Memory, Sink, Snapshot, Source, State, Steps, Version};
 use asc_step::{Stepped, step};
 use asc_streams::{StreamSink, StreamSource};
-use asc_traj::{Entry, Never, Stop, trace};
+use asc_traj::{Entry, Never, Part, Stop, cells_of, trace};
 use std::marker::Brand;
 use std::process::ExitCode;
 use std::sync::Arc;
@@ -117,26 +117,33 @@ fn lap(rt: &HostRuntime, state: &State, pc: u32) -> Result<Option<Arc<Entry>>, M
         span: MOST_IN_LAP,
     };
     let mut tracer = Tracer::new(rt.alloc(), state.shape(), 4096)?;
-    tracer.start(state);
+    let guess = Guess::last(Snapshot::of(rt.alloc(), state)?);
+    // That it is a state, of the same shape.
+    let _ = guess.shape();
+    tracer.start(guess);
     let traced = trace(&mut tracer, &stop, &mut Never);
     if traced.steps == 0 {
         return Ok(None);
     }
-    Ok(Some(Entry::of(rt.alloc(), &tracer, traced.steps)?))
+    Ok(Some(Entry::of(rt.alloc(), &mut tracer, traced.steps)?))
 }
 
 /// Prints an entry to standard error: how many steps it has, and each place that they read first, and each that they
 /// write, with its byte in hexadecimal digits.
 fn print(rt: &HostRuntime, entry: &Entry) -> io::Result<()> {
     eprint!(rt; "{} steps\nreads", entry.steps())?;
-    for (place, byte) in entry.reads() {
-        eprint!(rt; " {place}:{byte:02x}")?;
-    }
+    print_cells(rt, entry.reads())?;
     eprint!(rt; "\nwrites")?;
-    for (place, byte) in entry.writes() {
+    print_cells(rt, entry.writes())?;
+    eprintln!(rt; "")
+}
+
+/// Prints each place with its byte.
+fn print_cells(rt: &HostRuntime, parts: &[Part]) -> io::Result<()> {
+    for (place, byte) in &cells_of(rt.alloc(), parts)? {
         eprint!(rt; " {place}:{byte:02x}")?;
     }
-    eprintln!(rt; "")
+    Ok(())
 }
 
 /// A program on its way, with its devices.

@@ -12,7 +12,7 @@ ghost use Rattle.asc_step.specs.Step.{stepped_of};
 ghost use Rattle.asc_step.specs.declared.stepped.Stepped.TheVariants.{Went};
 
 use asc_depvec::Tracer;
-use asc_shape::{Bytes, Memory, Shape, State, Steps, Words};
+use asc_shape::{Bytes, Guess, Memory, Shape, Snapshot, State, Steps, Words};
 use asc_step::{Stepped, step};
 use asc_traj::{Entry, Never, Stop, trace};
 use std::alloc::Global;
@@ -49,12 +49,15 @@ pub fn entry_from(alloc: Global, state: &State, stop: &Stop) -> Result<Option<Ar
         (λ entry. entry_of (arc_value entry).steps state.now ≡ Some (arc_value entry))) }
 {
     let mut tracer = Tracer::new(alloc, state.shape(), 4096)?;
-    tracer.start(state);
+    let guess = Guess::last(Snapshot::of(alloc, state)?);
+    // That it is a state, of the same shape.
+    let _ = guess.shape();
+    tracer.start(guess);
     let traced = trace(&mut tracer, stop, &mut Never);
     if traced.steps == 0 {
         return Ok(None);
     }
-    Ok(Some(Entry::of(alloc, &tracer, traced.steps)?))
+    Ok(Some(Entry::of(alloc, &mut tracer, traced.steps)?))
 }
 
 /// Puts the first of these entries that matches a state, and answers how many steps it stands for.

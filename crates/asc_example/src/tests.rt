@@ -4,7 +4,7 @@ ghost use Rattle.std.specs.Prelude.{◌≡◌, ◌<◌};
 use crate::{Counted, entry_from, jump, tells, walk};
 use asc_shape::{Shape, State, Steps};
 use asc_step::{Stepped, try_step};
-use asc_traj::Stop;
+use asc_traj::{Stop, cells_of};
 use std::alloc::Global;
 use std::marker::Brand;
 use std::process::Abort;
@@ -108,7 +108,10 @@ fn jumps(rt: HostRuntime) -> Result<(), Fail> {
         let found = entry_from(alloc, &start, &stop).expect(&rt, "memory");
         let entry = found.expect(&rt, "an entry");
         assert_eq!(rt; (entry.shape(), entry.steps()), (start.shape(), steps));
-        assert_eq!(rt; entry.reads(), READS.as_slice());
+        assert_eq!(rt;
+            cells_of(alloc, entry.reads())?.as_slice(),
+            READS.as_slice()
+        );
         let writes = [
             (0, 0x08),
             (1, 0x00),
@@ -119,7 +122,10 @@ fn jumps(rt: HostRuntime) -> Result<(), Fail> {
             (22, 0),
             (23, 0),
         ];
-        assert_eq!(rt; entry.writes(), writes.as_slice());
+        assert_eq!(rt;
+            cells_of(alloc, entry.writes())?.as_slice(),
+            writes.as_slice()
+        );
         entries.push(entry)?;
     }
     assert!(rt; entries.len() == 2);

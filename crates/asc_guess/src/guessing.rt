@@ -2,16 +2,17 @@ ghost use Rattle.std.specs.Prelude.{◌≡◌};
 ghost use Rattle.asc_guess.specs.Guess.{guess_of};
 
 use crate::Kind;
-use asc_shape::{Pair, State};
+use asc_shape::{Guess, Snapshot};
+use std::sync::Arc;
 
-/// Guesses the state that is `ahead` visits after the pair's later one. `Last` costs what either of that and `into`
-/// uses, `Stride` also what the pair's two do not share. No allocator is handed in.
-pub fn guess(kind: Kind, pair: &Pair, ahead: u32, into: &mut State)
-    requires { into.old.shape ≡ pair.now.last.shape }
-    ensures { into.new ≡ guess_of kind ahead pair.now.prev pair.now.last }
+/// Guesses the state that is `ahead` visits after the last one, from the states of that and of the one before. It takes
+/// no memory, and the guess's words are computed as they are asked for; `Guess::fill` writes a whole state.
+pub fn guess(kind: Kind, prev: Arc<Snapshot>, last: Arc<Snapshot>, ahead: u32) -> Guess
+    requires { prev.value.shape ≡ last.value.shape }
+    ensures { result ≡ guess_of kind ahead prev.value last.value }
 {
     match kind {
-        Kind::Last => into.restore(pair.last()),
-        Kind::Stride => into.stride(pair, ahead),
+        Kind::Last => Guess::last(last),
+        Kind::Stride => Guess::stride(prev, last, ahead),
     }
 }

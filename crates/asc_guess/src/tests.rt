@@ -1,5 +1,5 @@
 use crate::{Kind, choose, guess, targets};
-use asc_shape::{Pair, Shape, Snapshot, State};
+use asc_shape::{Shape, Snapshot, State};
 use std::alloc::Global;
 use std::process::Abort;
 use std::sync::Arc;
@@ -50,11 +50,9 @@ fn guessed<R: Abort>(rt: &R, alloc: Global, kind: Kind, ahead: u32, prev: u32, l
     let prev = Snapshot::of(alloc, &state(rt, alloc, shape, prev)).expect(rt, "memory");
     let last = Snapshot::of(alloc, &state(rt, alloc, shape, last)).expect(rt, "memory");
     assert!(rt; prev.shape() == last.shape());
-    let pair = Pair::of(alloc, prev, last).expect(rt, "memory");
-    let mut into = state(rt, alloc, shape, 0);
-    assert!(rt; into.shape() == pair.last().shape());
-    guess(kind, &pair, ahead, &mut into);
-    into.reg(1)
+    let guess = guess(kind, prev, last, ahead);
+    assert!(rt; guess.shape().start() == 128);
+    guess.word(4)
 }
 
 #[test]

@@ -7,8 +7,7 @@ use crate::fields::{funct3, opcode};
 /// The words that share an opcode and, where it counts, a funct3. A kind is named by its operation, or by the one with 0
 /// in funct7 where the rest of the word tells several apart.
 ///
-/// A `match` that names all kinds is one jump by a table, without a test. The first ones have operations that programs do
-/// most.
+/// A `match` that names all kinds is one jump by a table, without a test.
 #[derive(Clone, Copy)]
 pub(crate) enum Kind {
     Lui,

@@ -1,6 +1,6 @@
 //! Which instruction a word is, where its operation is one of those that programs do most.
 ghost use Rattle.std.specs.Prelude.{◌≡◌, ◌==◌, IfSome, None, Some, false, if◌then◌else◌};
-ghost use Rattle.asc_model.specs.declared.instruction.Op.TheVariants.{Add, Sub};
+ghost use Rattle.asc_model.specs.declared.instruction.Op.TheVariants.{Add, Mul, Slli, Srai, Srli, Sub};
 ghost use Rattle.asc_model.specs.Instruction.{decode, funct7, operands, R, Shift};
 ghost use Rattle.asc_isa.specs.Decode.{version_of, HasRegisters};
 ghost use Rattle.asc_isa.specs.Likely.{likely};
@@ -36,28 +36,28 @@ fn instruction(word: u32) -> Option<Instr>
         Kind::Bge => Some(b_type(Op::Bge, word)),
         Kind::Bltu => Some(b_type(Op::Bltu, word)),
         Kind::Bgeu => Some(b_type(Op::Bgeu, word)),
+        Kind::Lb => Some(i_type(Op::Lb, word)),
         Kind::Lw => Some(i_type(Op::Lw, word)),
         Kind::Lbu => Some(i_type(Op::Lbu, word)),
         Kind::Sb => Some(s_type(Op::Sb, word)),
         Kind::Sw => Some(s_type(Op::Sw, word)),
         Kind::Addi => Some(i_type(Op::Addi, word)),
+        Kind::Xori => Some(i_type(Op::Xori, word)),
+        Kind::Ori => Some(i_type(Op::Ori, word)),
         Kind::Andi => Some(i_type(Op::Andi, word)),
-        Kind::Slli => shift_by(word, Op::Slli),
-        Kind::Srli => shift_by(word, Op::Srli),
-        Kind::Add => add_or_sub(word),
+        Kind::Slli => slli(word),
+        Kind::Srli => srli_or_srai(word),
+        Kind::Add => add_sub_or_mul(word),
         Kind::Sltu => base(word, Op::Sltu),
         Kind::Xor => base(word, Op::Xor),
         Kind::Or => base(word, Op::Or),
         Kind::And => base(word, Op::And),
         Kind::Auipc
-        | Kind::Lb
         | Kind::Lh
         | Kind::Lhu
         | Kind::Sh
         | Kind::Slti
         | Kind::Sltiu
-        | Kind::Xori
-        | Kind::Ori
         | Kind::Sll
         | Kind::Slt
         | Kind::Srl
@@ -69,13 +69,26 @@ fn instruction(word: u32) -> Option<Instr>
     }
 }
 
-/// This shift by an immediate, where funct7 is 0.
+/// SLLI, whose words have 0 in funct7.
 #[inline(always)]
-fn shift_by(word: u32, op: Op) -> Option<Instr>
-    ensures { result ≡ (if funct7 word == 0b0000000 then Some (operands Shift op word) else None) }
+fn slli(word: u32) -> Option<Instr>
+    ensures { result ≡ (if funct7 word == 0b0000000 then Some (operands Shift Slli word) else None) }
 {
     match funct7(word) {
-        0b0000000 => Some(shift(op, word)),
+        0b0000000 => Some(shift(Op::Slli, word)),
+        _ => None,
+    }
+}
+
+/// SRLI or SRAI, which funct7 tells apart.
+#[inline(always)]
+fn srli_or_srai(word: u32) -> Option<Instr>
+    ensures { result ≡ (if funct7 word == 0b0000000 then Some (operands Shift Srli word)
+        else if funct7 word == 0b0100000 then Some (operands Shift Srai word) else None) }
+{
+    match funct7(word) {
+        0b0000000 => Some(shift(Op::Srli, word)),
+        0b0100000 => Some(shift(Op::Srai, word)),
         _ => None,
     }
 }
@@ -91,15 +104,17 @@ fn base(word: u32, op: Op) -> Option<Instr>
     }
 }
 
-/// ADD or SUB, which funct7 tells apart.
+/// ADD, SUB or MUL, which funct7 tells apart.
 #[inline(always)]
-fn add_or_sub(word: u32) -> Option<Instr>
+fn add_sub_or_mul(word: u32) -> Option<Instr>
     ensures { result ≡ (if funct7 word == 0b0000000 then Some (operands R Add word)
-        else if funct7 word == 0b0100000 then Some (operands R Sub word) else None) }
+        else if funct7 word == 0b0100000 then Some (operands R Sub word)
+        else if funct7 word == 0b0000001 then Some (operands R Mul word) else None) }
 {
     match funct7(word) {
         0b0000000 => Some(r_type(Op::Add, word)),
         0b0100000 => Some(r_type(Op::Sub, word)),
+        0b0000001 => Some(r_type(Op::Mul, word)),
         _ => None,
     }
 }

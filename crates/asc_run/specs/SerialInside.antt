@@ -19,18 +19,18 @@ use Rattle.asc_run.specs.SerialHelper.{SerialHelper}
 abbrev pub last_of : Seen → Option State
 last_of seen.Nothing = None
 last_of (seen.One last) = Some last.value
-last_of (seen.Two pair) = Some pair.last
+last_of (seen.Two prev last) = Some last.value
 
 abbrev pub prev_of : Seen → Option State
 prev_of seen.Nothing = None
 prev_of (seen.One last) = None
-prev_of (seen.Two pair) = Some pair.prev
+prev_of (seen.Two prev last) = Some prev.value
 
 -- what was seen is of this shape
 abbrev pub AreOfShape : Shape → Seen → Type 0
 AreOfShape shape seen.Nothing = Unit {0}
 AreOfShape shape (seen.One last) = last.value.shape ≡ shape
-AreOfShape shape (seen.Two pair) = (pair.prev.shape ≡ shape) × (pair.last.shape ≡ shape)
+AreOfShape shape (seen.Two prev last) = (prev.value.shape ≡ shape) × (last.value.shape ≡ shape)
 
 -- the guesses of these targets
 abbrev pub tasks_for : Guessing → (number start n : ℕ) → List Task

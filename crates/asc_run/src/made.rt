@@ -1,13 +1,13 @@
-ghost use Rattle.std.specs.Prelude.{◌≡◌, ◌≤◌};
+ghost use Rattle.std.specs.Prelude.{◌≡◌, ◌≤◌, IfOk};
 ghost use Rattle.asc_guess.specs.Guess.{guess_of};
 ghost use Rattle.asc_run.specs.Serial.{bounds_at};
 ghost use Rattle.asc_run.specs.Made.{IsMade};
 
 use asc_depvec::Tracer;
 use asc_guess::{Kind, guess};
-use asc_shape::{Bytes, Pair};
+use asc_shape::{Guess, Snapshot};
 use asc_traj::{Entry, Guessing, Never, Stop, trace};
-use std::alloc::Global;
+use std::alloc::{AllocError, Global};
 use std::sync::Arc;
 
 /// What became of a guess.
@@ -21,36 +21,40 @@ pub enum Made {
     Refused,
 }
 
-/// Guesses the state that is `ahead` visits after a pair's later one, and traces it up to that one's pc. The guess
-/// costs what the states use, and what the tracer touched last.
+/// Guesses the state that is `ahead` visits after the last one, and traces it up to that one's pc. It costs what
+/// the trace touches, and what the tracer touched last.
 pub(crate) fn make(
     alloc: Global,
     tracer: &mut Tracer,
-    pair: &Pair,
+    prev: &Arc<Snapshot>,
+    last: &Arc<Snapshot>,
     guessing: &Guessing,
     kind: Kind,
     ahead: u32,
 ) -> Made
-    requires shape { pair.now.last.shape ≡ tracer.old.shape }
+    requires prev { prev.now.value.shape ≡ last.now.value.shape }
+    requires shape { last.now.value.shape ≡ tracer.old.shape }
     requires own_shape { tracer.old.state.shape ≡ tracer.old.shape }
     requires cap { tracer.old.cap ≡ 4096 }
     requires laps { 1 ≤ guessing.now.laps }
     requires span { 1 ≤ guessing.now.span }
-    ensures made { IsMade (bounds_at guessing.now pair.now.last)
-        (guess_of kind ahead pair.now.prev pair.now.last) result }
+    ensures made { IsMade (bounds_at guessing.now last.now.value)
+        (guess_of kind ahead prev.now.value last.now.value) result }
     ensures shape { tracer.new.shape ≡ tracer.old.shape }
     ensures own_shape { tracer.new.state.shape ≡ tracer.old.shape }
     ensures cap { tracer.new.cap ≡ tracer.old.cap }
 {
     let stop = Stop {
-        pc: pair.last().pc(),
+        pc: last.pc(),
         laps: guessing.laps,
         span: guessing.span,
     };
-    tracer.reset();
-    guess(kind, pair, ahead, tracer.state_mut());
-    // That it is a state.
-    let _ = Bytes::shape(tracer);
+    let Ok(guess) = guess_from(kind, prev, last, ahead) else {
+        return Made::Refused;
+    };
+    // That it is a state, of the tracer's shape.
+    let _ = guess.shape();
+    tracer.start(guess);
     let traced = trace(tracer, &stop, &mut Never);
     if traced.steps == 0 {
         return Made::Empty;
@@ -59,4 +63,19 @@ pub(crate) fn make(
         Ok(entry) => Made::One(entry),
         Err(_) => Made::Refused,
     }
+}
+
+// A guess that shares both snapshots.
+fn guess_from(
+    kind: Kind,
+    prev: &Arc<Snapshot>,
+    last: &Arc<Snapshot>,
+    ahead: u32,
+) -> Result<Guess, AllocError>
+    requires { prev.now.value.shape ≡ last.now.value.shape }
+    ensures { IfOk result (λ guess. guess ≡ guess_of kind ahead prev.now.value last.now.value) }
+{
+    let prev = Arc::try_clone(prev)?;
+    let last = Arc::try_clone(last)?;
+    Ok(guess(kind, prev, last, ahead))
 }

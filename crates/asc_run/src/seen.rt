@@ -1,7 +1,7 @@
 ghost use Rattle.std.specs.Prelude.{◌≡◌, Some, None, IfOk, MatchOption};
 ghost use Rattle.asc_run.specs.SerialInside.{AreOfShape, last_of, prev_of};
 
-use asc_shape::{Memory, Pair, Snapshot, State};
+use asc_shape::{Memory, Snapshot, State};
 use std::alloc::Global;
 use std::sync::Arc;
 
@@ -12,7 +12,7 @@ pub(crate) enum Seen {
     /// That of the last one.
     One(Arc<Snapshot>),
     /// That of the one before, and that of the last one.
-    Two(Pair),
+    Two(Arc<Snapshot>, Arc<Snapshot>),
 }
 
 impl Seen {
@@ -27,18 +27,18 @@ impl Seen {
         let now = state.freeze(alloc)?;
         Ok(match self {
             Seen::Nothing => Seen::One(now),
-            Seen::One(last) => Seen::Two(Pair::of(alloc, last, now)?),
-            Seen::Two(pair) => Seen::Two(Pair::of(alloc, Arc::try_clone(pair.last())?, now)?),
+            Seen::One(last) => Seen::Two(last, now),
+            Seen::Two(_prev, last) => Seen::Two(last, now),
         })
     }
 
     /// Both states, where there are two.
-    pub(crate) fn pair(&self) -> Option<&Pair>
+    pub(crate) fn pair(&self) -> Option<(&Arc<Snapshot>, &Arc<Snapshot>)>
         ensures { MatchOption result (prev_of self.now ≡ None)
-            (λ pair. (prev_of self.now ≡ Some pair.now.prev) × (last_of self.now ≡ Some pair.now.last)) }
+            (λ pair. (prev_of self.now ≡ Some pair.0.now.value) × (last_of self.now ≡ Some pair.1.now.value)) }
     {
         match self {
-            Seen::Two(pair) => Some(pair),
+            Seen::Two(prev, last) => Some((prev, last)),
             _ => None,
         }
     }

@@ -11,11 +11,12 @@ use crate::seen::Seen;
 use crate::{Helper, Made};
 use asc_depvec::Tracer;
 use asc_guess::{Kind, targets};
-use asc_shape::{Memory, Pair, Shape, State};
+use asc_shape::{Memory, Shape, Snapshot, State};
 use asc_shard::Shard;
 use asc_traj::{Finder, Guessing};
 use std::alloc::Global;
 use std::marker::Model;
+use std::sync::Arc;
 
 /// How many entries are kept.
 const CAPACITY: usize = 1024;
@@ -136,7 +137,7 @@ impl Serial {
         self.jobs.len()
     }
 
-    /// A job of the last plan: its kind, and how many visits after the pair's later one it guesses.
+    /// A job of the last plan: its kind, and how many visits after the last one it guesses.
     pub fn job(&self, i: usize) -> (Kind, u32)
         requires { i < length self.now.jobs }
         ensures { result ≡ slice_index_or self.now.jobs i result }
@@ -144,10 +145,11 @@ impl Serial {
         self.jobs[i]
     }
 
-    /// The states of the last visit and of the one before, where there were two and their copies are kept.
-    pub fn pair(&self) -> Option<&Pair>
+    /// The states of the visit before the last one and of the last one, where there were two and their copies are kept.
+    pub fn pair(&self) -> Option<(&Arc<Snapshot>, &Arc<Snapshot>)>
         ensures { MatchOption result (self.now.machine.prev ≡ None)
-            (λ pair. (self.now.machine.prev ≡ Some pair.now.prev) × (self.now.machine.last ≡ Some pair.now.last)) }
+            (λ pair. (self.now.machine.prev ≡ Some pair.0.now.value)
+            × (self.now.machine.last ≡ Some pair.1.now.value)) }
     {
         self.seen.pair()
     }
@@ -173,10 +175,11 @@ impl Serial {
     {
         let (kind, ahead) = self.jobs[i];
         match self.seen.pair() {
-            Some(pair) => make(
+            Some((prev, last)) => make(
                 self.alloc,
                 &mut self.tracer,
-                pair,
+                prev,
+                last,
                 &self.guessing,
                 kind,
                 ahead,

@@ -5,7 +5,7 @@ ghost use Rattle.asc_run.specs.Visits.{HasBounds};
 use crate::{Bare, Counts, Ended, Helper, MOST_STEPS, Recognised, Settings, Walk};
 use asc_depvec::Tracer;
 use asc_elf::read;
-use asc_shape::{CountSink, Shape, State, Steps, SureSource, Version};
+use asc_shape::{CountSink, Guess, Shape, Snapshot, State, Steps, SureSource, Version};
 use asc_step::{Fault, FaultKind};
 use asc_traj::{Entry, Finder, ListFinder, Never, Noted, Nothing, Stop, trace};
 use std::alloc::Global;
@@ -175,7 +175,9 @@ fn entry_of<R: Abort>(rt: &R, alloc: Global, laps: u64, steps: u64) -> Arc<Entry
     assert!(rt; laps >= 1 && steps >= 1);
     let from = counting(rt, alloc);
     let mut tracer = Tracer::new(alloc, from.shape(), 96).expect(rt, "memory");
-    tracer.start(&from);
+    let guess = Guess::last(Snapshot::of(alloc, &from).expect(rt, "memory"));
+    assert!(rt; guess.shape() == from.shape());
+    tracer.start(guess);
     let stop = Stop {
         pc: 0x10008,
         laps,
@@ -183,7 +185,7 @@ fn entry_of<R: Abort>(rt: &R, alloc: Global, laps: u64, steps: u64) -> Arc<Entry
     };
     let traced = trace(&mut tracer, &stop, &mut Never);
     assert_eq!(rt; traced.steps, steps);
-    Entry::of(alloc, &tracer, traced.steps).expect(rt, "memory")
+    Entry::of(alloc, &mut tracer, traced.steps).expect(rt, "memory")
 }
 
 #[test]

@@ -1,6 +1,5 @@
 -- Lemmas on eight words in lanes.
-use Rattle.std.proofs.Common.{◌≡◌, ◌⊎◌, inl, inr, ℕ, zero, suc, ◌+◌, ◌*◌, ◌-◌, ◌/◌, ◌%◌, ◌^◌, ◌≤◌, ◌<◌, List, [], ◌∷◌, length, take, min, replicate, length-take, refl, sym, ap, ◌∙◌, arith, slice_index, w8, w32, Fits}
-use Rattle.std.proofs.lemmas.List.{get_or-take, get_or_past, length-replicate, get_or-replicate}
+use Rattle.std.proofs.Common.{◌≡◌, ◌⊎◌, inl, inr, ℕ, zero, suc, ◌+◌, ◌*◌, ◌-◌, ◌/◌, ◌%◌, ◌^◌, ◌≤◌, ◌<◌, List, [], ◌∷◌, length, refl, sym, ap, ◌∙◌, arith, slice_index, w8, w32, Fits}
 use Rattle.std.proofs.lemmas.Bool.{cases_lt}
 use lib.Lanes.{Each1, zip2, chunk, put_chunk, number_l, digits_l}
 use native.Mathlib.Nat.{div-div-eq-div-mul}
@@ -108,22 +107,3 @@ strided_after ahead last prev words first i aligned least left =
     let low : first ≤ w = omega arith in
     ap (λ n. slice_index (bytes_of 4 (strided_word ahead n (word_at prev w))) (i % 4))
     (word_same words last w w (left w low) (left (w + 1) (omega arith)) (left (w + 2) (omega arith)) (left (w + 3) (omega arith)))
-
--- zeros are as good as no bytes
-pub strided_by_zeros : (ahead : ℕ) (words zeros : List ℕ) (i : ℕ) → ((k : ℕ) → slice_index zeros k ≡ 0) → strided_byte ahead words zeros i ≡ strided_byte ahead words [] i
-strided_by_zeros ahead words zeros i each =
-    let w = i / 4 * 4 in
-    ap (λ n. slice_index (bytes_of 4 (strided_word ahead (word_at words w) n)) (i % 4)) (word_same zeros [] w w (each w) (each (w + 1)) (each (w + 2)) (each (w + 3)))
-
-zeros_at : (n i : ℕ) → slice_index (replicate n 0) i ≡ 0
-zeros_at n i = elim (cases_lt i n) [
-  | inl within ↦ get_or-replicate n i 0 0 within
-  | inr past ↦ get_or_past (replicate n 0) i 0 (let e : length (replicate n 0) ≡ n = length-replicate {A = ℕ} n 0 in omega arith)
-]
-
--- the first of some zeros
-pub first_zeros : (n k i : ℕ) → slice_index (take k (replicate n 0)) i ≡ 0
-first_zeros n k i = elim (cases_lt i k) [
-  | inl within ↦ get_or-take k (replicate n 0) i 0 within ∙ zeros_at n i
-  | inr past ↦ get_or_past (take k (replicate n 0)) i 0 (let e : length (take k (replicate n 0)) ≡ min k (length (replicate n 0)) = length-take {A = ℕ} k (replicate n 0) in omega arith)
-]

@@ -1,12 +1,8 @@
 pub mod Faces
 pub mod States
 pub mod Made
-pub mod Counts
 pub mod Pages
-pub mod Copies
-pub mod Puts
-pub mod Restores
 pub mod Snapshots
 pub mod Strides
+pub mod Guesses
 pub mod Eights
-pub mod Differences

@@ -1,18 +1,16 @@
--- Lemmas on pages and their marks.
-use Rattle.std.proofs.Common.{refl, ◌≡◌, ◌≢◌, ◌⊎◌, inl, inr, ℕ, ◌+◌, ◌*◌, ◌-◌, ◌/◌, ◌≤◌, ◌<◌, Bool, true, false, Option, List, ◌++◌, length, take, drop, sym, ap, ◌∙◌, arith, slice_index, slice_index_or, slice_set, length-append, length-take}
-use Rattle.std.proofs.lemmas.List.{get_or-set_same, get_or-set_other, set_past, length-set, get_or_past, get_or-take, get_or-drop, get_or_append_left, get_or-append_right, length-take-le}
+-- Lemmas on pages of a state and their marks.
+use Rattle.std.proofs.Common.{refl, ◌≡◌, ◌≢◌, ◌⊎◌, inl, inr, ℕ, ◌+◌, ◌*◌, ◌-◌, ◌/◌, ◌%◌, ◌≤◌, ◌<◌, Bool, true, false, Option, List, ◌++◌, length, [], ◌∷◌, replicate, take, drop, length-drop, sym, ap, ◌∙◌, arith, slice_index, slice_index_or, slice_set, min, length-append, length-take}
+use Rattle.std.proofs.lemmas.List.{get_or-set_same, get_or-set_other, set_past, length-set, get_or_past, get_or-take, get_or-drop, get_or_append_left, get_or-append_right, length-take-le, get_or-replicate, length-replicate}
 use Rattle.std.proofs.lemmas.Bool.{cases_eq, cases_lt, false≢true}
 use Rattle.std.specs.Vec.{with_items, with_items_from}
-use Rattle.std.specs.Global.{Vec, Global}
-use Rattle.std.specs.declared.sync.Arc.{Arc}
+use Rattle.std.specs.Global.{Vec}
 use borrow.Rule.Slice.PartMut.{put_mid}
 use Rattle.asc_model.specs.Machine.{splice}
 use Rattle.asc_model.specs.Shape.{Shape}
-use Rattle.asc_model.specs.State.{State}
 use Rattle.asc_model.proofs.Changes.{length-splice}
-use Rattle.asc_shape.specs.Pages.{KeepsBase, IsMarked, base_bytes}
-use Rattle.asc_shape.specs.Inside.{IsInside}
-use Rattle.asc_shape.proofs.States.{items-splice, items-with_items_from, length-splice_least}
+use Rattle.asc_pages.specs.Pages.{Keeps, base_bytes}
+use Rattle.asc_shape.specs.Inside.{IsInside, IsMarked}
+use Rattle.asc_shape.proofs.States.{items-splice, items-with_items_from, length-splice_least, put_mid-splice}
 
 -- what is not marked after a mark was not marked before, and is another page
 pub unmarked : (marks : List Bool) (page k : ℕ) → slice_index_or (slice_set marks page true) k true ≡ false → (slice_index_or marks k true ≡ false) × (k ≢ page)
@@ -26,28 +24,28 @@ unmarked marks page k free = elim (cases_lt page (length marks)) [
 ]
 
 -- the marks of the pages of four places
-pub marked_4 : (marks : List Bool) (at : ℕ) → IsMarked at 4 marks (slice_set (slice_set marks (at / 4096) true) ((at + 3) / 4096) true)
+pub marked_4 : (marks : List Bool) (at : ℕ) → IsMarked at 4 marks (slice_set (slice_set marks (at / 1024) true) ((at + 3) / 1024) true)
 marked_4 marks at =
-    let first = slice_set marks (at / 4096) true in
+    let first = slice_set marks (at / 1024) true in
     record {
-      length = length-set first ((at + 3) / 4096) true ∙ length-set marks (at / 4096) true;
-      others = λ i free. (unmarked marks (at / 4096) (i / 4096) (unmarked first ((at + 3) / 4096) (i / 4096) free).0).0;
-      within = λ i free from.
-          let second = unmarked first ((at + 3) / 4096) (i / 4096) free in
-          let one : i / 4096 ≢ at / 4096 = (unmarked marks (at / 4096) (i / 4096) second.0).1 in
-          let two : i / 4096 ≢ (at + 3) / 4096 = second.1 in
+      length = length-set first ((at + 3) / 1024) true ∙ length-set marks (at / 1024) true;
+      others = λ i free. (unmarked marks (at / 1024) (i / 1024) (unmarked first ((at + 3) / 1024) (i / 1024) free).0).0;
+      within = λ i far free from.
+          let second = unmarked first ((at + 3) / 1024) (i / 1024) free in
+          let one : i / 1024 ≢ at / 1024 = (unmarked marks (at / 1024) (i / 1024) second.0).1 in
+          let two : i / 1024 ≢ (at + 3) / 1024 = second.1 in
           omega arith;
     }
 
 -- what is beside n places that were written, and whose pages were marked, is kept
-pub kept_after : (marks after : List Bool) (base bytes new : List ℕ) (from n : ℕ) → KeepsBase marks base bytes → IsMarked from n marks after
-    → ((i : ℕ) → (i < from) ⊎ (from + n ≤ i) → slice_index new i ≡ slice_index bytes i) → KeepsBase after base new
-kept_after marks after base bytes new from n kept marked beside i free =
+pub kept_after : (marks after : List Bool) (base bytes new : List ℕ) (from n : ℕ) → Keeps marks base bytes → IsMarked from n marks after → length new ≡ length bytes
+    → ((i : ℕ) → (i < from) ⊎ (from + n ≤ i) → slice_index new i ≡ slice_index bytes i) → Keeps after base new
+kept_after marks after base bytes new from n kept marked size beside i far inside free =
     let outside : (i < from) ⊎ (from + n ≤ i) = elim (cases_lt i from) [
       | inl below ↦ inl below
-      | inr above ↦ inr (marked.within i free above)
+      | inr above ↦ inr (marked.within i far free above)
     ] in
-    beside i outside ∙ kept i (marked.others i free)
+    beside i outside ∙ kept i far (omega arith) (marked.others i free)
 
 -- a byte beside a splice
 pub splice_beside : (bytes new : List ℕ) (at i : ℕ) → at ≤ length bytes → (i < at) ⊎ (at + length new ≤ i) → slice_index (splice bytes at new) i ≡ slice_index bytes i
@@ -63,31 +61,16 @@ splice_beside bytes new at i within outside =
           ∙ ap (λ j. slice_index bytes j) (omega arith)
     ]
 
--- a mark stays
-mark_of : (b : Bool) → (b ≡ false → ⊥) → b ≡ true
-mark_of true h = refl
-mark_of false h = absurd (h refl)
-
-pub marked_first : (from n : ℕ) (before after : List Bool) → IsMarked from n before after → slice_index_or before 0 true ≡ true → slice_index_or after 0 true ≡ true
-marked_first from n before after marked first = mark_of (slice_index_or after 0 true) (λ free. false≢true (sym (marked.others 0 free) ∙ first))
-
--- where the first page is marked, a word within it needs no mark
-pub marked_within_first : (marks : List Bool) (at : ℕ) → slice_index_or marks 0 true ≡ true → at + 3 < 4096 → IsMarked at 4 marks marks
-marked_within_first marks at first within = record {
+-- a word of the front needs no mark
+pub marked_front : (marks : List Bool) (at : ℕ) → at + 3 < 136 → IsMarked at 4 marks marks
+marked_front marks at within = record {
   length = refl;
   others = λ i free. free;
-  within = λ i free from. elim (cases_lt i 4096) [
-    | inl below ↦ absurd (false≢true (sym free ∙ ap (λ k. slice_index_or marks k true) (let e : i / 4096 ≡ 0 = omega arith in e) ∙ first))
-    | inr above ↦ omega arith
-  ];
+  within = λ i far free from. omega arith;
 }
 
--- the first page marked too keeps what is kept
-pub kept_first : (marks : List Bool) (base bytes : List ℕ) → KeepsBase marks base bytes → KeepsBase (slice_set marks 0 true) base bytes
-kept_first marks base bytes kept i free = kept i (unmarked marks 0 (i / 4096) free).0
-
 -- the fields of a state after a write of n bytes whose pages were marked
-pub inside_after : (shape : Shape) (base : Option (Arc State Global)) (bytes new : Vec ℕ) (changed marks : List Bool) (from n : ℕ)
+pub inside_after : (shape : Shape) (base : Option (List ℕ)) (bytes new : Vec ℕ) (changed marks : List Bool) (from n : ℕ)
     → IsInside (record { shape = shape; bytes = bytes; base = base; changed = changed })
     → IsMarked from n changed marks
     → length new.items ≡ length bytes.items
@@ -97,13 +80,11 @@ inside_after shape base bytes new changed marks from n inside marked same beside
   shape = inside.shape;
   size = same ∙ inside.size;
   marks = marked.length ∙ inside.marks;
-  first = marked_first from n changed marks marked inside.first;
-  base = inside.base;
-  kept = kept_after changed marks (base_bytes base) bytes.items new.items from n inside.kept marked beside;
+  kept = kept_after changed marks (base_bytes base) bytes.items new.items from n inside.kept marked same beside;
 }
 
 -- the same where the bytes are a part that was written over
-pub inside_written : (shape : Shape) (base : Option (Arc State Global)) (bytes : Vec ℕ) (changed marks : List Bool) (from n k : ℕ) (xs ys : List ℕ)
+pub inside_written : (shape : Shape) (base : Option (List ℕ)) (bytes : Vec ℕ) (changed marks : List Bool) (from n k : ℕ) (xs ys : List ℕ)
     → IsInside (record { shape = shape; bytes = bytes; base = base; changed = changed })
     → IsMarked from n changed marks
     → xs ≡ bytes.items → length ys ≡ k → k ≡ n → from + n ≤ length bytes.items
@@ -117,7 +98,7 @@ inside_written shape base bytes changed marks from n k xs ys inside marked e siz
     (λ i outside. ap (λ (l : List ℕ). slice_index l i) spliced ∙ splice_beside bytes.items ys from i (omega arith) (rw whole outside))
 
 -- the fields of a state while memory from a place on is lent, whatever is left there; all pages from there on are marked
-pub inside_lent : (shape : Shape) (base : Option (Arc State Global)) (bytes : Vec ℕ) (changed marks : List Bool) (from n : ℕ) (new : List ℕ)
+pub inside_lent : (shape : Shape) (base : Option (List ℕ)) (bytes : Vec ℕ) (changed marks : List Bool) (from n : ℕ) (new : List ℕ)
     → IsInside (record { shape = shape; bytes = bytes; base = base; changed = changed })
     → IsMarked from n changed marks
     → from + n ≡ length bytes.items
@@ -135,10 +116,48 @@ inside_lent shape base bytes changed marks from n new inside marked whole =
       | inr above ↦ get_or_past (with_items_from bytes from new).items i 0 (omega arith) ∙ sym (get_or_past bytes.items i 0 (omega arith))
     ])
 
--- the mark of a page
-pub marked_page : (marks : List Bool) (p : ℕ) → IsMarked (4096 * p) 4096 marks (slice_set marks p true)
-marked_page marks p = record {
-  length = length-set marks p true;
-  others = λ i free. (unmarked marks p (i / 4096) free).0;
-  within = λ i free from. let other : i / 4096 ≢ p = (unmarked marks p (i / 4096) free).1 in omega arith;
-}
+-- a byte of a part that was written over
+pub put_within : (bytes new : List ℕ) (at k i : ℕ) → length new ≡ k → at + k ≤ length bytes → at ≤ i → i < at + k → slice_index (put_mid at k bytes new) i ≡ slice_index new (i - at)
+put_within bytes new at k i size within least most =
+    let front : length (take at bytes) ≡ at = omega (arith, length-take at bytes) in
+    get_or-append_right (take at bytes) _ at i 0 front least ∙ get_or_append_left new _ 0 (i - at) (omega arith)
+
+put_size : (bytes new : List ℕ) (at k : ℕ) → length new ≡ k → at + k ≤ length bytes → length (put_mid at k bytes new) ≡ length bytes
+put_size bytes new at k size within = ap (λ (l : List ℕ). length l) (put_mid-splice at k bytes new size) ∙ length-splice bytes at new (omega arith)
+
+-- where a page was written over, it is that page; one that is left out is written as zeros
+pub put_there : (bytes page new : List ℕ) (p from to : ℕ) → from ≡ 1024 * p → to ≡ min (1024 * p + 1024) (length bytes) → p < length bytes / 1024 + 1 → length new ≡ to - from
+    → ((j : ℕ) → j < to - from → slice_index new j ≡ slice_index page j)
+    → (i : ℕ) → i / 1024 ≡ p → i < length bytes → slice_index (put_mid from (to - from) bytes new) i ≡ slice_index page (i % 1024)
+put_there bytes page new p from to start end within size each i here inside =
+    put_within bytes new from (to - from) i size (omega arith) (omega arith) (omega arith)
+    ∙ each (i - from) (omega arith)
+    ∙ ap (λ k. slice_index page k) (omega arith)
+
+-- other pages stay
+pub put_elsewhere : (bytes new : List ℕ) (p from to : ℕ) → from ≡ 1024 * p → to ≡ min (1024 * p + 1024) (length bytes) → p < length bytes / 1024 + 1
+    → length new ≡ to - from → (i : ℕ) → i / 1024 ≢ p → slice_index (put_mid from (to - from) bytes new) i ≡ slice_index bytes i
+put_elsewhere bytes new p from to start end within size i other =
+    ap (λ (l : List ℕ). slice_index l i) (put_mid-splice from (to - from) bytes new size)
+    ∙ elim (cases_lt i (length bytes)) [
+      | inl inside ↦ splice_beside bytes new from i (omega arith) (elim (cases_lt i from) [ inl below ↦ inl below | inr above ↦ inr (omega arith) ])
+      | inr past ↦ splice_beside bytes new from i (omega arith) (inr (omega arith))
+    ]
+
+-- how many bytes a page has
+pub length-page : (p from to : ℕ) (bytes : List ℕ) → from ≡ 1024 * p → to ≡ min (1024 * p + 1024) (length bytes) → p < length bytes / 1024 + 1 → length (take (to - from) (drop from bytes)) ≡ to - from
+length-page p from to bytes start end within = omega (arith, length-take (to - from) (drop from bytes), length-drop from bytes)
+
+-- a byte of zeros
+pub zero_at : (n j : ℕ) (list page : List ℕ) → list ≡ replicate n 0 → page ≡ [] → slice_index list j ≡ slice_index page j
+zero_at n j list page all none = ap (λ (l : List ℕ). slice_index l j) all
+    ∙ (elim (cases_lt j n) [
+      | inl within ↦ get_or-replicate n j 0 0 within
+      | inr past ↦ get_or_past (replicate n 0) j 0 (omega (arith, length-replicate {A = ℕ} n 0))
+    ])
+    ∙ sym (ap (λ (l : List ℕ). slice_index l j) none ∙ get_or_past [] j 0 (omega arith))
+
+-- a list with nothing in it
+pub no_bytes : (list : List ℕ) → length list ≡ 0 → list ≡ []
+no_bytes [] none = refl
+no_bytes (byte ∷ list) none = absurd (let h : ⊥ = omega arith in h)

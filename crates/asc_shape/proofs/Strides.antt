@@ -1,6 +1,6 @@
 -- Lemmas on strided words.
-use Rattle.std.proofs.Common.{◌≡◌, ◌⊎◌, inl, inr, ℕ, ◌+◌, ◌*◌, ◌-◌, ◌/◌, ◌%◌, ◌≤◌, ◌<◌, List, [], length, take, drop, min, refl, sym, ap, ◌∙◌, arith, slice_index, length-take, length-drop}
-use Rattle.std.proofs.lemmas.List.{get_or-take, get_or-drop, get_or_past}
+use Rattle.std.proofs.Common.{◌≡◌, ◌⊎◌, inl, inr, ℕ, ◌+◌, ◌*◌, ◌-◌, ◌/◌, ◌%◌, ◌≤◌, ◌<◌, List, length, take, drop, min, refl, sym, ap, ◌∙◌, arith, slice_index}
+use Rattle.std.proofs.lemmas.List.{get_or-take, get_or-drop}
 use Rattle.asc_model.specs.declared.version.Version.{Version}
 use Rattle.asc_model.specs.declared.version.Version.TheVariants.{One, Two}
 use Rattle.asc_model.specs.Shape.{Shape, IsShape, length_of, start_of}
@@ -11,8 +11,7 @@ use Rattle.asc_model.specs.Number.{word_at, bytes_of}
 use Rattle.asc_model.proofs.Numbers.{word_at-from_le_bytes}
 use Rattle.asc_shape.specs.Stride.{strided_word, strided_byte, strided}
 use Rattle.asc_shape.proofs.States.{put_mid-splice}
-use Rattle.asc_shape.proofs.Pages.{splice_beside}
-use Rattle.asc_shape.proofs.Copies.{put_within}
+use Rattle.asc_shape.proofs.Pages.{splice_beside, put_within, length-page}
 
 -- words with the same bytes
 pub word_same : (xs ys : List ℕ) (i j : ℕ) → slice_index xs i ≡ slice_index ys j → slice_index xs (i + 1) ≡ slice_index ys (j + 1)
@@ -58,8 +57,8 @@ stride_more ahead last prev words new first k from to word same low done left st
     )
 
 -- a byte of a page that was strided, by its words there
-pub strided_there : (ahead : ℕ) (bytes target part items : List ℕ) (p from to i : ℕ) → from ≡ 4096 * p → to ≡ min (4096 * p + 4096) (length bytes) → length bytes % 4 ≡ 0
-    → i / 4096 ≡ p → i < length bytes
+pub strided_there : (ahead : ℕ) (bytes target part items : List ℕ) (p from to i : ℕ) → from ≡ 1024 * p → to ≡ min (1024 * p + 1024) (length bytes) → length bytes % 4 ≡ 0
+    → i / 1024 ≡ p → i < length bytes
     → ((j : ℕ) → j < to - from → slice_index part j ≡ slice_index bytes (from + j))
     → ((j : ℕ) → j < to - from → slice_index items j ≡ slice_index target (from + j))
     → strided_byte ahead part items (i - from) ≡ strided_byte ahead bytes target i
@@ -81,6 +80,10 @@ strided_there ahead bytes target part items p from to i start end whole here wit
     ∙ ap (λ w. slice_index (bytes_of 4 (strided_word ahead (word_at bytes (i / 4 * 4)) w)) ((i - from) % 4)) (prev ∙ ap (λ j. word_at target j) there)
     ∙ ap (λ j. slice_index (bytes_of 4 (strided_word ahead (word_at bytes (i / 4 * 4)) (word_at target (i / 4 * 4)))) j) column
 
+-- what is read from a part
+pub part_at : (bytes : List ℕ) (from n j : ℕ) → j < n → slice_index (take n (drop from bytes)) j ≡ slice_index bytes (from + j)
+part_at bytes from n j within = get_or-take n (drop from bytes) j 0 within ∙ get_or-drop from bytes j 0
+
 start_4 : (v : Version) → start_of v % 4 ≡ 0
 start_4 One = refl
 start_4 Two = refl
@@ -89,40 +92,15 @@ start_4 Two = refl
 pub whole_words : (s : Shape) → IsShape s → length_of s % 4 ≡ 0
 whole_words s good = let start = start_4 s.version in let size = good.size.aligned in omega arith
 
--- what is read from a part
-pub part_at : (bytes : List ℕ) (from n j : ℕ) → j < n → slice_index (take n (drop from bytes)) j ≡ slice_index bytes (from + j)
-part_at bytes from n j within = get_or-take n (drop from bytes) j 0 within ∙ get_or-drop from bytes j 0
-
--- the word of no bytes
-pub word_at-nil : (i : ℕ) → word_at [] i ≡ 0
-word_at-nil i = word_same [] [] i 0 refl refl refl refl
-
--- a page that was put and then strided, as a page of the strided words
-pub strided_put : (ahead : ℕ) (last prev put new : List ℕ) (p : ℕ) → length put ≡ length last → length new ≡ length last
-    → ((i : ℕ) → i / 4096 ≡ p → slice_index put i ≡ slice_index last i)
-    → ((i : ℕ) → i / 4096 ≡ p → i < length put → slice_index new i ≡ strided_byte ahead put prev i)
-    → (i : ℕ) → i / 4096 ≡ p → slice_index new i ≡ slice_index (strided ahead last prev) i
-strided_put ahead last prev put new p size_put size_new same each i here = elim (cases_lt i (length last)) [
-  | inl within ↦ each i here (omega arith)
-      ∙ ap (λ w. slice_index (bytes_of 4 (strided_word ahead w (word_at prev (i / 4 * 4)))) (i % 4))
-      (word_same put last (i / 4 * 4) (i / 4 * 4) (same _ (omega arith)) (same _ (omega arith)) (same _ (omega arith)) (same _ (omega arith)))
-      ∙ sym (byte-strided ahead last prev i within)
-  | inr past ↦ get_or_past new i 0 (omega arith) ∙ sym (get_or_past (strided ahead last prev) i 0 (omega (arith, length-strided ahead last prev)))
-]
-
--- how many bytes a page has
-pub length-page : (p from to : ℕ) (bytes : List ℕ) → from ≡ 4096 * p → to ≡ min (4096 * p + 4096) (length bytes) → p < length bytes / 4096 + 1 → length (take (to - from) (drop from bytes)) ≡ to - from
-length-page p from to bytes start end within = omega (arith, length-take (to - from) (drop from bytes), length-drop from bytes)
-
 -- a page that was strided, in its place
-pub page_strided : (ahead : ℕ) (bytes target new items : List ℕ) (p from to : ℕ) → from ≡ 4096 * p → to ≡ min (4096 * p + 4096) (length bytes) → p < length bytes / 4096 + 1 → length bytes % 4 ≡ 0
+pub page_strided : (ahead : ℕ) (bytes target new items : List ℕ) (p from to : ℕ) → from ≡ 1024 * p → to ≡ min (1024 * p + 1024) (length bytes) → p < length bytes / 1024 + 1 → length bytes % 4 ≡ 0
     → length new ≡ to - from
     → ((j : ℕ) → j < length (take (to - from) (drop from bytes)) → slice_index new j ≡ strided_byte ahead (take (to - from) (drop from bytes)) items j)
-    → ((i : ℕ) → i / 4096 ≡ p → slice_index target i ≡ slice_index items (i % 4096))
-    → (i : ℕ) → i / 4096 ≡ p → i < length bytes → slice_index (put_mid from (to - from) bytes new) i ≡ strided_byte ahead bytes target i
+    → ((i : ℕ) → i / 1024 ≡ p → slice_index target i ≡ slice_index items (i % 1024))
+    → (i : ℕ) → i / 1024 ≡ p → i < length bytes → slice_index (put_mid from (to - from) bytes new) i ≡ strided_byte ahead bytes target i
 page_strided ahead bytes target new items p from to start end page whole size each same i here within =
     let count = length-page p from to bytes start end page in
     put_within bytes new from (to - from) i size (omega arith) (omega arith) (omega arith)
     ∙ each (i - from) (omega arith)
     ∙ strided_there ahead bytes target (take (to - from) (drop from bytes)) items p from to i start end whole here within (λ j inside. part_at bytes from (to - from) j inside)
-    (λ j inside. ap (λ k. slice_index items k) (let e : j ≡ (from + j) % 4096 = omega arith in e) ∙ sym (same (from + j) (omega arith)))
+    (λ j inside. ap (λ k. slice_index items k) (let e : j ≡ (from + j) % 1024 = omega arith in e) ∙ sym (same (from + j) (omega arith)))

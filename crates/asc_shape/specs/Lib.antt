@@ -1,8 +1,8 @@
 pub mod Shape
 pub mod State
 pub mod Face
-pub mod Pages
+pub mod Frozen
 pub mod Inside
 pub mod Stride
 pub mod TakesIn
-pub mod Pair
+pub mod Guess

@@ -12,7 +12,7 @@ pub(crate) const EIGHT: usize = 32;
 #[inline]
 pub(crate) fn stride_eight(words: &mut [u8], prev: &[u8], at: usize, ahead: u32)
     requires within { at + 32 ≤ length words.old }
-    requires size { length prev.now ≡ length words.old }
+    requires size { length words.old ≤ length prev.now }
     requires aligned { at % 4 ≡ 0 }
     ensures eight { (i : ℕ) → at ≤ i → i < at + 32
         → slice_index words.new i ≡ strided_byte ahead words.old prev.now i }

@@ -2,12 +2,10 @@
 #![tactic(auto)]
 
 mod bytes;
+mod guess;
 mod lanes;
 mod laws;
-mod marks;
 mod page;
-mod pair;
-mod reserved;
 mod shape;
 mod snapshot;
 mod state;
@@ -22,9 +20,8 @@ pub use asc_outside::{
     Source, Store, StoreFault, SureSource, put_all,
 };
 pub use bytes::Bytes;
+pub use guess::Guess;
 pub use laws::good_shapes_are_made;
-pub use pair::Pair;
-pub use reserved::Reserved;
 pub use shape::{LEAST_SIZE, MOST_SIZE, PAGE_SIZE, Shape, ShapeFault};
 pub use snapshot::Snapshot;
 pub use state::State;

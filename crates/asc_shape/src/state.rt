@@ -1,4 +1,4 @@
-ghost use Rattle.std.specs.Prelude.{◌≡◌, ◌≢◌, ℕ, List, [], ◌+◌, ◌-◌, ◌*◌, ◌/◌, ◌^◌, ◌<◌, ◌≤◌, true, false, IfOk, IsTrue, length, replicate, slice_index, slice_index_or, slice_set};
+ghost use Rattle.std.specs.Prelude.{◌≡◌, ◌≢◌, ℕ, List, ◌+◌, ◌-◌, ◌*◌, ◌/◌, ◌^◌, ◌<◌, ◌≤◌, true, false, IfOk, IsTrue, length, replicate, slice_index, slice_index_or, slice_set, take};
 ghost use Rattle.asc_model.specs.Shape.{length_of, place_of, holds};
 ghost use Rattle.asc_model.specs.Number.{word_at, bytes_of};
 ghost use Rattle.asc_model.specs.Places.{cells, bytes_after};
@@ -8,16 +8,17 @@ ghost use Rattle.asc_model.specs.Machine as machine;
 ghost use Rattle.asc_shape.specs.Face.{Untold};
 ghost use Rattle.std.specs.Borrow.{Lends, Array, sem, u8 as byte};
 ghost use Rattle.asc_shape.specs.contracts.state.State.{the_row};
-ghost use Rattle.asc_shape.specs.Pages.{IsMarked, FitPages, KeptPages, IsPutOver, held, page_in_group, page_in_span};
-ghost use Rattle.asc_shape.specs.Stride.{strided};
+ghost use Rattle.asc_pages.specs.Pages.{IsPage, Keeps, base_bytes};
+ghost use Rattle.asc_shape.specs.Inside.{IsMarked};
+ghost use Rattle.asc_shape.specs.Stride.{strided, strided_byte};
 ghost use Rattle.asc_outside.specs.Outside.{HasCause, IsAtEnd};
 ghost use Rattle.asc_shape.specs.TakesIn.{TakesIn};
 ghost use Rattle.asc_shape.specs.State.{with_memory, zero_state, state_after, memory_at};
 
-use crate::marks::Marks;
-use crate::page::{PAGE, PART, elements_are_bytes, part_ends, put_page, stride_page, used_of};
-use crate::snapshot::{Group, Page, base_groups, base_spans, part_at};
-use crate::{Bytes, Failed, Memory, Pair, Reserved, Shape, Snapshot, Source, Words};
+use crate::page::{elements_are_bytes, put_page, put_pages, stride, stride_pages};
+use crate::snapshot::front_of;
+use crate::{Bytes, Failed, Memory, Shape, Snapshot, Source, Words};
+use asc_pages::{FRONT, Marks, PAGE, Pages};
 use std::alloc::Global;
 use std::marker::Model;
 use std::sync::Arc;
@@ -29,8 +30,8 @@ use std::sync::Arc;
 pub struct State {
     shape: Shape,
     bytes: Vec<u8>,
-    // What the pages that are not changed have; zeros where there is none.
-    base: Option<Arc<Snapshot>>,
+    // What the pages that are not changed have; zeros where there are none.
+    base: Option<Pages>,
     // For each page, whether it may differ from the base's.
     changed: Marks,
 }
@@ -66,23 +67,15 @@ impl State {
     pub fn new(alloc: Global, shape: Shape) -> Result<State, Memory>
         ensures { IfOk result (λ s. s ≡ zero_state shape) }
     {
-        Ok(Reserved::new(alloc, shape)?.fill())
-    }
-
-    /// The state of this shape with these bytes, all 0.
-    pub(crate) fn of_zeros(shape: Shape, bytes: Vec<u8>, changed: Marks) -> State
-        requires zeros { bytes.items ≡ replicate (length_of shape) 0 }
-        requires marks { length changed ≡ length_of shape / 4096 + 1 }
-        requires first { slice_index_or changed 0 true ≡ true }
-        ensures { result ≡ zero_state shape }
-    {
+        // That it is a shape bounds how many bytes there are.
         let _ = shape.base();
-        State {
+        let len = (shape.start() + shape.size()) as usize;
+        Ok(State {
             shape,
-            bytes,
+            bytes: vec![in alloc; 0; len]?,
             base: None,
-            changed,
-        }
+            changed: Marks::new(alloc, len / PAGE + 1)?,
+        })
     }
 
     /// The shape. A caller's proof learns from it that this is a state.
@@ -121,6 +114,29 @@ impl State {
         self.bytes[place as usize] = byte;
         // The mark comes last: so a function that ends with a put need not keep anything for it.
         self.changed.mark(place as usize / PAGE);
+    }
+
+    /// The word in the four bytes from a place on.
+    #[inline]
+    pub fn word(&self, place: u32) -> u32
+        requires { place + 4 ≤ length_of self.now.shape }
+        ensures { result ≡ word_at self.now.bytes place }
+    {
+        let at = place as usize;
+        let bytes = &self.bytes[at..at + 4];
+        u32::from_le_bytes([bytes[0], bytes[1], bytes[2], bytes[3]])
+    }
+
+    /// Puts a word into the four bytes from a place on.
+    #[inline(always)]
+    pub fn set_word(&mut self, place: u32, word: u32)
+        requires { place + 4 ≤ length_of self.old.shape }
+        ensures { self.new ≡ record self.old { bytes = bytes_after self.old.bytes (cells place (bytes_of 4 word)) } }
+    {
+        let at = place as usize;
+        self.bytes[at..at + 4].copy_from_slice(&word.to_le_bytes());
+        // Last, as in `set`.
+        mark_word(&mut self.changed, at);
     }
 
     /// The pc.
@@ -238,14 +254,8 @@ impl State {
     {
         // That it is a shape bounds how many bytes there are.
         let _ = self.shape.base();
-        let count = (self.changed.len() - 1) / (PART * PART) + 1;
-        let used = used_of(base_spans(&self.base), self.changed.used_spans(), count);
-        for s in 0..used {
-            let kept = base_groups(self.shape, &self.base, s);
-            put_span(&[], kept, &mut self.bytes, &mut self.changed, s);
-        }
-        self.changed.settle_spans();
-        self.changed.mark(0);
+        fill_bytes(&mut self.bytes, &self.changed, &self.base);
+        self.changed.clear();
         self.base = None;
     }
 
@@ -259,75 +269,50 @@ impl State {
         self.base = None;
     }
 
+    /// Makes this state equal to a copy of a state of its shape.
+    pub(crate) fn put_snapshot(&mut self, from: &Snapshot)
+        requires { self.old.shape ≡ from.now.shape }
+        ensures { self.new ≡ from.now }
+    {
+        // That they are states: so they have as many bytes.
+        let _ = (self.shape(), from.shape());
+        put_snapshot(&mut self.bytes, from);
+        self.changed.mark_all();
+        self.base = None;
+    }
+
+    /// Strides all words by those of a copy of a state of its shape.
+    pub(crate) fn stride(&mut self, prev: &Snapshot, ahead: u32)
+        requires { self.old.shape ≡ prev.now.shape }
+        ensures { self.new ≡ record self.old { bytes = strided ahead self.old.bytes prev.now.bytes } }
+    {
+        // That they are states: so they have as many bytes.
+        let _ = (self.shape(), prev.shape());
+        stride_by(&mut self.bytes, prev, ahead);
+        self.changed.mark_all();
+        self.base = None;
+    }
+
     /// A copy of this state, which costs what changed since the base.
     pub(crate) fn snapshot(&self, alloc: Global) -> Result<Arc<Snapshot>, Memory>
         ensures { IfOk result (λ s. s.value ≡ self.now) }
     {
-        let snapshot = Snapshot::made(alloc, self.shape, &self.bytes, &self.changed, &self.base)?;
-        Ok(Arc::new(alloc, snapshot)?)
+        Snapshot::made(alloc, self.shape, &self.bytes, &self.changed, &self.base)
     }
 
-    /// A copy of this state, which stays. It costs what changed since the last one that was made so; after `new`,
-    /// `fill`, `restore` and `stride` what the state uses, and after `copy_from` all of it.
+    /// A copy of this state, which stays. It costs what changed since the last one that was made so; after `new` and
+    /// `fill` what the state uses, and after `copy_from` all of it.
     pub fn freeze(&mut self, alloc: Global) -> Result<Arc<Snapshot>, Memory>
         ensures stays { self.new ≡ self.old }
         ensures frozen { IfOk result (λ s. s.value ≡ self.old) }
     {
         let snapshot = self.snapshot(alloc)?;
-        let base = Arc::try_clone(&snapshot)?;
-        self.base = Some(base);
-        self.changed.clear();
+        if !self.changed.is_clear() {
+            let base = snapshot.pages().share()?;
+            self.base = Some(base);
+            self.changed.clear();
+        }
         Ok(snapshot)
-    }
-
-    /// Makes this state equal to a copy of a state of its shape. It costs what either uses. No allocator is handed in.
-    pub fn restore(&mut self, from: &Snapshot)
-        requires { self.old.shape ≡ from.now.shape }
-        ensures { self.new ≡ from.now }
-    {
-        // That its shape is one, which bounds how many bytes it has.
-        let _ = from.shape().base();
-        let count = (self.changed.len() - 1) / (PART * PART) + 1;
-        let there = used_of(base_spans(&self.base), self.changed.used_spans(), count);
-        let used = used_of(from.span_count(), there, count);
-        for s in 0..used {
-            let kept = base_groups(self.shape, &self.base, s);
-            put_span(from.groups(s), kept, &mut self.bytes, &mut self.changed, s);
-        }
-        self.changed.settle_spans();
-        self.changed.mark(0);
-        self.base = None;
-    }
-
-    /// Makes each aligned word that of the pair's later one, and `ahead` times what it rose by from the earlier one,
-    /// modulo 2^32. It costs what either of the pair or this state uses. No allocator is handed in.
-    pub fn stride(&mut self, pair: &Pair, ahead: u32)
-        requires { self.old.shape ≡ pair.now.last.shape }
-        ensures { self.new ≡ record self.old { bytes = strided ahead pair.now.last.bytes pair.now.prev.bytes } }
-    {
-        let differ = pair.differ();
-        self.restore(pair.last());
-        for k in 0..differ.len() {
-            self.stride_page(pair.prev(), pair.last(), differ[k], ahead);
-        }
-    }
-
-    // Strides page p, whatever was there.
-    fn stride_page(&mut self, prev: &Snapshot, last: &Snapshot, p: usize, ahead: u32)
-        requires prev { self.old.shape ≡ prev.now.shape }
-        requires last { self.old.shape ≡ last.now.shape }
-        requires page { p < length_of self.old.shape / 4096 + 1 }
-        ensures shape { self.new.shape ≡ self.old.shape }
-        ensures length { length self.new.bytes ≡ length self.old.bytes }
-        ensures page { (i : ℕ) → i / 4096 ≡ p
-            → slice_index self.new.bytes i ≡ slice_index (strided ahead last.now.bytes prev.now.bytes) i }
-        ensures others { (i : ℕ) → i / 4096 ≢ p → slice_index self.new.bytes i ≡ slice_index self.old.bytes i }
-    {
-        // That their shapes are ones.
-        let _ = (prev.shape(), last.shape());
-        self.changed.mark(p);
-        put_page(&mut self.bytes, p, last.page(p), false);
-        stride_page(&mut self.bytes, p, prev.page(p), ahead);
     }
 
     // The place of an address from the base of memory to its end, as an index.
@@ -338,27 +323,6 @@ impl State {
         ensures { result ≡ place_of self.now.shape at }
     {
         self.shape.place_of(at) as usize
-    }
-
-    #[inline]
-    fn word(&self, place: u32) -> u32
-        requires { place + 4 ≤ length_of self.now.shape }
-        ensures { result ≡ word_at self.now.bytes place }
-    {
-        let at = place as usize;
-        let bytes = &self.bytes[at..at + 4];
-        u32::from_le_bytes([bytes[0], bytes[1], bytes[2], bytes[3]])
-    }
-
-    #[inline(always)]
-    fn set_word(&mut self, place: u32, word: u32)
-        requires { place + 4 ≤ length_of self.old.shape }
-        ensures { self.new ≡ record self.old { bytes = bytes_after self.old.bytes (cells place (bytes_of 4 word)) } }
-    {
-        let at = place as usize;
-        self.bytes[at..at + 4].copy_from_slice(&word.to_le_bytes());
-        // Last, as in `set`.
-        mark_word(&mut self.changed, at);
     }
 }
 
@@ -404,17 +368,16 @@ impl Words for State {
     }
 }
 
-// Marks the pages of the word at a place. The first page, in which the registers are, is always marked.
+// Marks the pages of the word at a place. The front needs no marks.
 //
 // It is always taken into its caller: where that puts a register, the compiler then sees that nothing is to be marked.
 #[inline(always)]
 fn mark_word(changed: &mut Marks, at: usize)
     requires within { at + 4 < 2 ^ 32 }
-    requires pages { (at + 3) / 4096 < length changed.old }
-    requires first { slice_index_or changed.old 0 true ≡ true }
+    requires pages { (at + 3) / 1024 < length changed.old }
     ensures { IsMarked at 4 changed.old changed.new }
 {
-    if at + 3 >= PAGE {
+    if at + 3 >= FRONT {
         // A word at a multiple of 4 lies in one page.
         if at.is_multiple_of(4) {
             changed.mark(at / PAGE);
@@ -430,7 +393,7 @@ fn mark_word(changed: &mut Marks, at: usize)
 #[inline(never)]
 fn mark_both(changed: &mut Marks, at: usize)
     requires within { at + 4 < 2 ^ 32 }
-    requires pages { (at + 3) / 4096 < length changed.old }
+    requires pages { (at + 3) / 1024 < length changed.old }
     ensures { IsMarked at 4 changed.old changed.new }
 {
     changed.mark(at / PAGE);
@@ -440,7 +403,7 @@ fn mark_both(changed: &mut Marks, at: usize)
 // Marks the pages of the n places from a place on.
 fn mark(changed: &mut Marks, from: usize, n: usize)
     requires within { from + n < 2 ^ 32 }
-    requires pages { (from + n) / 4096 < length changed.old }
+    requires pages { (from + n) / 1024 < length changed.old }
     ensures { IsMarked from n changed.old changed.new }
 {
     for p in from / PAGE..(from + n + (PAGE - 1)) / PAGE {
@@ -448,93 +411,76 @@ fn mark(changed: &mut Marks, from: usize, n: usize)
     }
 }
 
-// Whether a page is known to be blank that is page k of those that are kept, where it is not changed.
-#[inline]
-fn is_blank(kept: &[Page], k: usize, changed: bool) -> bool
-    ensures changed { result ≡ true → changed ≡ false }
-    ensures blank { result ≡ true → length (page_in_group kept.now k) ≡ 0 }
+// Makes all bytes 0, where those of pages that are not changed are the base's.
+fn fill_bytes(bytes: &mut [u8], changed: &Marks, base: &Option<Pages>)
+    requires least { 136 ≤ length bytes.old }
+    requires most { length bytes.old < 2 ^ 32 }
+    requires marks { length changed.now ≡ length bytes.old / 1024 + 1 }
+    requires kept { Keeps changed.now (base_bytes base.now) bytes.old }
+    ensures { bytes.new ≡ replicate (length bytes.old) 0 }
 {
-    !changed && part_at(kept, k).is_empty()
+    fill_pages(bytes, changed, base);
+    bytes[0..FRONT].fill(0);
 }
 
-// Writes groups over span s, where those that are kept are what its pages have that are not marked.
-fn put_span(copy: &[Group], kept: &[Group], bytes: &mut [u8], changed: &mut Marks, s: usize)
+// Fills the pages with zeros that are changed or that the base has.
+fn fill_pages(bytes: &mut [u8], changed: &Marks, base: &Option<Pages>)
     requires most { length bytes.old < 2 ^ 32 }
-    requires marks { length changed.old ≡ length bytes.old / 4096 + 1 }
-    requires span { 1024 * s < length changed.old }
-    requires copy { FitPages (length bytes.old) (1024 * s) 1024 (page_in_span copy.now) }
-    requires kept { KeptPages changed.old (length bytes.old) bytes.old (1024 * s) 1024 (page_in_span kept.now) }
-    ensures { IsPutOver (length bytes.old) (1024 * s) 1024 (page_in_span copy.now)
-        bytes.old bytes.new changed.old changed.new }
+    requires marks { length changed.now ≡ length bytes.old / 1024 + 1 }
+    requires kept { Keeps changed.now (base_bytes base.now) bytes.old }
+    ensures size { length bytes.new ≡ length bytes.old }
+    ensures zeros { (i : ℕ) → 136 ≤ i → i < length bytes.new → slice_index bytes.new i ≡ 0 }
 {
-    if copy.is_empty() && kept.is_empty() && changed.is_unmarked_span(s) {
+    if base.is_none() && changed.is_clear() {
         return;
     }
-    put_groups(copy, kept, bytes, changed, s);
+    for p in 0..changed.len() {
+        if changed.is_marked(p) || !is_blank_in(base, p) {
+            put_page(bytes, p, &[]);
+        }
+    }
 }
 
-// The same, group by group.
-#[inline(never)]
-fn put_groups(copy: &[Group], kept: &[Group], bytes: &mut [u8], changed: &mut Marks, s: usize)
-    requires most { length bytes.old < 2 ^ 32 }
-    requires marks { length changed.old ≡ length bytes.old / 4096 + 1 }
-    requires span { 1024 * s < length changed.old }
-    requires copy { FitPages (length bytes.old) (1024 * s) 1024 (page_in_span copy.now) }
-    requires kept { KeptPages changed.old (length bytes.old) bytes.old (1024 * s) 1024 (page_in_span kept.now) }
-    ensures { IsPutOver (length bytes.old) (1024 * s) 1024 (page_in_span copy.now)
-        bytes.old bytes.new changed.old changed.new }
+// Whether a base is known to have only zeros in page p. Where there is no base, all is zeros.
+fn is_blank_in(base: &Option<Pages>, p: usize) -> bool
+    ensures { result ≡ true → (i : ℕ) → i / 1024 ≡ p → slice_index (base_bytes base.now) i ≡ 0 }
 {
-    let (from, to) = part_ends(s, (changed.len() - 1) / PART + 1);
-    let there = used_of(kept.len(), changed.used_groups(s), to - from);
-    let used = used_of(copy.len(), there, to - from);
-    for g in from..from + used {
-        put_group(
-            part_at(copy, g - from),
-            part_at(kept, g - from),
-            bytes,
-            changed,
-            g,
-        );
+    match base {
+        None => true,
+        Some(base) => base.page(p).is_empty(),
     }
-    changed.settle_span(s);
 }
 
-// Writes pages over group g, where those that are kept are what its pages have that are not marked.
-#[inline]
-fn put_group(copy: &[Page], kept: &[Page], bytes: &mut [u8], changed: &mut Marks, g: usize)
-    requires most { length bytes.old < 2 ^ 32 }
-    requires marks { length changed.old ≡ length bytes.old / 4096 + 1 }
-    requires group { 32 * g < length changed.old }
-    requires copy { FitPages (length bytes.old) (32 * g) 32 (page_in_group copy.now) }
-    requires kept { KeptPages changed.old (length bytes.old) bytes.old (32 * g) 32 (page_in_group kept.now) }
-    ensures { IsPutOver (length bytes.old) (32 * g) 32 (page_in_group copy.now)
-        bytes.old bytes.new changed.old changed.new }
+// Writes a copy of a state over the bytes of one.
+fn put_snapshot(bytes: &mut [u8], from: &Snapshot)
+    requires { length bytes.old ≡ length from.now.bytes }
+    ensures { bytes.new ≡ from.now.bytes }
 {
-    if copy.is_empty() && kept.is_empty() && changed.is_unmarked(g) {
-        return;
-    }
-    put_pages(copy, kept, bytes, changed, g);
+    // That it is a shape bounds how many bytes there are.
+    let _ = from.shape().base();
+    put_pages(bytes, from.pages());
+    bytes[0..FRONT].copy_from_slice(from.front());
 }
 
-// The same, page by page.
-#[inline(never)]
-fn put_pages(copy: &[Page], kept: &[Page], bytes: &mut [u8], changed: &mut Marks, g: usize)
-    requires most { length bytes.old < 2 ^ 32 }
-    requires marks { length changed.old ≡ length bytes.old / 4096 + 1 }
-    requires group { 32 * g < length changed.old }
-    requires copy { FitPages (length bytes.old) (32 * g) 32 (page_in_group copy.now) }
-    requires kept { KeptPages changed.old (length bytes.old) bytes.old (32 * g) 32 (page_in_group kept.now) }
-    ensures { IsPutOver (length bytes.old) (32 * g) 32 (page_in_group copy.now)
-        bytes.old bytes.new changed.old changed.new }
+// Strides the words of a state by those of a copy of one.
+fn stride_by(bytes: &mut [u8], prev: &Snapshot, ahead: u32)
+    requires { length bytes.old ≡ length prev.now.bytes }
+    ensures { bytes.new ≡ strided ahead bytes.old prev.now.bytes }
 {
-    let (from, to) = part_ends(g, changed.len());
-    let there = used_of(kept.len(), changed.used_pages(g), to - from);
-    let used = used_of(copy.len(), there, to - from);
-    for p in from..from + used {
-        let page = part_at(copy, p - from);
-        let blank = is_blank(kept, p - from, changed.is_marked(p));
-        put_page(bytes, p, page, blank);
-        changed.put(p, !page.is_empty());
-    }
-    changed.settle(g);
+    // That it is a shape bounds how many bytes there are.
+    let _ = prev.shape().base();
+    let front = strided_front(bytes, prev.front(), ahead);
+    stride_pages(bytes, prev.pages(), ahead);
+    bytes[0..FRONT].copy_from_slice(&front);
+}
+
+// The first bytes of a state, strided by those of another one.
+fn strided_front(bytes: &[u8], prev: &[u8], ahead: u32) -> [u8; FRONT]
+    requires least { 136 ≤ length bytes.now }
+    requires size { length prev.now ≡ 136 }
+    ensures { (i : ℕ) → i < 136 → slice_index result i ≡ strided_byte ahead (take 136 bytes.now) prev.now i }
+{
+    let mut front = *front_of(bytes);
+    stride(&mut front, prev, ahead);
+    front
 }

@@ -3,7 +3,7 @@ ghost use Rattle.asc_model.specs.Shape.{length_of, holds};
 ghost use Rattle.asc_shape.specs.Face.{room_of};
 ghost use Rattle.asc_shape.specs.State.{memory_at, with_memory};
 
-use crate::{Bytes, Pair, Shape, ShapeFault, Snapshot, State, Version, Words};
+use crate::{Bytes, Guess, Shape, ShapeFault, Snapshot, State, Version, Words};
 use std::alloc::Global;
 use std::sync::Arc;
 use std::thread;
@@ -132,6 +132,7 @@ struct Run {
     state: State,
     plain: Vec<u8>,
     copy: State,
+    guessed: Vec<u8>,
     prev: Kept,
     last: Kept,
     number: u32,
@@ -142,6 +143,7 @@ fn run_of(alloc: Global, shape: Shape, number: u32) -> Option<Run> {
     Some(Run {
         plain: vec![in alloc; 0; state.len()].ok()?,
         copy: State::new(alloc, shape).ok()?,
+        guessed: vec![in alloc; 0; state.len()].ok()?,
         prev: kept_of(alloc, &mut state)?,
         last: kept_of(alloc, &mut state)?,
         state,
@@ -165,29 +167,30 @@ impl Run {
         self.number >> 8
     }
 
-    // Some puts, and then a freeze, a restore or a stride.
+    // Some puts, or none, and then a freeze, a fill, or a guess that is filled in.
     fn step(&mut self, alloc: Global) {
         for _ in 0..self.next() % 8 {
             self.put();
         }
         match self.next() % 6 {
             0 => self.restore(),
-            1 => self.stride(alloc),
+            1 => self.stride(),
             2 => self.fill(),
             _ => self.freeze(alloc),
         }
     }
 
-    // A word or a byte in the first or the last page, across two pages or two spans, or anywhere.
+    // A word or a byte in the front, in the first or the last page, across two pages or two groups, or anywhere.
     fn put(&mut self) {
         let shape = self.state.shape();
         let _ = shape.base();
         let len = shape.start() + shape.size();
-        let place = match self.next() % 5 {
+        let place = match self.next() % 6 {
             0 => self.next() % 4096,
-            1 => len.saturating_sub(4 + self.next() % 64),
-            2 => (4096 * (self.next() % 64)).saturating_sub(self.next() % 4),
-            3 => 4_194_304 - self.next() % 4,
+            1 => self.next() % 144,
+            2 => len.saturating_sub(4 + self.next() % 64),
+            3 => (1024 * (self.next() % 256)).saturating_sub(self.next() % 4),
+            4 => 32_768 - self.next() % 4,
             _ => self.next().saturating_mul(4) % len.max(1),
         };
         let word = self.next().wrapping_mul(257);
@@ -215,39 +218,84 @@ impl Run {
     }
 
     fn restore(&mut self) {
-        restore(&mut self.state, &self.prev.snapshot);
-        copy_plain(&mut self.plain, &self.prev.plain);
+        if let Some(guess) = last_of(&self.prev.snapshot) {
+            fill(&mut self.state, &guess);
+            copy_plain(&mut self.plain, &self.prev.plain);
+        }
     }
 
-    fn stride(&mut self, alloc: Global) {
+    fn stride(&mut self) {
         let ahead = self.next();
-        if let Some(pair) = pair_of(alloc, &self.prev.snapshot, &self.last.snapshot) {
-            stride(&mut self.state, &pair, ahead);
+        if let Some(guess) = stride_of(&self.prev.snapshot, &self.last.snapshot, ahead) {
+            fill(&mut self.state, &guess);
             stride_plain(&mut self.plain, &self.prev.plain, &self.last.plain, ahead);
         }
     }
 
-    // The state and both snapshots are as their plain lists.
+    // The state, both snapshots and a guess of both are as their plain lists.
     fn is_as_plain(&mut self) -> bool {
         if !is_as(&self.state, &self.plain) {
             return false;
         }
-        restore(&mut self.copy, &self.prev.snapshot);
-        if !is_as(&self.copy, &self.prev.plain) {
-            return false;
+        for kept in [&self.prev, &self.last] {
+            match last_of(&kept.snapshot) {
+                Some(guess) if tells(&guess, &kept.plain) => fill(&mut self.copy, &guess),
+                _ => return false,
+            }
+            if !is_as(&self.copy, &kept.plain) || self.copy.pc() != kept.snapshot.pc() {
+                return false;
+            }
         }
-        restore(&mut self.copy, &self.last.snapshot);
-        is_as(&self.copy, &self.last.plain) && self.copy.pc() == self.last.snapshot.pc()
+        let Some(guess) = stride_of(&self.prev.snapshot, &self.last.snapshot, 3) else {
+            return false;
+        };
+        stride_plain(&mut self.guessed, &self.prev.plain, &self.last.plain, 3);
+        tells(&guess, &self.guessed)
     }
 }
 
-fn pair_of(alloc: Global, prev: &Arc<Snapshot>, last: &Arc<Snapshot>) -> Option<Pair> {
+fn last_of(snapshot: &Arc<Snapshot>) -> Option<Guess> {
+    Some(Guess::last(Arc::try_clone(snapshot).ok()?))
+}
+
+fn stride_of(prev: &Arc<Snapshot>, last: &Arc<Snapshot>, ahead: u32) -> Option<Guess> {
     let prev = Arc::try_clone(prev).ok()?;
     let last = Arc::try_clone(last).ok()?;
     if prev.shape() != last.shape() {
         return None;
     }
-    Pair::of(alloc, prev, last).ok()
+    Some(Guess::stride(prev, last, ahead))
+}
+
+fn fill(state: &mut State, guess: &Guess) {
+    if state.shape() == guess.shape() {
+        guess.fill(state);
+    }
+}
+
+// The words from these places on are asked of a guess, and the last one.
+static PLACES: [u32; 12] = [
+    0, 4, 5, 124, 132, 133, 136, 1020, 1022, 1024, 32_765, 65_536,
+];
+
+fn tells(guess: &Guess, plain: &[u8]) -> bool {
+    let shape = guess.shape();
+    let _ = shape.base();
+    let last = shape.start() + shape.size() - 4;
+    PLACES.iter().all(|place| tells_word(guess, plain, *place)) && tells_word(guess, plain, last)
+}
+
+fn tells_word(guess: &Guess, plain: &[u8], place: u32) -> bool {
+    let shape = guess.shape();
+    let _ = shape.base();
+    if place > shape.start() + shape.size() - 4 {
+        return true;
+    }
+    let at = place as usize;
+    let Some(bytes) = plain.get(at..at + 4) else {
+        return false;
+    };
+    guess.word(place) == word_of(bytes) && bytes.first() == Some(&guess.byte(place))
 }
 
 fn put_byte(state: &mut State, place: u32, byte: u8) {
@@ -273,18 +321,6 @@ fn put_plain(plain: &mut [u8], place: usize, bytes: &[u8]) {
 fn copy_plain(plain: &mut [u8], from: &[u8]) {
     if plain.len() == from.len() {
         plain.copy_from_slice(from);
-    }
-}
-
-fn restore(state: &mut State, from: &Snapshot) {
-    if state.shape() == from.shape() {
-        state.restore(from);
-    }
-}
-
-fn stride(state: &mut State, pair: &Pair, ahead: u32) {
-    if state.shape() == pair.last().shape() {
-        state.stride(pair, ahead);
     }
 }
 
@@ -325,13 +361,16 @@ fn largest_memory(rt: HostRuntime) {
     put_whole(&mut state, 136, 3);
     put_whole(&mut state, 67_108_996, 5);
     let last = state.freeze(rt.alloc()).expect(&rt, "memory");
-    let pair = pair_of(rt.alloc(), &first, &last).expect(&rt, "memory");
-    for (turn, words) in [(first, (0, 0)), (last, (3, 5))] {
-        restore(&mut state, &turn);
+    let guesses = [
+        (last_of(&first), (0, 0)),
+        (last_of(&last), (3, 5)),
+        (stride_of(&first, &last, 2), (9, 15)),
+    ];
+    for (guess, words) in guesses {
+        let guess = guess.expect(&rt, "one shape");
+        fill(&mut state, &guess);
         assert_eq!(rt; ends_of(&state), words);
     }
-    stride(&mut state, &pair, 2);
-    assert_eq!(rt; ends_of(&state), (9, 15));
     state.fill();
     assert_eq!(rt; ends_of(&state), (0, 0));
 }
@@ -396,9 +435,9 @@ fn stride_wraps(rt: HostRuntime) {
     let prev = state.freeze(alloc).expect(&rt, "memory");
     state.set_reg(5, 1);
     let last = state.freeze(alloc).expect(&rt, "memory");
-    let pair = pair_of(alloc, &prev, &last).expect(&rt, "memory");
     for (ahead, want) in [(1, 4), (0xFFFF_FFFF, 0xFFFF_FFFE), (0, 1)] {
-        stride(&mut state, &pair, ahead);
+        let guess = stride_of(&prev, &last, ahead).expect(&rt, "one shape");
+        fill(&mut state, &guess);
         assert_eq!(rt; state.reg(5), want, "{ahead} times");
     }
 }

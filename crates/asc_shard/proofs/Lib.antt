@@ -8,3 +8,7 @@ pub mod Ranges
 pub mod Searching
 pub mod Longest
 pub mod Keeping
+pub mod Lists
+pub mod Runs
+pub mod Words
+pub mod Placing

@@ -9,7 +9,6 @@ use Rattle.asc_model.specs.State.{State}
 use Rattle.asc_model.specs.Entry.{Entry, IsTrueEntry}
 use Rattle.asc_traj.specs.Content.{longest, longer_of, matches}
 use Rattle.asc_traj.proofs.Finding.{IsMost, step-stay, step-up}
-use Rattle.asc_shard.specs.declared.index.Slot.{Slot}
 use Rattle.asc_shard.specs.Content.{IsFound}
 use Rattle.asc_shard.specs.Inside as inside
 use Rattle.asc_shard.specs.Inside.{IsBest, IsIndex, no_entry, sorted_of}
@@ -89,7 +88,7 @@ module _ (s : State) (left : ℕ) where
       let zero_here = ap (λ (b : Bool). cond {A = ℕ} b 1 0) here in
       omega (arith, ih, counted, zero_here)
 
-  none-held : (held : List Entry) (slots : List Slot) (most : ℕ) → IsIndex held slots → inside.IsMost (sorted_of held slots) s left 0 (length slots) most → count_by (is_better most) held ≡ 0
+  none-held : (held : List Entry) (slots : List ℕ) (most : ℕ) → IsIndex held slots → inside.IsMost (sorted_of held slots) s left 0 (length slots) most → count_by (is_better most) held ≡ 0
   none-held held slots most index is =
       sym (count-index (is_better most) held slots index)
       ∙ none-better (sorted_of held slots) most (λ i lt match enough. is i (omega arith) (omega (arith, sorted-length held slots)) match enough)
@@ -97,14 +96,14 @@ module _ (s : State) (left : ℕ) where
   least-steps : (held : List Entry) → All IsTrueEntry held → All (λ e. 1 ≤ e.steps) held
   least-steps held all = All-weaker IsTrueEntry (λ e. 1 ≤ e.steps) (λ e is. is.entry.steps) held all
 
-  pub longest-none : (held : List Entry) (slots : List Slot) (best : Option ℕ) (most : ℕ) → IsIndex held slots → IsBest held s left best most
+  pub longest-none : (held : List Entry) (slots : List ℕ) (best : Option ℕ) (most : ℕ) → IsIndex held slots → IsBest held s left best most
       → inside.IsMost (sorted_of held slots) s left 0 (length slots) most → IfNone best (longest held s left ≡ None)
   longest-none held slots None most index is all =
       let none : most ≡ 0 = is.none refl in
       fold-stay held None most none (least-steps held index.true_all) (none-held held slots most index all)
   longest-none held slots (Some p) most index is all = tt
 
-  pub longest-some : (held : List Entry) (slots : List Slot) (best : Option ℕ) (most : ℕ) → IsIndex held slots → IsBest held s left best most
+  pub longest-some : (held : List Entry) (slots : List ℕ) (best : Option ℕ) (most : ℕ) → IsIndex held slots → IsBest held s left best most
       → inside.IsMost (sorted_of held slots) s left 0 (length slots) most → IfSome best (IsFound held s left)
   longest-some held slots None most index is all = tt
   longest-some held slots (Some p) most index is all =

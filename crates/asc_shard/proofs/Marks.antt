@@ -1,24 +1,30 @@
 -- Fingerprints: those of one mask take the same places, and none hides a match.
-use Rattle.std.proofs.Common.{◌≡◌, ◌<◌, ◌≤◌, ◌+◌, ◌*◌, ◌/◌, ◌%◌, ◌^◌, ◌==◌, ◌||◌, ℕ, zero, suc, Bool, true, false, List, [], ◌∷◌, length, get_or, take, drop, set, map, slice_index, refl, sym, ap, subst, ◌∙◌, inl, inr, arith, add-one, lit<}
-use Rattle.std.proofs.Math.Pow.{pow_mono}
+use Rattle.std.proofs.Common.{◌≡◌, ◌<◌, ◌≤◌, ◌+◌, ◌*◌, ◌/◌, ◌%◌, ◌^◌, ◌==◌, ◌||◌, ◌++◌, ℕ, zero, suc, Bool, true, false, List, [], ◌∷◌, length, get_or, take, map, slice_index, refl, sym, ap, subst, ◌∙◌, inl, inr, arith, add-one, lit<}
 use Rattle.std.proofs.Math.Nat.{pow-suc}
-use Rattle.std.specs.Int.{from_bool}
-use Rattle.std.specs.Prelude.{All, nat_lt, filter, if◌then◌else◌}
+use Rattle.std.specs.Prelude.{All, nat_lt, filter, sum_by, if◌then◌else◌}
 use Rattle.std.specs.List.{list_all}
-use Rattle.std.specs.List.Sorted.{IsStrictlyIncreasing, IsPartitionedBy}
-use Rattle.std.proofs.lemmas.List.{get_or-map, length-map, drop_more, get_or-set_same, get_or-set_other}
-use Rattle.std.proofs.lemmas.List.Elements.{All-head, All-tail, All-filter, All-weaker, filter_passes, All-map}
-use Rattle.std.proofs.lemmas.List.Kept.{AllPairs-from_increasing, IsStrictlyIncreasing-filter}
-use Rattle.std.proofs.lemmas.List.Sums.{AllPass-from_list_all}
-use Rattle.std.proofs.lemmas.Bool.{and_parts, eqb-true, eq-eqb, ne_eqb, cases_Bool, cases_eq, cond-true, cond-false, ltb-true, lt-ltb, or_left}
-use Rattle.asc_model.specs.Shape.{is_same_shape}
+use Rattle.std.specs.List.Sorted.{IsStrictlyIncreasing}
+use Rattle.std.proofs.lemmas.List.{map-append, take_more}
+use Rattle.std.proofs.lemmas.List.Elements.{All-append, All-cons, All-head, All-nil, All-tail, All-filter, All-weaker, filter-append, filter_passes, All-map}
+use Rattle.std.proofs.lemmas.List.Kept.{IsStrictlyIncreasing-filter}
+use Rattle.std.proofs.lemmas.List.Sums.{AllPass-from_list_all, sum_by-append, sum_by-cons}
+use Rattle.std.proofs.lemmas.Bool.{and_parts, eqb-true, eq-eqb, ne_eqb, cases_Bool, cases_eq, cond-true, cond-false, ltb-true, le-ltb, lt-ltb}
+use Rattle.asc_model.specs.declared.version.Version.{Version}
+use Rattle.asc_model.specs.declared.version.Version.TheVariants.{One, Two}
+use Rattle.asc_model.specs.Number.{AreBytes, number_at, word_at}
+use Rattle.asc_model.specs.Shape.{is_same_shape, start_of}
 use Rattle.asc_model.specs.State.{State}
 use Rattle.asc_model.specs.Entry.{Entry, IsTrueEntry}
 use Rattle.asc_model.specs.DependencyVector.{is_among}
-use Rattle.asc_model.proofs.Listings.{rising_is_filter}
+use Rattle.asc_model.proofs.Numbers.{number_at-suc}
+use Rattle.asc_model.proofs.Listings.{RisesFrom, RisesFrom-increasing, not_among-RisesFrom, rising_is_filter}
+use Rattle.asc_traj.specs.declared.part.Part.{Part}
 use Rattle.asc_traj.specs.Content.{matches}
-use Rattle.asc_shard.specs.Marks.{fingerprint, first_reads_of, print_of, print_in, may_match}
-use Rattle.asc_shard.specs.Inside.{bits_of, mark_of, places_of}
+use Rattle.asc_traj.specs.Parts.{IsPart, all_cells, kept, masked, part_cells, word_place}
+use Rattle.asc_traj.proofs.Parts.{cells-push, here, kept-suc, kept-zero, masked-suc, masked-zero, part_cells-is}
+use Rattle.asc_shard.specs.declared.mark.TheConstants.{FACTORS}
+use Rattle.asc_shard.specs.Marks.{fingerprint, first_reads_of, print_of, print_in, may_match, weight}
+use Rattle.asc_shard.specs.Inside.{bits_of, mark_of, mask_of, places_of}
 
 -- ---- bits, one place more
 
@@ -29,22 +35,6 @@ bits-suc has n place = refl
 pub bits-zero : (has : ℕ → Bool) (place : ℕ) → bits_of has 0 place ≡ 0
 unfolding bits_of
 bits-zero has place = refl
-
--- one place before
-pub bits-before : (has : ℕ → Bool) (n next place bits : ℕ) → next ≡ place + 1 → bits ≡ bits_of has n next → 2 * bits + (if has place then 1 else 0) ≡ bits_of has (n + 1) place
-bits-before has n next place bits e is =
-    ap (λ b. 2 * b + (if has place then 1 else 0)) (is ∙ ap (bits_of has n) e)
-    ∙ (let swap : 2 * bits_of has n (place + 1) + (if has place then 1 else 0) ≡ (if has place then 1 else 0) + 2 * bits_of has n (place + 1) = omega arith in swap)
-    ∙ sym (bits-suc has n place) ∙ ap (λ k. bits_of has k place) (sym (add-one n))
-
--- a truth value as a number
-pub bit-is : (b : Bool) (n : ℕ) → n ≡ from_bool b → n ≡ (if b then 1 else 0)
-bit-is true n is = is
-bit-is false n is = is
-
-pub bit-most : (b : Bool) (n : ℕ) → n ≡ from_bool b → n ≤ 1
-bit-most true n is = let e : n ≡ 1 = is in omega arith
-bit-most false n is = let e : n ≡ 0 = is in omega arith
 
 -- they fit
 one-bit : (b : Bool) → (if b then 1 else 0) ≤ 1
@@ -58,12 +48,6 @@ bits-small has (suc n) place =
     let bit = one-bit (has place) in
     let pow : 2 ^ suc n ≡ 2 ^ n * 2 = pow-suc 2 n in
     subst (λ b. b < 2 ^ suc n) (sym (bits-suc has n place)) (omega (arith, ih, bit, pow))
-
-pub bits-room : (has : ℕ → Bool) (n place bits : ℕ) → n < 128 → bits ≡ bits_of has n place → 2 * bits + 1 < 2 ^ 128
-bits-room has n place bits lt is =
-    let small : bits < 2 ^ n = subst (λ b. b < 2 ^ n) (sym is) (bits-small has n place) in
-    let most : 2 ^ n ≤ 2 ^ 127 = pow_mono (let le : n ≤ 127 = omega arith in le) in
-    omega (arith, small, most)
 
 -- alike at each of the places
 pub bits-alike : (has other : ℕ → Bool) (n place : ℕ) → ((p : ℕ) → place ≤ p → p < place + n → has p ≡ other p) → bits_of has n place ≡ bits_of other n place
@@ -131,75 +115,363 @@ same-places a b true_a true_b e =
     ∙ sym (rising_is_filter (λ p. is_among p xs) 128 ys (first-rise b true_b) (low b)
     (λ p lt. sym (bits-tell (λ q. is_among q xs) (λ q. is_among q ys) 128 0 e p (omega arith) (omega arith))))
 
-at-places : (at : ℕ → ℕ) (cells : List (ℕ × ℕ)) → map (λ cell. at cell.0) cells ≡ map at (places_of cells)
-at-places at [] = refl
-at-places at (cell ∷ cells) = ap (λ list. at cell.0 ∷ list) (at-places at cells)
+-- a sum over cells that looks at places alone
+pub sum-places : (at : ℕ → ℕ) (cells : List (ℕ × ℕ)) → sum_by (λ cell. at cell.0 * weight cell.0) cells ≡ sum_by (λ p. at p * weight p) (places_of cells)
+sum-places at [] = refl
+sum-places at (cell ∷ cells) =
+    sum_by-cons (λ (c : ℕ × ℕ). at c.0 * weight c.0) cell cells
+    ∙ ap (λ (n : ℕ). at cell.0 * weight cell.0 + n) (sum-places at cells)
+    ∙ sym (sum_by-cons (λ p. at p * weight p) cell.0 (places_of cells))
 
 -- and of those a state has one fingerprint
 pub same-print : (s : State) (a b : Entry) → IsTrueEntry a → IsTrueEntry b → (mark_of a).mask ≡ (mark_of b).mask → print_in s a ≡ print_in s b
 same-print s a b true_a true_b e =
-    ap fingerprint (at-places (slice_index s.bytes) (first_reads_of a) ∙ ap (map (slice_index s.bytes)) (same-places a b true_a true_b e)
-    ∙ sym (at-places (slice_index s.bytes) (first_reads_of b)))
+    ap (λ (n : ℕ). n % 2 ^ 64) (sum-places (slice_index s.bytes) (first_reads_of a)
+    ∙ ap (sum_by (λ p. slice_index s.bytes p * weight p)) (same-places a b true_a true_b e)
+    ∙ sym (sum-places (slice_index s.bytes) (first_reads_of b)))
 
 -- ---- no match is hidden
 
-same-bytes : (at : ℕ → ℕ) (cells : List (ℕ × ℕ)) → All (λ cell. (at cell.0 == cell.1) ≡ true) cells → map (λ cell. at cell.0) cells ≡ map (λ cell. cell.1) cells
-same-bytes at [] all = refl
-same-bytes at (cell ∷ cells) all =
-    ap (λ byte. byte ∷ map (λ c. at c.0) cells) (eqb-true (at cell.0) cell.1 (All-head (λ c. (at c.0 == c.1) ≡ true) cell cells all))
-    ∙ ap (λ list. cell.1 ∷ list) (same-bytes at cells (All-tail (λ c. (at c.0 == c.1) ≡ true) cell cells all))
+same-sum : (at : ℕ → ℕ) (cells : List (ℕ × ℕ)) → All (λ cell. (at cell.0 == cell.1) ≡ true) cells
+    → sum_by (λ cell. at cell.0 * weight cell.0) cells ≡ sum_by (λ cell. cell.1 * weight cell.0) cells
+same-sum at [] all = refl
+same-sum at (cell ∷ cells) all =
+    sum_by-cons (λ (c : ℕ × ℕ). at c.0 * weight c.0) cell cells
+    ∙ ap (λ (byte : ℕ). byte * weight cell.0 + sum_by (λ (c : ℕ × ℕ). at c.0 * weight c.0) cells) (eqb-true (at cell.0) cell.1 (All-head (λ c. (at c.0 == c.1) ≡ true) cell cells all))
+    ∙ ap (λ (n : ℕ). cell.1 * weight cell.0 + n) (same-sum at cells (All-tail (λ c. (at c.0 == c.1) ≡ true) cell cells all))
+    ∙ sym (sum_by-cons (λ (c : ℕ × ℕ). c.1 * weight c.0) cell cells)
 
 pub none-hidden : (s : State) (e : Entry) → matches s e ≡ true → may_match s e ≡ true
 none-hidden s e h =
     let fits = λ (cell : ℕ × ℕ). slice_index s.bytes cell.0 == cell.1 in
     let all = AllPass-from_list_all fits e.reads (and_parts (is_same_shape s.shape e.shape) (list_all fits e.reads) h).1 in
-    eq-eqb (print_in s e) (print_of e) (ap fingerprint (same-bytes (slice_index s.bytes) (first_reads_of e)
+    eq-eqb (print_in s e) (print_of e) (ap (λ (n : ℕ). n % 2 ^ 64) (same-sum (slice_index s.bytes) (first_reads_of e)
     (All-filter (λ cell. nat_lt cell.0 128) (λ cell. fits cell ≡ true) e.reads all)))
 
--- ---- where the first reads end
+-- ---- the first parts
 
-filter-none : (p : ℕ × ℕ → Bool) (xs : List (ℕ × ℕ)) → ((k : ℕ) (d : ℕ × ℕ) → k < length xs → p (get_or xs k d) ≡ false) → filter p xs ≡ []
-filter-none p [] fails = refl
-filter-none p (x ∷ xs) fails =
-    cond-false (p x) (x ∷ filter p xs) (filter p xs) (fails 0 x (omega arith)) ∙ filter-none p xs (λ k d lt. fails (suc k) d (omega arith))
+rise-none : (low : ℕ) (cells : List (ℕ × ℕ)) → 128 ≤ low → RisesFrom low (places_of cells) → filter (λ cell. nat_lt cell.0 128) cells ≡ []
+rise-none low [] least rise = refl
+rise-none low (cell ∷ cells) least rise =
+    cond-false (nat_lt cell.0 128) (cell ∷ filter (λ c. nat_lt c.0 128) cells) (filter (λ c. nat_lt c.0 128) cells) (le-ltb cell.0 128 (omega (arith, rise.0)))
+    ∙ rise-none (cell.0 + 1) cells (omega (arith, rise.0)) rise.1
 
-pub take-filter : (p : ℕ × ℕ → Bool) (xs : List (ℕ × ℕ)) (i : ℕ) → i ≤ length xs → ((k : ℕ) (d : ℕ × ℕ) → k < i → p (get_or xs k d) ≡ true)
-    → ((k : ℕ) (d : ℕ × ℕ) → i ≤ k → k < length xs → p (get_or xs k d) ≡ false) → take i xs ≡ filter p xs
-take-filter p [] zero most passes fails = refl
-take-filter p [] (suc i) most passes fails = refl
-take-filter p (x ∷ xs) zero most passes fails = sym (filter-none p (x ∷ xs) (λ k d lt. fails k d (omega arith) lt))
-take-filter p (x ∷ xs) (suc i) most passes fails =
-    ap (λ list. x ∷ list) (take-filter p xs i (omega arith) (λ k d lt. passes (suc k) d (omega arith)) (λ k d least lt. fails (suc k) d (omega arith) (omega arith)))
-    ∙ sym (cond-true (p x) (x ∷ filter p xs) (filter p xs) (passes 0 x (omega arith)))
+filter-all : (p : ℕ × ℕ → Bool) (cells : List (ℕ × ℕ)) → All (λ cell. p cell ≡ true) cells → filter p cells ≡ cells
+filter-all p [] all = refl
+filter-all p (cell ∷ cells) all =
+    cond-true (p cell) (cell ∷ filter p cells) (filter p cells) (All-head (λ c. p c ≡ true) cell cells all)
+    ∙ ap (λ list. cell ∷ list) (filter-all p cells (All-tail (λ c. p c ≡ true) cell cells all))
 
-pub first-parted : (e : Entry) → IsTrueEntry e → IsPartitionedBy (λ cell. nat_lt cell.0 128) e.reads
-first-parted e true_e i j d le lt up = elim (cases_eq i j) [
-  | inl same ↦ subst (λ k. nat_lt (get_or e.reads k d).0 128 ≡ true) (sym same) up
-  | inr apart ↦
-      let rise = AllPairs-from_increasing (places_of e.reads) true_e.entry.reads.rise i j 0 (omega (arith, apart)) (subst (λ n. j < n) (sym (length-map e.reads (λ (cell : ℕ × ℕ). cell.0))) lt) in
-      let first = get_or-map (λ (cell : ℕ × ℕ). cell.0) e.reads i d 0 (omega arith) in
-      let second = get_or-map (λ (cell : ℕ × ℕ). cell.0) e.reads j d 0 lt in
-      let most = ltb-true (get_or e.reads j d).0 128 up in
-      lt-ltb (get_or e.reads i d).0 128 (omega (arith, rise, first, second, most))
-]
+-- places of a part are in its word
+masked-between : (P : ℕ × ℕ → Type 0) (n mask place word : ℕ) → ((cell : ℕ × ℕ) → place ≤ cell.0 → cell.0 < place + n → P cell) → All P (masked n mask place word)
+masked-between P zero mask place word each = subst (All P) (sym (masked-zero mask place word)) (All-nil P)
+masked-between P (suc n) mask place word each =
+    subst (All P) (sym (masked-suc n mask place word))
+    (All-append P (here (mask % 2 == 1) (place, word % 256)) (masked n (mask / 2) (place + 1) (word / 256))
+    (front (mask % 2 == 1)) (masked-between P n (mask / 2) (place + 1) (word / 256) (λ cell least most. each cell (omega arith) (omega arith))))
+  where
+    front : (b : Bool) → All P (here b (place, word % 256))
+    front true = All-cons P (place, word % 256) [] (each (place, word % 256) (omega arith) (omega arith)) (All-nil P)
+    front false = All-nil P
 
--- ---- the places of cells, from the last to the first
+part-between : (P : ℕ × ℕ → Type 0) (p : Part) → ((cell : ℕ × ℕ) → word_place p ≤ cell.0 → cell.0 < word_place p + 4 → P cell) → All P (part_cells p)
+part-between P p each = subst (All P) (sym (part_cells-is p)) (masked-between P 4 (p.at % 16) (word_place p) p.word each)
 
-among-more : (p : ℕ) (cells : List (ℕ × ℕ)) (i : ℕ) (d : ℕ × ℕ) → i < length cells
-    → is_among p (places_of (drop i cells)) ≡ (((get_or cells i d).0 == p) || is_among p (places_of (drop (i + 1) cells)))
-among-more p cells i d lt = ap (λ list. is_among p (places_of list)) (drop_more cells i d lt)
+rise-tail : (low : ℕ) (a b : List (ℕ × ℕ)) → RisesFrom low (places_of (a ++ b)) → (next : ℕ) × (low ≤ next) × RisesFrom next (places_of b)
+rise-tail low [] b rise = (low, omega arith, rise)
+rise-tail low (cell ∷ a) b rise =
+    let rest = rise-tail (cell.0 + 1) a b rise.1 in
+    (rest.0, omega (arith, rise.0, rest.1), rest.2)
 
-pub had-more : (has : List Bool) (cells : List (ℕ × ℕ)) (i p : ℕ) (d : ℕ × ℕ) → i < length cells → p < length has
-    → get_or has p false ≡ is_among p (places_of (drop (i + 1) cells))
-    → get_or (set has (get_or cells i d).0 true) p false ≡ is_among p (places_of (drop i cells))
-had-more has cells i p d lt room same =
-    let place = (get_or cells i d).0 in
-    let rest = is_among p (places_of (drop (i + 1) cells)) in
-    elim (cases_eq place p) [
-      | inl e ↦
-          ap (λ n. get_or (set has n true) p false) e ∙ get_or-set_same has p true false room
-          ∙ sym (among-more p cells i d lt ∙ or_left (place == p) rest (eq-eqb place p e))
+-- what is high from the first place on
+rise-high : (low : ℕ) (a b : List (ℕ × ℕ)) → 0 < length a → All (λ cell. 128 ≤ cell.0) a → RisesFrom low (places_of (a ++ b)) → RisesFrom 128 (places_of (a ++ b))
+rise-high low [] b some high rise = absurd (omega arith)
+rise-high low (cell ∷ a) b some high rise = (All-head (λ c. 128 ≤ c.0) cell a high, rise.1)
+
+masked-some : (n mask place word : ℕ) → 0 < mask → mask < 2 ^ n → 0 < length (masked n mask place word)
+masked-some zero mask place word some low = absurd (let few : mask < 1 = low in omega arith)
+masked-some (suc n) mask place word some low =
+    subst (λ (list : List (ℕ × ℕ)). 0 < length list) (sym (masked-suc n mask place word))
+    (elim (cases_eq (mask % 2) 1) [
+      | inl odd ↦ subst (λ (b : Bool). 0 < length (here b (place, word % 256) ++ masked n (mask / 2) (place + 1) (word / 256))) (sym (eq-eqb (mask % 2) 1 odd)) (omega arith)
+      | inr even ↦ subst (λ (b : Bool). 0 < length (here b (place, word % 256) ++ masked n (mask / 2) (place + 1) (word / 256))) (sym (ne_eqb (mask % 2) 1 even))
+          (masked-some n (mask / 2) (place + 1) (word / 256) (omega (arith, even)) (half (2 ^ n) (subst (λ (p : ℕ). mask < p) (pow-suc 2 n) low)))
+    ])
+  where
+    half : (p : ℕ) → mask < p * 2 → mask / 2 < p
+    half p lt = omega arith
+
+part-some : (p : Part) → IsPart p → 0 < length (part_cells p)
+part-some p is = subst (λ (list : List (ℕ × ℕ)). 0 < length list) (sym (part_cells-is p)) (masked-some 4 (p.at % 16) (word_place p) p.word is.some (let lt : p.at % 16 < 16 = omega arith in lt))
+
+-- the parts up to the first one of a high word have the first reads
+pub first-split : (low : ℕ) (parts : List Part) (i : ℕ) (d : Part) → All IsPart parts → RisesFrom low (places_of (all_cells parts)) → i ≤ length parts
+    → ((k : ℕ) → k < i → (get_or parts k d).at < 512) → (i < length parts → 512 ≤ (get_or parts i d).at)
+    → all_cells (take i parts) ≡ filter (λ cell. nat_lt cell.0 128) (all_cells parts)
+first-split low [] zero d are rise most before next = refl
+first-split low [] (suc i) d are rise most before next = absurd (omega arith)
+first-split low (p ∷ parts) zero d are rise most before next =
+    let high = next (omega arith) in
+    let all = part-between (λ cell. 128 ≤ cell.0) p (λ cell least below. omega (arith, high)) in
+    sym (rise-none 128 (all_cells (p ∷ parts)) (omega arith) (rise-high low (part_cells p) (all_cells parts) (part-some p (All-head IsPart p parts are)) all rise))
+first-split low (p ∷ parts) (suc i) d are rise most before next =
+    let here_low = before 0 (omega arith) in
+    let all = part-between (λ cell. nat_lt cell.0 128 ≡ true) p (λ cell least below. lt-ltb cell.0 128 (omega (arith, here_low))) in
+    let rest = rise-tail low (part_cells p) (all_cells parts) rise in
+    ap (λ list. part_cells p ++ list) (first-split rest.0 parts i d (All-tail IsPart p parts are) rest.2 (omega arith) (λ k lt. before (suc k) (omega arith)) (λ lt. next (omega arith)))
+    ∙ ap (λ list. list ++ filter (λ cell. nat_lt cell.0 128) (all_cells parts)) (sym (filter-all (λ cell. nat_lt cell.0 128) (part_cells p) all))
+    ∙ sym (filter-append (λ cell. nat_lt cell.0 128) (part_cells p) (all_cells parts))
+
+pub first-of-entry : (e : Entry) (parts : List Part) (i : ℕ) (d : Part) → IsTrueEntry e → all_cells parts ≡ e.reads → All IsPart parts → i ≤ length parts
+    → ((k : ℕ) → k < i → (get_or parts k d).at < 512) → (i < length parts → 512 ≤ (get_or parts i d).at)
+    → all_cells (take i parts) ≡ first_reads_of e
+first-of-entry e parts i d true_e is are most before next =
+    first-split 0 parts i d are (subst (λ (list : List (ℕ × ℕ)). RisesFrom 0 (places_of list)) (sym is) (RisesFrom-increasing 0 (places_of e.reads) true_e.entry.reads.rise (λ lt. omega arith))) most before next
+    ∙ ap (filter (λ cell. nat_lt cell.0 128)) is
+
+-- ---- what a word counts
+
+weight-at : (index k : ℕ) → k < 4 → weight (index * 4 + k) ≡ slice_index FACTORS index * 256 ^ k
+unfolding weight
+weight-at index k lt =
+    let word : (index * 4 + k) / 4 ≡ index = omega arith in
+    let byte : (index * 4 + k) % 4 ≡ k = omega arith in
+    ap (λ (i : ℕ). slice_index FACTORS i * 256 ^ ((index * 4 + k) % 4)) word ∙ ap (λ (j : ℕ). slice_index FACTORS index * 256 ^ j) byte
+
+weigh-more : (b x p f : ℕ) → b * (f * p) + x * (p * 256 * f) ≡ (b + 256 * x) * (p * f)
+weigh-more b x p f = omega arith
+
+weigh-none : (x p f : ℕ) → 0 + x * (p * 256 * f) ≡ (0 + 256 * x) * (p * f)
+weigh-none x p f = omega arith
+
+-- the bytes of a word weigh together as the word does
+masked-weigh : (n k mask place word index : ℕ) → n + k ≡ 4 → place ≡ index * 4 + k
+    → sum_by (λ cell. cell.1 * weight cell.0) (masked n mask place word) ≡ kept n mask word * (256 ^ k * slice_index FACTORS index)
+masked-weigh zero k mask place word index count there =
+    ap (sum_by (λ (cell : ℕ × ℕ). cell.1 * weight cell.0)) (masked-zero mask place word) ∙ (let none : 0 ≡ 0 * (256 ^ k * slice_index FACTORS index) = omega arith in none)
+    ∙ ap (λ (m : ℕ). m * (256 ^ k * slice_index FACTORS index)) (sym (kept-zero mask word))
+masked-weigh (suc n) k mask place word index count there =
+    let w : ℕ × ℕ → ℕ = λ cell. cell.1 * weight cell.0 in
+    let f = slice_index FACTORS index in
+    let p = 256 ^ k in
+    let x = kept n (mask / 2) (word / 256) in
+    let ih = masked-weigh n (suc k) (mask / 2) (place + 1) (word / 256) index (omega arith) (omega arith) in
+    ap (sum_by w) (masked-suc n mask place word)
+    ∙ sum_by-append w (here (mask % 2 == 1) (place, word % 256)) (masked n (mask / 2) (place + 1) (word / 256))
+    ∙ ap (λ (m : ℕ). sum_by w (here (mask % 2 == 1) (place, word % 256)) + m) (ih ∙ ap (λ (q : ℕ). x * (q * f)) (pow-suc 256 k))
+    ∙ by (mask % 2 == 1) x
+    ∙ ap (λ (m : ℕ). m * (p * f)) (sym (kept-suc n mask word))
+  where
+    by : (b : Bool) (x : ℕ) → sum_by (λ cell. cell.1 * weight cell.0) (here b (place, word % 256)) + x * (256 ^ k * 256 * slice_index FACTORS index) ≡ ((if b then word % 256 else 0) + 256 * x) * (256 ^ k * slice_index FACTORS index)
+    by true x =
+        let one : word % 256 * weight place ≡ word % 256 * (slice_index FACTORS index * 256 ^ k) = ap (λ (q : ℕ). word % 256 * weight q) there ∙ ap (λ (q : ℕ). word % 256 * q) (weight-at index k (omega arith)) in
+        let counted = sum_by-cons (λ (cell : ℕ × ℕ). cell.1 * weight cell.0) (place, word % 256) [] in
+        let none : sum_by {X = ℕ × ℕ} (λ cell. cell.1 * weight cell.0) [] ≡ 0 = refl in
+        ap (λ (m : ℕ). m + x * (256 ^ k * 256 * slice_index FACTORS index)) (counted ∙ (let sum : word % 256 * weight place + 0 ≡ word % 256 * weight place = omega arith in sum) ∙ one)
+        ∙ weigh-more (word % 256) x (256 ^ k) (slice_index FACTORS index)
+    by false x = weigh-none x (256 ^ k) (slice_index FACTORS index)
+
+part-weigh : (p : Part) (word : ℕ) → sum_by (λ cell. cell.1 * weight cell.0) (masked 4 (p.at % 16) (word_place p) word) ≡ kept 4 (p.at % 16) word * slice_index FACTORS (p.at / 16)
+part-weigh p word =
+    masked-weigh 4 0 (p.at % 16) (word_place p) word (p.at / 16) refl (omega arith)
+    ∙ ap (λ (q : ℕ). kept 4 (p.at % 16) word * q) (let one : 1 * slice_index FACTORS (p.at / 16) ≡ slice_index FACTORS (p.at / 16) = omega arith in one)
+
+-- the bytes of a state at the places of a mask are those of its word
+number_low : (b m : ℕ) → b < 256 → (b + 256 * m) % 256 ≡ b
+number_low b m l = omega arith
+
+number_high : (b m : ℕ) → b < 256 → (b + 256 * m) / 256 ≡ m
+number_high b m l = omega arith
+
+pub masked-at : (n mask place word : ℕ) (bytes : List ℕ) → AreBytes bytes
+    → map {B = ℕ × ℕ} (λ cell. (cell.0, slice_index bytes cell.0)) (masked n mask place word) ≡ masked n mask place (number_at n bytes place)
+masked-at zero mask place word bytes fine = ap (map {B = ℕ × ℕ} (λ cell. (cell.0, slice_index bytes cell.0))) (masked-zero mask place word) ∙ sym (masked-zero mask place (number_at 0 bytes place))
+masked-at (suc n) mask place word bytes fine =
+    let now : ℕ × ℕ → ℕ × ℕ = λ cell. (cell.0, slice_index bytes cell.0) in
+    let b = slice_index bytes place in
+    let r = number_at n bytes (place + 1) in
+    ap (map now) (masked-suc n mask place word)
+    ∙ map-append now (here (mask % 2 == 1) (place, word % 256)) (masked n (mask / 2) (place + 1) (word / 256))
+    ∙ ap (λ (list : List (ℕ × ℕ)). map now (here (mask % 2 == 1) (place, word % 256)) ++ list) (masked-at n (mask / 2) (place + 1) (word / 256) bytes fine)
+    ∙ ap (λ (list : List (ℕ × ℕ)). list ++ masked n (mask / 2) (place + 1) r) (front (mask % 2 == 1))
+    ∙ ap (λ (k : ℕ). here (mask % 2 == 1) (place, k) ++ masked n (mask / 2) (place + 1) r) (sym (number_low b r (fine place)))
+    ∙ ap (λ (k : ℕ). here (mask % 2 == 1) (place, (b + 256 * r) % 256) ++ masked n (mask / 2) (place + 1) k) (sym (number_high b r (fine place)))
+    ∙ sym (masked-suc n mask place (b + 256 * r))
+    ∙ ap (masked (suc n) mask place) (sym (number_at-suc n bytes place))
+  where
+    front : (b : Bool) → map {B = ℕ × ℕ} (λ cell. (cell.0, slice_index bytes cell.0)) (here b (place, word % 256)) ≡ here b (place, slice_index bytes place)
+    front true = refl
+    front false = refl
+
+sum-now : (at : ℕ → ℕ) (cells : List (ℕ × ℕ)) → sum_by (λ cell. at cell.0 * weight cell.0) cells ≡ sum_by (λ cell. cell.1 * weight cell.0) (map {B = ℕ × ℕ} (λ cell. (cell.0, at cell.0)) cells)
+sum-now at [] = refl
+sum-now at (cell ∷ cells) =
+    sum_by-cons (λ (c : ℕ × ℕ). at c.0 * weight c.0) cell cells
+    ∙ ap (λ (n : ℕ). at cell.0 * weight cell.0 + n) (sum-now at cells)
+    ∙ sym (sum_by-cons (λ (c : ℕ × ℕ). c.1 * weight c.0) (cell.0, at cell.0) (map {B = ℕ × ℕ} (λ c. (c.0, at c.0)) cells))
+
+mod-more : (a t : ℕ) → (a % 2 ^ 64 + t) % 2 ^ 64 ≡ (a + t) % 2 ^ 64
+mod-more a t = omega arith
+
+-- a fingerprint with one part more
+more-of : (byte : ℕ × ℕ → ℕ) (parts : List Part) (i : ℕ) (d : Part) (t : ℕ) → i < length parts → sum_by (λ cell. byte cell * weight cell.0) (part_cells (get_or parts i d)) ≡ t
+    → (fingerprint byte (all_cells (take i parts)) + t) % 2 ^ 64 ≡ fingerprint byte (all_cells (take (i + 1) parts))
+more-of byte parts i d t lt is =
+    let w : ℕ × ℕ → ℕ = λ cell. byte cell * weight cell.0 in
+    mod-more (sum_by w (all_cells (take i parts))) t
+    ∙ ap (λ (m : ℕ). (sum_by w (all_cells (take i parts)) + m) % 2 ^ 64) (sym is)
+    ∙ ap (λ (m : ℕ). m % 2 ^ 64) (sym (sum_by-append w (all_cells (take i parts)) (part_cells (get_or parts i d))))
+    ∙ ap (fingerprint byte) (sym (ap all_cells (take_more parts i d lt) ∙ cells-push (take i parts) (get_or parts i d)))
+
+pub print-more : (parts : List Part) (i : ℕ) (d : Part) → i < length parts → IsPart (get_or parts i d)
+    → (fingerprint (λ cell. cell.1) (all_cells (take i parts)) + (get_or parts i d).word * slice_index FACTORS ((get_or parts i d).at / 16)) % 2 ^ 64
+    ≡ fingerprint (λ cell. cell.1) (all_cells (take (i + 1) parts))
+print-more parts i d lt is =
+    let p = get_or parts i d in
+    more-of (λ cell. cell.1) parts i d (p.word * slice_index FACTORS (p.at / 16)) lt
+    (ap (sum_by (λ (cell : ℕ × ℕ). cell.1 * weight cell.0)) (part_cells-is p) ∙ part-weigh p p.word ∙ ap (λ (w : ℕ). w * slice_index FACTORS (p.at / 16)) is.kept)
+
+-- what the bytes of a state at the places of a part count
+pub part-sum : (bytes : List ℕ) (p : Part) → AreBytes bytes
+    → sum_by (λ cell. slice_index bytes cell.0 * weight cell.0) (part_cells p) ≡ kept 4 (p.at % 16) (word_at bytes (word_place p)) * slice_index FACTORS (p.at / 16)
+part-sum bytes p fine =
+    let place = word_place p in
+    ap (sum_by (λ (cell : ℕ × ℕ). slice_index bytes cell.0 * weight cell.0)) (part_cells-is p)
+    ∙ sum-now (slice_index bytes) (masked 4 (p.at % 16) place p.word)
+    ∙ ap (sum_by (λ (cell : ℕ × ℕ). cell.1 * weight cell.0)) (masked-at 4 (p.at % 16) place p.word bytes fine)
+    ∙ part-weigh p (word_at bytes place)
+
+pub print-in-more : (bytes : List ℕ) (parts : List Part) (i : ℕ) (d : Part) → i < length parts → AreBytes bytes
+    → (fingerprint (λ cell. slice_index bytes cell.0) (all_cells (take i parts)) + kept 4 ((get_or parts i d).at % 16) (word_at bytes (word_place (get_or parts i d))) * slice_index FACTORS ((get_or parts i d).at / 16)) % 2 ^ 64
+    ≡ fingerprint (λ cell. slice_index bytes cell.0) (all_cells (take (i + 1) parts))
+print-in-more bytes parts i d lt fine =
+    let p = get_or parts i d in
+    let place = word_place p in
+    more-of (λ cell. slice_index bytes cell.0) parts i d (kept 4 (p.at % 16) (word_at bytes place) * slice_index FACTORS (p.at / 16)) lt
+    (part-sum bytes p fine)
+
+-- ---- places within a state
+
+pub start_least : (version : Version) → 128 ≤ start_of version
+start_least One = omega arith
+start_least Two = omega arith
+
+-- ---- the bits of parts
+
+abbrev pub bits_in : List (ℕ × ℕ) → ℕ
+bits_in cells = sum_by (λ cell. 2 ^ cell.0) cells
+
+bits-more : (m p : ℕ) → p * 1 + m * (p * 2) ≡ (1 + 2 * m) * p
+bits-more m p = omega arith
+
+bits-none : (m p : ℕ) → 0 + m * (p * 2) ≡ (0 + 2 * m) * p
+bits-none m p = omega arith
+
+next-power : (place : ℕ) → 2 ^ (place + 1) ≡ 2 ^ place * 2
+next-power place = ap (λ k. 2 ^ k) (add-one place) ∙ pow-suc 2 place
+
+-- those of a mask, from a place on
+masked-bits : (n mask place word : ℕ) → mask < 2 ^ n → bits_in (masked n mask place word) ≡ mask * 2 ^ place
+masked-bits zero mask place word lt =
+    let few : mask < 1 = lt in
+    ap bits_in (masked-zero mask place word) ∙ (let none : 0 ≡ 0 * 2 ^ place = omega arith in none) ∙ ap (λ (m : ℕ). m * 2 ^ place) (let e : 0 ≡ mask = omega (arith, few) in e)
+masked-bits (suc n) mask place word lt =
+    let rest = masked n (mask / 2) (place + 1) (word / 256) in
+    let ih = masked-bits n (mask / 2) (place + 1) (word / 256) (low (2 ^ n) (subst (λ (p : ℕ). mask < p) (pow-suc 2 n) lt)) in
+    ap bits_in (masked-suc n mask place word) ∙ sum_by-append (λ (cell : ℕ × ℕ). 2 ^ cell.0) (here (mask % 2 == 1) (place, word % 256)) rest
+    ∙ ap (λ (m : ℕ). bits_in (here (mask % 2 == 1) (place, word % 256)) + m) (ih ∙ ap (λ (q : ℕ). mask / 2 * q) (next-power place))
+    ∙ (elim (cases_eq (mask % 2) 1) [
+      | inl is ↦
+          ap (λ (b : Bool). bits_in (here b (place, word % 256)) + mask / 2 * (2 ^ place * 2)) (eq-eqb (mask % 2) 1 is)
+          ∙ ap (λ (m : ℕ). m + mask / 2 * (2 ^ place * 2)) (sum_by-cons (λ (cell : ℕ × ℕ). 2 ^ cell.0) (place, word % 256) [] ∙ (let e : 2 ^ place + 0 ≡ 2 ^ place * 1 = omega arith in e))
+          ∙ bits-more (mask / 2) (2 ^ place) ∙ ap (λ (m : ℕ). m * 2 ^ place) (let e : 1 + 2 * (mask / 2) ≡ mask = omega (arith, is) in e)
+      | inr even ↦
+          ap (λ (b : Bool). bits_in (here b (place, word % 256)) + mask / 2 * (2 ^ place * 2)) (ne_eqb (mask % 2) 1 even)
+          ∙ bits-none (mask / 2) (2 ^ place) ∙ ap (λ (m : ℕ). m * 2 ^ place) (let e : 0 + 2 * (mask / 2) ≡ mask = omega (arith, even) in e)
+    ])
+  where
+    low : (p : ℕ) → mask < p * 2 → mask / 2 < p
+    low p lt = omega arith
+
+pub part-bits : (p : Part) → bits_in (part_cells p) ≡ p.at % 16 * 2 ^ word_place p
+part-bits p = ap bits_in (part_cells-is p) ∙ masked-bits 4 (p.at % 16) (word_place p) p.word (let lt : p.at % 16 < 16 = omega arith in lt)
+
+-- the sum of the bits of rising places has just these
+shifted : (p b : ℕ) → p * 2 * b ≡ p * (0 + 2 * b)
+shifted p b = omega arith
+
+shifted-one : (p b : ℕ) → p + p * 2 * b ≡ p * (1 + 2 * b)
+shifted-one p b = omega arith
+
+rising-bits : (n low : ℕ) (places : List ℕ) → RisesFrom low places → All (λ p. p < low + n) places → sum_by (λ p. 2 ^ p) places ≡ 2 ^ low * bits_of (λ p. is_among p places) n low
+rising-bits zero low [] rise below = (let e : 0 ≡ 2 ^ low * 0 = omega arith in e) ∙ ap (λ (b : ℕ). 2 ^ low * b) (sym (bits-zero (λ p. is_among p []) low))
+rising-bits zero low (p ∷ places) rise below = absurd (let lt = All-head (λ q. q < low + 0) p places below in omega (arith, rise.0, lt))
+rising-bits (suc n) low [] rise below =
+    let f : ℕ → Bool = λ p. is_among p [] in
+    rising-bits n (low + 1) [] tt (λ k d lt. absurd (omega arith)) ∙ ap (λ (q : ℕ). q * bits_of f n (low + 1)) (next-power low)
+    ∙ shifted (2 ^ low) (bits_of f n (low + 1)) ∙ ap (λ (b : ℕ). 2 ^ low * b) (sym (bits-suc f n low))
+rising-bits (suc n) low (p ∷ places) rise below =
+    let f : ℕ → Bool = λ q. is_among q (p ∷ places) in
+    let under = λ (k d : ℕ) (lt : k < length (p ∷ places)). let most = below k d lt in (let e : get_or (p ∷ places) k d < low + 1 + n = omega (arith, most) in e) in
+    elim (cases_eq p low) [
+      | inl first ↦
+          let rest = rising-bits n (low + 1) places (subst (λ (q : ℕ). RisesFrom (q + 1) places) first rise.1) (All-tail (λ q. q < low + 1 + n) p places under) in
+          sum_by-cons (λ q. 2 ^ q) p places ∙ ap (λ (q : ℕ). 2 ^ q + sum_by (λ q. 2 ^ q) places) first
+          ∙ ap (λ (m : ℕ). 2 ^ low + m) (rest ∙ ap (λ (q : ℕ). q * bits_of (λ q. is_among q places) n (low + 1)) (next-power low)
+          ∙ ap (λ (b : ℕ). 2 ^ low * 2 * b) (bits-alike (λ q. is_among q places) f n (low + 1)
+          (λ q least most. ap (λ (b : Bool). b || is_among q places) (sym (ne_eqb p q (λ e. omega (arith, e, first, least)))))))
+          ∙ shifted-one (2 ^ low) (bits_of f n (low + 1))
+          ∙ ap (λ (b : Bool). 2 ^ low * ((if b then 1 else 0) + 2 * bits_of f n (low + 1))) (sym (ap (λ (b : Bool). b || is_among low places) (eq-eqb p low first)))
+          ∙ ap (λ (b : ℕ). 2 ^ low * b) (sym (bits-suc f n low))
       | inr apart ↦
-          get_or-set_other has place p true false (λ e. apart (sym e)) ∙ same
-          ∙ sym (among-more p cells i d lt ∙ ap (λ b. b || rest) (ne_eqb place p apart))
+          let later : RisesFrom (low + 1) (p ∷ places) = (omega (arith, rise.0, apart), rise.1) in
+          rising-bits n (low + 1) (p ∷ places) later under ∙ ap (λ (q : ℕ). q * bits_of f n (low + 1)) (next-power low)
+          ∙ shifted (2 ^ low) (bits_of f n (low + 1))
+          ∙ ap (λ (b : Bool). 2 ^ low * ((if b then 1 else 0) + 2 * bits_of f n (low + 1))) (sym (not_among-RisesFrom (low + 1) low (p ∷ places) later (omega arith)))
+          ∙ ap (λ (b : ℕ). 2 ^ low * b) (sym (bits-suc f n low))
     ]
+
+bits-places : (cells : List (ℕ × ℕ)) → bits_in cells ≡ sum_by (λ p. 2 ^ p) (places_of cells)
+bits-places [] = refl
+bits-places (cell ∷ cells) =
+    sum_by-cons (λ (c : ℕ × ℕ). 2 ^ c.0) cell cells ∙ ap (λ (m : ℕ). 2 ^ cell.0 + m) (bits-places cells) ∙ sym (sum_by-cons (λ p. 2 ^ p) cell.0 (places_of cells))
+
+-- parts are below the 128 first places
+parts-low : (parts : List Part) → All (λ p. p.at < 512) parts → All (λ cell. cell.0 < 128) (all_cells parts)
+parts-low [] low = All-nil (λ cell. cell.0 < 128)
+parts-low (p ∷ parts) low =
+    let first = All-head (λ q. q.at < 512) p parts low in
+    All-append (λ cell. cell.0 < 128) (part_cells p) (all_cells parts) (part-between (λ cell. cell.0 < 128) p (λ cell least below. omega (arith, first, below)))
+    (parts-low parts (All-tail (λ q. q.at < 512) p parts low))
+
+pub mask-is : (parts : List Part) → All (λ p. p.at < 512) parts → IsStrictlyIncreasing (places_of (all_cells parts)) → bits_in (all_cells parts) ≡ mask_of (places_of (all_cells parts))
+mask-is parts low rise =
+    let places = places_of (all_cells parts) in
+    bits-places (all_cells parts)
+    ∙ rising-bits 128 0 places (RisesFrom-increasing 0 places rise (λ lt. omega arith)) (All-map (λ p. p < 128) (λ (cell : ℕ × ℕ). cell.0) (all_cells parts) (parts-low parts low))
+    ∙ (let e : 1 * mask_of places ≡ mask_of places = omega arith in e)
+
+pub mask-small : (places : List ℕ) → mask_of places < 2 ^ 128
+mask-small places = bits-small (λ p. is_among p places) 128 0
+
+-- one part more
+pub bits-one : (parts : List Part) (i : ℕ) (d : Part) → i < length parts → bits_in (all_cells (take i parts)) + (get_or parts i d).at % 16 * 2 ^ word_place (get_or parts i d) ≡ bits_in (all_cells (take (i + 1) parts))
+bits-one parts i d lt =
+    let p = get_or parts i d in
+    ap (λ (m : ℕ). bits_in (all_cells (take i parts)) + m) (sym (part-bits p))
+    ∙ sym (sum_by-append (λ (cell : ℕ × ℕ). 2 ^ cell.0) (all_cells (take i parts)) (part_cells p))
+    ∙ ap bits_in (sym (ap all_cells (take_more parts i d lt) ∙ cells-push (take i parts) p))
+
+-- and no more than all
+bits-grow : (parts : List Part) (i : ℕ) → bits_in (all_cells (take i parts)) ≤ bits_in (all_cells parts)
+bits-grow parts zero = omega arith
+bits-grow [] (suc i) = omega arith
+bits-grow (p ∷ parts) (suc i) =
+    let more = bits-grow parts i in
+    let first = sum_by-append (λ (cell : ℕ × ℕ). 2 ^ cell.0) (part_cells p) (all_cells (take i parts)) in
+    let all = sum_by-append (λ (cell : ℕ × ℕ). 2 ^ cell.0) (part_cells p) (all_cells parts) in
+    omega (arith, more, first, all)
+
+pub bits-room : (parts : List Part) (i : ℕ) (d : Part) → i < length parts → All (λ p. p.at < 512) parts → IsStrictlyIncreasing (places_of (all_cells parts))
+    → bits_in (all_cells (take i parts)) + (get_or parts i d).at % 16 * 2 ^ word_place (get_or parts i d) < 2 ^ 128
+bits-room parts i d lt low rise = omega (arith, bits-one parts i d lt, bits-grow parts (i + 1), mask-is parts low rise, mask-small (places_of (all_cells parts)))

@@ -1,17 +1,24 @@
 -- Which of two entries is first.
-use Rattle.std.proofs.Common.{◌≡◌, ℕ, ◌+◌, ◌<◌, ◌≤◌, true, false, cond, ◌==◌, nat_lt, List, [], ◌∷◌, length, drop, map, refl, sym, ap, subst, ◌∙◌, inl, inr, ◌⊎◌, arith}
+use Rattle.std.proofs.Common.{◌≡◌, ℕ, zero, suc, ◌+◌, ◌*◌, ◌/◌, ◌%◌, ◌<◌, ◌≤◌, Bool, true, false, cond, ◌==◌, nat_lt, List, [], ◌∷◌, ◌++◌, length, drop, get_or, slice_index, map, refl, sym, ap, subst, ◌∙◌, inl, inr, ◌⊎◌, arith}
 use Rattle.std.specs.Ordering.{MatchOrdering, nat_cmp, ordering_then, on, is_lt, is_le, is_eq, ordering_reverse}
 use Rattle.std.specs.Cmp.{IsTotalOrder}
 use Rattle.std.specs.Cmp.Lexicographic.{slice_cmp}
 use Rattle.std.specs.declared.cmp.Ordering.{Ordering}
 use Rattle.std.specs.declared.cmp.Ordering.TheVariants.{Less, Equal, Greater}
 use Rattle.std.proofs.lemmas.Cmp.{ranked, tied_itself, alike_right, on_total, then_total, nat_cmp_total, nat_list_cmp_total}
-use Rattle.std.proofs.lemmas.Bool.{cases_Bool, false≢true, cond-true, cond-false, lt-ltb, le-ltb, ne_eqb}
-use Rattle.std.proofs.lemmas.List.{length-drop}
+use Rattle.std.proofs.lemmas.Bool.{and_parts, eqb-true, cases_Bool, false≢true, cond-true, cond-false, lt-ltb, le-ltb, ne_eqb}
+use Rattle.std.proofs.lemmas.List.{drop_more, length-drop, map-append}
+use Rattle.std.specs.List.{list_all}
+use Rattle.std.specs.Prelude.{All}
+use Rattle.std.proofs.lemmas.List.Elements.{All-append, All-cons, All-drop, All-head, All-nil, All-tail}
 use Rattle.asc_model.specs.Shape.{Shape}
+use Rattle.asc_model.specs.State.{State}
+use Rattle.asc_traj.specs.declared.part.Part.{Part}
+use Rattle.asc_traj.specs.Parts.{all_cells, cells_from, first_from, masked, part_cells, word_place}
+use Rattle.asc_traj.proofs.Parts.{cells-all, cells-is, here, masked-suc, masked-zero, part, part_cells-is}
 use Rattle.asc_model.specs.Entry.{Entry}
 use Rattle.asc_shard.specs.declared.mark.Mark.{Mark}
-use Rattle.asc_shard.specs.Inside.{mark_of, places_of, bytes_of, rank_of, by_mark, by_shape, by_group, by_head, by_all}
+use Rattle.asc_shard.specs.Inside.{mark_of, places_of, bytes_at, bytes_of, rank_of, by_mark, by_shape, by_group, by_head, by_all}
 
 -- ---- numbers
 
@@ -190,3 +197,121 @@ pub not-le : (o : Ordering) → is_le o ≡ false → o ≡ Greater
 not-le Less e = cc
 not-le Equal e = cc
 not-le Greater e = refl
+
+-- ---- lists of words
+
+-- what both begin with
+pub cmp-front : (xs ys zs : List ℕ) → slice_cmp nat_cmp (xs ++ ys) (xs ++ zs) ≡ slice_cmp nat_cmp ys zs
+cmp-front [] ys zs = refl
+cmp-front (x ∷ xs) ys zs = then-rest (nat_cmp x x) (slice_cmp nat_cmp (xs ++ ys) (xs ++ zs)) (nat-same x x refl) ∙ cmp-front xs ys zs
+
+then-apart : (o r : Ordering) → (o ≡ Equal → ⊥) → ordering_then o r ≡ o
+then-apart Less r apart = refl
+then-apart Equal r apart = absurd (apart refl)
+then-apart Greater r apart = refl
+
+-- where they differ first
+pub cmp-differ : (x y : ℕ) (xs ys : List ℕ) → (x ≡ y → ⊥) → slice_cmp nat_cmp (x ∷ xs) (y ∷ ys) ≡ nat_cmp x y
+cmp-differ x y xs ys apart = then-apart (nat_cmp x y) (slice_cmp nat_cmp xs ys) (λ equal. apart (nat-equal x y equal))
+
+pub cmp-same : (x y : ℕ) (xs ys : List ℕ) → x ≡ y → slice_cmp nat_cmp (x ∷ xs) (y ∷ ys) ≡ slice_cmp nat_cmp xs ys
+cmp-same x y xs ys same = then-rest (nat_cmp x y) (slice_cmp nat_cmp xs ys) (nat-same x y same)
+
+-- the places of a part are those of another of the same bytes of a word
+masked-places : (n mask place word other : ℕ) → places_of (masked n mask place word) ≡ places_of (masked n mask place other)
+masked-places zero mask place word other = ap places_of (masked-zero mask place word ∙ sym (masked-zero mask place other))
+masked-places (suc n) mask place word other =
+    let rest = masked n (mask / 2) (place + 1) (word / 256) in
+    ap places_of (masked-suc n mask place word)
+    ∙ map-append (λ (cell : ℕ × ℕ). cell.0) (here (mask % 2 == 1) (place, word % 256)) rest
+    ∙ ap (λ (list : List ℕ). places_of (here (mask % 2 == 1) (place, word % 256)) ++ list) (masked-places n (mask / 2) (place + 1) (word / 256) (other / 256))
+    ∙ ap (λ (list : List ℕ). list ++ places_of (masked n (mask / 2) (place + 1) (other / 256))) (front (mask % 2 == 1))
+    ∙ sym (map-append (λ (cell : ℕ × ℕ). cell.0) (here (mask % 2 == 1) (place, other % 256)) (masked n (mask / 2) (place + 1) (other / 256)))
+    ∙ ap places_of (sym (masked-suc n mask place other))
+  where
+    front : (b : Bool) → places_of (here b (place, word % 256)) ≡ places_of (here b (place, other % 256))
+    front true = refl
+    front false = refl
+
+part-places : (p q : Part) → p.at ≡ q.at → places_of (part_cells p) ≡ places_of (part_cells q)
+part-places p q same =
+    ap places_of (part_cells-is p) ∙ ap (λ (at : ℕ). places_of (masked 4 (at % 16) (at / 16 * 4) p.word)) same
+    ∙ masked-places 4 (q.at % 16) (word_place q) p.word q.word ∙ ap places_of (sym (part_cells-is q))
+
+-- one word on, as cells of parts
+split-word : (parts : List Part) (i : ℕ) (d : Part) → i < length parts → all_cells (drop i parts) ≡ part_cells (get_or parts i d) ++ all_cells (drop (i + 1) parts)
+split-word parts i d lt = ap all_cells (drop_more parts i d lt)
+
+pub places-on : (a b : List Part) (i : ℕ) (d : Part) → i < length a → i < length b → (get_or a i d).at ≡ (get_or b i d).at
+    → slice_cmp nat_cmp (places_of (all_cells (drop i a))) (places_of (all_cells (drop i b))) ≡ slice_cmp nat_cmp (places_of (all_cells (drop (i + 1) a))) (places_of (all_cells (drop (i + 1) b)))
+places-on a b i d first second same =
+    let p = get_or a i d in
+    let q = get_or b i d in
+    ap (λ (list : List ℕ). slice_cmp nat_cmp list (places_of (all_cells (drop i b))))
+    (ap places_of (split-word a i d first) ∙ map-append (λ (cell : ℕ × ℕ). cell.0) (part_cells p) (all_cells (drop (i + 1) a))
+    ∙ ap (λ (list : List ℕ). list ++ places_of (all_cells (drop (i + 1) a))) (part-places p q same))
+    ∙ ap (slice_cmp nat_cmp (places_of (part_cells q) ++ places_of (all_cells (drop (i + 1) a))))
+    (ap places_of (split-word b i d second) ∙ map-append (λ (cell : ℕ × ℕ). cell.0) (part_cells q) (all_cells (drop (i + 1) b)))
+    ∙ cmp-front (places_of (part_cells q)) (places_of (all_cells (drop (i + 1) a))) (places_of (all_cells (drop (i + 1) b)))
+
+pub bytes-on : (a b : List Part) (i : ℕ) (d : Part) → i < length a → i < length b → (get_or a i d).at ≡ (get_or b i d).at → (get_or a i d).word ≡ (get_or b i d).word
+    → slice_cmp nat_cmp (bytes_of (all_cells (drop i a))) (bytes_of (all_cells (drop i b))) ≡ slice_cmp nat_cmp (bytes_of (all_cells (drop (i + 1) a))) (bytes_of (all_cells (drop (i + 1) b)))
+bytes-on a b i d first second at word =
+    let p = get_or a i d in
+    let q = get_or b i d in
+    let same : p ≡ q = ap (λ (n : ℕ). part n p.word) at ∙ ap (part q.at) word in
+    ap (λ (list : List ℕ). slice_cmp nat_cmp list (bytes_of (all_cells (drop i b))))
+    (ap bytes_of (split-word a i d first) ∙ map-append (λ (cell : ℕ × ℕ). cell.1) (part_cells p) (all_cells (drop (i + 1) a))
+    ∙ ap (λ (r : Part). bytes_of (part_cells r) ++ bytes_of (all_cells (drop (i + 1) a))) same)
+    ∙ ap (slice_cmp nat_cmp (bytes_of (part_cells q) ++ bytes_of (all_cells (drop (i + 1) a))))
+    (ap bytes_of (split-word b i d second) ∙ map-append (λ (cell : ℕ × ℕ). cell.1) (part_cells q) (all_cells (drop (i + 1) b)))
+    ∙ cmp-front (bytes_of (part_cells q)) (bytes_of (all_cells (drop (i + 1) a))) (bytes_of (all_cells (drop (i + 1) b)))
+
+all-bytes : (s : State) (xs : List (ℕ × ℕ)) → list_all (λ cell. slice_index s.bytes cell.0 == cell.1) xs ≡ true → bytes_of xs ≡ bytes_at s xs
+all-bytes s [] all = refl
+all-bytes s (x ∷ xs) all =
+    let parts = and_parts (slice_index s.bytes x.0 == x.1) (list_all (λ cell. slice_index s.bytes cell.0 == cell.1) xs) all in
+    ap (λ (byte : ℕ). byte ∷ bytes_of xs) (sym (eqb-true (slice_index s.bytes x.0) x.1 parts.0)) ∙ ap (λ (list : List ℕ). slice_index s.bytes x.0 ∷ list) (all-bytes s xs parts.1)
+
+pub state-on : (s : State) (a : List Part) (i : ℕ) (d : Part) → i < length a → list_all (λ cell. slice_index s.bytes cell.0 == cell.1) (part_cells (get_or a i d)) ≡ true
+    → slice_cmp nat_cmp (bytes_of (all_cells (drop i a))) (bytes_at s (all_cells (drop i a))) ≡ slice_cmp nat_cmp (bytes_of (all_cells (drop (i + 1) a))) (bytes_at s (all_cells (drop (i + 1) a)))
+state-on s a i d lt all =
+    let p = get_or a i d in
+    let rest = all_cells (drop (i + 1) a) in
+    ap (λ (list : List (ℕ × ℕ)). slice_cmp nat_cmp (bytes_of list) (bytes_at s list)) (split-word a i d lt)
+    ∙ ap (λ (list : List ℕ). slice_cmp nat_cmp list (bytes_at s (part_cells p ++ rest))) (map-append (λ (cell : ℕ × ℕ). cell.1) (part_cells p) rest)
+    ∙ ap (slice_cmp nat_cmp (bytes_of (part_cells p) ++ bytes_of rest)) (map-append (λ (cell : ℕ × ℕ). slice_index s.bytes cell.0) (part_cells p) rest)
+    ∙ ap (λ (list : List ℕ). slice_cmp nat_cmp (list ++ bytes_of rest) (bytes_at s (part_cells p) ++ bytes_at s rest)) (all-bytes s (part_cells p) all)
+    ∙ cmp-front (bytes_at s (part_cells p)) (bytes_of rest) (bytes_at s rest)
+
+-- from a whole word on
+pub cells-whole : (parts : List Part) (i : ℕ) → cells_from parts (4 * i) ≡ all_cells (drop i parts)
+cells-whole parts i =
+    let none : 4 * i % 4 ≡ 0 = omega arith in
+    let word : 4 * i / 4 ≡ i = omega arith in
+    cells-is parts (4 * i)
+    ∙ ap (λ (k : ℕ). first_from k (drop (4 * i / 4) parts)) none
+    ∙ ap (λ (k : ℕ). first_from 0 (drop k parts)) word
+    ∙ sym (cells-is (drop i parts) 0)
+    ∙ cells-all (drop i parts)
+
+masked-below : (n mask place word m : ℕ) → place + n ≤ m → All (λ cell. cell.0 < m) (masked n mask place word)
+masked-below zero mask place word m within = subst (All (λ cell. cell.0 < m)) (sym (masked-zero mask place word)) (All-nil (λ (cell : ℕ × ℕ). cell.0 < m))
+masked-below (suc n) mask place word m within =
+    subst (All (λ cell. cell.0 < m)) (sym (masked-suc n mask place word))
+    (All-append (λ (cell : ℕ × ℕ). cell.0 < m) (here (mask % 2 == 1) (place, word % 256)) (masked n (mask / 2) (place + 1) (word / 256))
+    (front (mask % 2 == 1)) (masked-below n (mask / 2) (place + 1) (word / 256) m (omega arith)))
+  where
+    front : (b : Bool) → All (λ cell. cell.0 < m) (here b (place, word % 256))
+    front true = All-cons (λ (cell : ℕ × ℕ). cell.0 < m) (place, word % 256) [] (omega arith) (All-nil (λ (cell : ℕ × ℕ). cell.0 < m))
+    front false = All-nil (λ (cell : ℕ × ℕ). cell.0 < m)
+
+cells-below : (m : ℕ) (parts : List Part) → All (λ p. word_place p + 4 ≤ m) parts → All (λ cell. cell.0 < m) (all_cells parts)
+cells-below m [] within = All-nil (λ (cell : ℕ × ℕ). cell.0 < m)
+cells-below m (p ∷ parts) within =
+    All-append (λ (cell : ℕ × ℕ). cell.0 < m) (part_cells p) (all_cells parts)
+    (subst (All (λ cell. cell.0 < m)) (sym (part_cells-is p)) (masked-below 4 (p.at % 16) (word_place p) p.word m (All-head (λ p. word_place p + 4 ≤ m) p parts within)))
+    (cells-below m parts (All-tail (λ p. word_place p + 4 ≤ m) p parts within))
+
+pub rest-below : (m : ℕ) (parts : List Part) (i : ℕ) → All (λ p. word_place p + 4 ≤ m) parts → All (λ cell. cell.0 < m) (cells_from parts (4 * i))
+rest-below m parts i within = subst (All (λ cell. cell.0 < m)) (sym (cells-whole parts i)) (cells-below m (drop i parts) (All-drop (λ p. word_place p + 4 ≤ m) i parts within))

@@ -17,7 +17,6 @@ use Rattle.asc_model.specs.Shape.{Shape, is_same_shape, is_same_version}
 use Rattle.asc_model.specs.State.{State}
 use Rattle.asc_model.specs.Entry.{Entry}
 use Rattle.asc_traj.specs.Content.{matches}
-use Rattle.asc_shard.specs.declared.index.Slot.{Slot}
 use Rattle.asc_shard.specs.declared.find.Best.{Best}
 use Rattle.asc_shard.specs.Groups.{AreAsked, Asked, IsAsked, IsFew, is_of_group}
 use Rattle.asc_shard.specs.Marks.{may_match}
@@ -115,7 +114,7 @@ test-group a b h =
 
 -- ---- counts
 
-count-map : (f : Entry → Bool) (g : Slot → Entry) (slots : List Slot) → count_by f (map g slots) ≡ count_by (λ slot. f (g slot)) slots
+count-map : (f : Entry → Bool) (g : ℕ → Entry) (slots : List ℕ) → count_by f (map g slots) ≡ count_by (λ p. f (g p)) slots
 count-map f g [] = refl
 count-map f g (slot ∷ slots) =
     let ih = count-map f g slots in
@@ -132,9 +131,9 @@ count-take f held (suc n) most =
     omega (arith, ih, more, same)
 
 -- as many pass a test in the index as of those that are held
-pub count-index : (f : Entry → Bool) (held : List Entry) (slots : List Slot) → IsIndex held slots → count_by f (sorted_of held slots) ≡ count_by f held
+pub count-index : (f : Entry → Bool) (held : List Entry) (slots : List ℕ) → IsIndex held slots → count_by f (sorted_of held slots) ≡ count_by f held
 count-index f held slots index =
-    count-map f (λ slot. nth held slot.position) slots ∙ index.once (λ p. f (nth held p)) ∙ count-take f held (length held) (omega arith)
+    count-map f (nth held) slots ∙ index.once (λ p. f (nth held p)) ∙ count-take f held (length held) (omega arith)
     ∙ ap (count_by f) (take_all (length held) held (omega arith))
 
 count-front : (f : Entry → Bool) (xs : List Entry) (n : ℕ) → n ≤ length xs → ((i : ℕ) → i < n → f (nth xs i) ≡ true) → n ≤ count_by f xs
@@ -160,7 +159,7 @@ few-more times n m le few = (few.0, let most = few.1 in omega arith, few.2)
 
 -- ---- one group more
 
-pub asked-one : (held : List Entry) (slots : List Slot) (s : State) (low from end times : ℕ) (asked : List Asked) → IsIndex held slots → low ≤ from → from < end → end ≤ length slots
+pub asked-one : (held : List Entry) (slots : List ℕ) (s : State) (low from end times : ℕ) (asked : List Asked) → IsIndex held slots → low ≤ from → from < end → end ≤ length slots
     → ((i : ℕ) → low ≤ i → i < from → by_group (nth (sorted_of held slots) i) (nth (sorted_of held slots) from) ≡ Less)
     → ((i : ℕ) → from ≤ i → i < end → by_group (nth (sorted_of held slots) from) (nth (sorted_of held slots) i) ≡ Equal)
     → may_match s (nth (sorted_of held slots) from) ≡ true → IsFew times (end - from)
@@ -170,12 +169,12 @@ asked-one held slots s low from end times asked index least some most before sam
     let xs = sorted_of held slots in
     let first = nth xs from in
     let new : Asked = record { entry = first; probes = times } in
-    let blank : Slot = record { mark = record { mask = 0; print = 0 }; position = 0 } in
+    let blank : ℕ = 0 in
     let count = count-range (is_of_group first) xs from (end - from) (omega (arith, sorted-length held slots))
     (λ i below lt. group-test first (nth xs i) (same i below (omega arith))) in
     let is : IsAsked held s new = record {
       is_held = subst (Contains held) (sym (sorted-at held slots from blank (omega arith)))
-          (Contains-get_or held (get_or slots from blank).position no_entry (position-in held slots from blank index (omega arith)));
+          (Contains-get_or held (get_or slots from blank) no_entry (position-in held slots from blank index (omega arith)));
       has_print = may;
       is_few = few-more times (end - from) (count_by (is_of_group first) held) (omega (arith, count, count-index (is_of_group first) held slots index)) few;
     } in
@@ -236,7 +235,7 @@ most-more xs s left low from end old new first le second i least lt match enough
 ]
 
 -- the entries of a group
-pub tail-rising : (held : List Entry) (slots : List Slot) (s : State) (from end : ℕ) → IsIndex held slots → end ≤ length slots
+pub tail-rising : (held : List Entry) (slots : List ℕ) (s : State) (from end : ℕ) → IsIndex held slots → end ≤ length slots
     → ((i j : ℕ) → from ≤ i → i < end → from ≤ j → j < end → mark_of (nth (sorted_of held slots) i) ≡ mark_of (nth (sorted_of held slots) j))
     → ((i : ℕ) → from ≤ i → i < end → by_group (nth (sorted_of held slots) from) (nth (sorted_of held slots) i) ≡ Equal)
     → (nth (sorted_of held slots) from).shape ≡ s.shape → IsTailRising (sorted_of held slots) s from end

@@ -1,7 +1,7 @@
 -- Words of private contracts: the order in which a shard's index has its entries.
-use Rattle.std.specs.Prelude.{◌≡◌, ℕ, zero, suc, ◌+◌, ◌-◌, ◌*◌, ◌<◌, ◌≤◌, Bool, true, List, [], All, length, map, count_by, slice_index, slice_index_or, Option, Some, None, if◌then◌else◌}
+use Rattle.std.specs.Prelude.{◌≡◌, ℕ, zero, suc, ◌+◌, ◌-◌, ◌*◌, ◌%◌, ◌^◌, ◌<◌, ◌≤◌, Bool, true, false, List, [], ◌∷◌, ◌++◌, All, length, map, take, replicate, count_by, sum_by, slice_index, slice_index_or, Option, Some, None, if◌then◌else◌}
 use Rattle.std.specs.List.{AllPairs}
-use Rattle.std.specs.Ordering.{nat_cmp, on, then_cmp}
+use Rattle.std.specs.Ordering.{is_lt, nat_cmp, on, then_cmp}
 use Rattle.std.specs.Cmp.Lexicographic.{slice_cmp}
 use Rattle.std.specs.declared.cmp.Ordering.{Ordering}
 use Rattle.std.specs.declared.cmp.Ordering.TheVariants.{Less}
@@ -11,9 +11,14 @@ use Rattle.asc_model.specs.Shape.{Shape}
 use Rattle.asc_model.specs.State.{State}
 use Rattle.asc_model.specs.Entry.{Entry, IsTrueEntry}
 use Rattle.asc_model.specs.DependencyVector.{is_among}
+use Rattle.asc_model.specs.Number.{word_at}
+use Rattle.asc_shard.specs.declared.mark.TheConstants.{FACTORS}
 use Rattle.asc_traj.specs.Content.{matches}
 use Rattle.asc_shard.specs.declared.mark.Mark.{Mark}
-use Rattle.asc_shard.specs.declared.index.Slot.{Slot}
+use Rattle.asc_shard.specs.declared.heads.Head.{Head}
+use Rattle.asc_shard.specs.declared.heads.Beginning.{Beginning}
+use Rattle.asc_shard.specs.declared.index.Index.{Index}
+use Rattle.asc_shard.specs.declared.index.Place.{Place}
 use Rattle.asc_shard.specs.Marks.{first_reads_of, print_of}
 
 -- a count that was raised so many times
@@ -83,27 +88,100 @@ compare_with e s = slice_cmp nat_cmp (bytes_of e.reads) (bytes_at s e.reads)
 abbrev pub no_entry : Entry
 no_entry = record { shape = record { base = 0; size = 0; version = One }; reads = []; writes = []; steps = 0 }
 
--- the entries in the order of the index
-abbrev pub sorted_of : List Entry → List Slot → List Entry
-sorted_of held slots = map (λ slot. slice_index_or held slot.position no_entry) slots
+-- the position of the entry of a number, the oldest first
+abbrev pub position_of : (oldest number : ℕ) → ℕ
+position_of oldest number = (number + (2 ^ 32 - oldest)) % 2 ^ 32
 
--- a slot whose entry has one less before it
-abbrev pub fallen : Slot → Slot
-fallen slot = record slot { position = slot.position - 1 }
+abbrev pub positions_of : Index → List ℕ
+positions_of index = map (position_of index.oldest) index.numbers.items
+
+-- the entries in the order of the index
+abbrev pub sorted_of : List Entry → (positions : List ℕ) → List Entry
+sorted_of held positions = map (λ p. slice_index_or held p no_entry) positions
+
+abbrev pub sorted_in : List Entry → Index → List Entry
+sorted_in held index = sorted_of held (positions_of index)
 
 -- how many numbers below n pass a test
 abbrev pub count_below : (ℕ → Bool) → ℕ → ℕ
 count_below f zero = 0
 count_below f (suc n) = count_below f n + (if f n then 1 else 0)
 
--- The entries hold everywhere. The slots are one for each entry, with its mark, and stand in rising order of entries.
-pub record IsIndex (held : List Entry) (slots : List Slot) : Type 0 where
+-- The entries hold everywhere. The positions are one for each entry, and stand in rising order of entries.
+pub record IsIndex (held : List Entry) (positions : List ℕ) : Type 0 where
   pub true_all : All IsTrueEntry held
-  pub size : length slots ≡ length held
-  pub within : All (λ slot. slot.position < length held) slots
-  pub once : (f : ℕ → Bool) → count_by (λ slot. f slot.position) slots ≡ count_below f (length held)
-  pub marks : All (λ slot. slot.mark ≡ mark_of (slice_index_or held slot.position no_entry)) slots
-  pub rise : AllPairs (λ a b. by_all a b ≡ Less) (sorted_of held slots)
+  pub size : length positions ≡ length held
+  pub within : All (λ p. p < length held) positions
+  pub once : (f : ℕ → Bool) → count_by f positions ≡ count_below f (length held)
+  pub rise : AllPairs (λ a b. by_all a b ≡ Less) (sorted_of held positions)
+
+-- ---- the lists of first places
+
+abbrev pub no_head : Head
+no_head = record { mask = 0; count = 0; words = []; len = 0 }
+
+abbrev pub mask_at : List Head → ℕ → ℕ
+mask_at heads h = (slice_index_or heads h no_head).mask
+
+abbrev pub count_at : List Head → ℕ → ℕ
+count_at heads h = (slice_index_or heads h no_head).count
+
+-- each mask as often as it has entries
+abbrev pub runs : List Head → List ℕ
+runs [] = []
+runs (head ∷ heads) = replicate head.count head.mask ++ runs heads
+
+abbrev pub total : List Head → ℕ
+total heads = sum_by (λ head. head.count) heads
+
+abbrev pub word_places : (words : List ℕ) → List ℕ
+word_places [] = []
+word_places (word ∷ words) = (word * 4) ∷ (word * 4 + 1) ∷ (word * 4 + 2) ∷ (word * 4 + 3) ∷ word_places words
+
+abbrev pub words_in : Head → List ℕ
+words_in head = take head.len head.words
+
+-- Where a head has words, their places are the first ones that entries of its mask read.
+pub record IsHead (head : Head) : Type 0 where
+  pub fit : head.len ≤ length head.words
+  pub low : All (λ word. word < 32) (words_in head)
+  pub places : 0 < head.len → (e : Entry) → IsTrueEntry e → (mark_of e).mask ≡ head.mask → places_of (first_reads_of e) ≡ word_places (words_in head)
+
+-- what each of the first words of a state counts
+pub record AreProducts (s : State) (products : List ℕ) : Type 0 where
+  pub size : length products ≡ 32
+  pub counts : (word : ℕ) → word < 32 → slice_index products word ≡ word_at s.bytes (word * 4) * slice_index FACTORS word % 2 ^ 64
+
+-- Masks rise, and each has an entry.
+pub record AreHeads (heads : List Head) : Type 0 where
+  pub each : All IsHead heads
+  pub some : All (λ head. 0 < head.count) heads
+  pub rise : AllPairs (λ a b. a < b) (map (λ head. head.mask) heads)
+
+-- All heads before have lower masks, and all behind have higher ones.
+pub record IsBeginning (heads : List Head) (mask : ℕ) (b : Beginning) : Type 0 where
+  pub most : b.head ≤ length heads
+  pub before : (h : ℕ) → h < b.head → mask_at heads h < mask
+  pub from : b.from ≡ total (take b.head heads)
+  pub here : b.known ≡ true → (b.head < length heads) × (mask_at heads b.head ≡ mask) × (b.next ≡ b.from + count_at heads b.head)
+  pub none : b.known ≡ false → (b.head < length heads → mask < mask_at heads b.head) × (b.next ≡ b.from)
+
+-- what an index has of the entries that are held
+pub record IsIndexed (held : List Entry) (index : Index) : Type 0 where
+  pub entries : IsIndex held (positions_of index)
+  pub oldest : index.oldest < 2 ^ 32
+  pub few : length held < 2 ^ 32
+  pub prints : index.prints.items ≡ map print_of (sorted_in held index)
+  pub masks : runs index.heads.items ≡ map (λ e. (mark_of e).mask) (sorted_in held index)
+  pub heads : AreHeads index.heads.items
+
+-- where an entry stands, or would
+pub record IsPlace (held : List Entry) (index : Index) (e : Entry) (place : Place) : Type 0 where
+  pub beginning : IsBeginning index.heads.items (mark_of e).mask place.beginning
+  pub least : place.beginning.from ≤ place.at
+  pub most : place.at ≤ place.beginning.next
+  pub before : (i : ℕ) → i < place.at → by_all (slice_index_or (sorted_in held index) i no_entry) e ≡ Less
+  pub rest : (i : ℕ) → place.at ≤ i → i < length held → is_lt (by_all (slice_index_or (sorted_in held index) i no_entry) e) ≡ false
 
 -- ---- looking for the longest match
 

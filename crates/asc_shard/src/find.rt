@@ -3,12 +3,14 @@ ghost use Rattle.std.specs.Arc.{arc_value};
 ghost use Rattle.asc_traj.specs.Content.{longest};
 ghost use Rattle.asc_shard.specs.Content.{IsFound};
 ghost use Rattle.asc_shard.specs.Groups.{AreAsked, Asked, IsFew};
-ghost use Rattle.asc_shard.specs.Marks.{may_match};
-ghost use Rattle.asc_shard.specs.Inside.{IsBest, IsFrom, IsIndex, IsLast, IsMost, IsTailRising, by_group, mark_of, no_entry, raised, sorted_of};
+ghost use Rattle.asc_shard.specs.Marks.{may_match, print_in};
+ghost use Rattle.asc_shard.specs.Inside.{AreProducts, IsBest, IsFrom, IsHead, IsIndexed, IsLast, IsMost, IsTailRising, by_group, mark_of, no_entry, positions_of, raised, sorted_in};
 
-use crate::index::{Slot, count_before, count_through};
-use crate::mark::{Mark, print_in};
-use crate::order::{compare_groups, compare_with};
+use crate::heads::Head;
+use crate::index::Index;
+use crate::mark::{print_in, print_of_words, products_of};
+use crate::order::{compare_groups, compare_with, has_reads};
+use crate::prints::range_of;
 use asc_shape::{State, Steps};
 use asc_traj::Entry;
 use std::cmp::Ordering;
@@ -65,12 +67,53 @@ pub struct Best {
 /// have it stand together again, group by group.
 pub fn search<P: Probes>(
     entries: &[Arc<Entry>],
-    slots: &[Slot],
+    index: &Index,
     state: &State,
     left: u64,
     probes: &mut P,
 ) -> Option<usize>
-    requires { IsIndex (map arc_value entries.now) slots.now }
+    requires index { IsIndexed (map arc_value entries.now) index.now }
+    ensures none { IfNone result (longest (map arc_value entries.now) state.now left ≡ None) }
+    ensures some { IfSome result (IsFound (map arc_value entries.now) state.now left) }
+    ensures probes { (asked : List Asked) × AreAsked (map arc_value entries.now) state.now asked
+        × (P.count probes.new ≡ raised P.more (sum_by (λ a. a.probes) asked) (P.count probes.old)) }
+{
+    if index.heads.len() < 4 {
+        return search_heads(entries, index, state, left, None, probes);
+    }
+    search_many(entries, index, state, left, probes)
+}
+
+/// The same of many lists: what the words count is looked up.
+#[inline(never)]
+fn search_many<P: Probes>(
+    entries: &[Arc<Entry>],
+    index: &Index,
+    state: &State,
+    left: u64,
+    probes: &mut P,
+) -> Option<usize>
+    requires index { IsIndexed (map arc_value entries.now) index.now }
+    ensures none { IfNone result (longest (map arc_value entries.now) state.now left ≡ None) }
+    ensures some { IfSome result (IsFound (map arc_value entries.now) state.now left) }
+    ensures probes { (asked : List Asked) × AreAsked (map arc_value entries.now) state.now asked
+        × (P.count probes.new ≡ raised P.more (sum_by (λ a. a.probes) asked) (P.count probes.old)) }
+{
+    let products = products_of(state);
+    search_heads(entries, index, state, left, Some(&products), probes)
+}
+
+/// The same, with or without what the words count.
+fn search_heads<P: Probes>(
+    entries: &[Arc<Entry>],
+    index: &Index,
+    state: &State,
+    left: u64,
+    products: Option<&[u64; 32]>,
+    probes: &mut P,
+) -> Option<usize>
+    requires index { IsIndexed (map arc_value entries.now) index.now }
+    requires products { IfSome products (λ p. AreProducts state.now p.now) }
     ensures none { IfNone result (longest (map arc_value entries.now) state.now left ≡ None) }
     ensures some { IfSome result (IsFound (map arc_value entries.now) state.now left) }
     ensures probes { (asked : List Asked) × AreAsked (map arc_value entries.now) state.now asked
@@ -81,27 +124,112 @@ pub fn search<P: Probes>(
         steps: 0,
     };
     let mut from = 0;
-    while from < slots.len() {
-        let mask = slots[from].mark.mask;
-        let print = print_in(state, &entries[slots[from].position]);
-        let wanted = Mark { mask, print };
-        let last = Mark {
-            mask,
-            print: u64::MAX,
-        };
-        let low = count_before(slots, wanted);
-        let high = count_through(slots, wanted);
-        let next = count_through(slots, last);
-        best = search_range(entries, slots, low, high, state, left, best, probes);
+    for head in &index.heads {
+        let next = from + head.count;
+        let print = print_for(head, state, products, index.entry(entries, from));
+        let (low, high) = range_of(index, from, next, print);
+        best = search_some(
+            entries, index, low, high, head.len, state, left, best, probes,
+        );
         from = next;
     }
     best.position
 }
 
+/// The fingerprint that a state has for a head, of which this is an entry.
+#[inline]
+fn print_for(head: &Head, state: &State, products: Option<&[u64; 32]>, entry: &Entry) -> u64
+    requires head { IsHead head.now }
+    requires entry { (mark_of entry.now).mask ≡ head.now.mask }
+    requires products { IfSome products (λ p. AreProducts state.now p.now) }
+    ensures { result ≡ print_in state.now entry.now }
+{
+    match products {
+        Some(products) if head.len > 0 => {
+            entry.truth();
+            // That it is a state.
+            let _ = state.shape();
+            print_of_words(products, &head.words[..head.len])
+        }
+        _ => print_in(state, entry),
+    }
+}
+
+/// The longest match so far, after the slots of one mark, which the state has, if there are any.
+#[inline]
+fn search_some<P: Probes>(
+    entries: &[Arc<Entry>],
+    index: &Index,
+    low: usize,
+    high: usize,
+    after: usize,
+    state: &State,
+    left: u64,
+    best: Best,
+    probes: &mut P,
+) -> Best
+    requires index { IsIndexed (map arc_value entries.now) index.now }
+    requires range { (low ≤ high) × (high ≤ length (positions_of index.now)) }
+    requires marks { (i j : ℕ) → low ≤ i → i < high → low ≤ j → j < high
+        → mark_of (slice_index_or (sorted_in (map arc_value entries.now) index.now) i no_entry)
+        ≡ mark_of (slice_index_or (sorted_in (map arc_value entries.now) index.now) j no_entry) }
+    requires prints { (i : ℕ) → low ≤ i → i < high
+        → may_match state.now (slice_index_or (sorted_in (map arc_value entries.now) index.now) i no_entry) ≡ true }
+    requires best { IsBest (map arc_value entries.now) state.now left best.position best.steps }
+    ensures best { IsBest (map arc_value entries.now) state.now left result.position result.steps }
+    ensures most { IsMost (sorted_in (map arc_value entries.now) index.now) state.now left low high result.steps }
+    ensures rises { best.steps ≤ result.steps }
+    ensures probes { (asked : List Asked) × AreAsked (map arc_value entries.now) state.now asked
+        × All (λ a. IsFrom (sorted_in (map arc_value entries.now) index.now) low high a.entry) asked
+        × (P.count probes.new ≡ raised P.more (sum_by (λ a. a.probes) asked) (P.count probes.old)) }
+{
+    if low + 1 == high {
+        return search_one(entries, index, low, after, state, left, best, probes);
+    }
+    if low < high {
+        return search_range(entries, index, low, high, state, left, best, probes);
+    }
+    best
+}
+
+/// The longest match so far, after the one entry of a mark, which the state has. What it reads from a part on is compared
+/// first.
+fn search_one<P: Probes>(
+    entries: &[Arc<Entry>],
+    index: &Index,
+    at: usize,
+    after: usize,
+    state: &State,
+    left: u64,
+    best: Best,
+    probes: &mut P,
+) -> Best
+    requires index { IsIndexed (map arc_value entries.now) index.now }
+    requires within { at < length (positions_of index.now) }
+    requires print { may_match state.now (slice_index_or (sorted_in (map arc_value entries.now) index.now) at no_entry) ≡ true }
+    requires best { IsBest (map arc_value entries.now) state.now left best.position best.steps }
+    ensures best { IsBest (map arc_value entries.now) state.now left result.position result.steps }
+    ensures most { IsMost (sorted_in (map arc_value entries.now) index.now) state.now left at (at + 1) result.steps }
+    ensures rises { best.steps ≤ result.steps }
+    ensures probes { (asked : List Asked) × AreAsked (map arc_value entries.now) state.now asked
+        × All (λ a. IsFrom (sorted_in (map arc_value entries.now) index.now) at (at + 1) a.entry) asked
+        × (P.count probes.new ≡ raised P.more (sum_by (λ a. a.probes) asked) (P.count probes.old)) }
+{
+    let entry = index.entry(entries, at);
+    if entry.shape() != state.shape() {
+        return best;
+    }
+    probes.tick();
+    if entry.steps() <= left && has_reads(entry, state, after) {
+        return longer_of(best, entries, index.position(at));
+    }
+    best
+}
+
 /// The longest match so far, after the slots of one mark, which the state has, group by group.
 fn search_range<P: Probes>(
     entries: &[Arc<Entry>],
-    slots: &[Slot],
+    index: &Index,
     low: usize,
     high: usize,
     state: &State,
@@ -109,29 +237,29 @@ fn search_range<P: Probes>(
     best: Best,
     probes: &mut P,
 ) -> Best
-    requires index { IsIndex (map arc_value entries.now) slots.now }
-    requires range { (low ≤ high) × (high ≤ length slots.now) }
+    requires index { IsIndexed (map arc_value entries.now) index.now }
+    requires range { (low ≤ high) × (high ≤ length (positions_of index.now)) }
     requires marks { (i j : ℕ) → low ≤ i → i < high → low ≤ j → j < high
-        → mark_of (slice_index_or (sorted_of (map arc_value entries.now) slots.now) i no_entry)
-        ≡ mark_of (slice_index_or (sorted_of (map arc_value entries.now) slots.now) j no_entry) }
+        → mark_of (slice_index_or (sorted_in (map arc_value entries.now) index.now) i no_entry)
+        ≡ mark_of (slice_index_or (sorted_in (map arc_value entries.now) index.now) j no_entry) }
     requires prints { (i : ℕ) → low ≤ i → i < high
-        → may_match state.now (slice_index_or (sorted_of (map arc_value entries.now) slots.now) i no_entry) ≡ true }
+        → may_match state.now (slice_index_or (sorted_in (map arc_value entries.now) index.now) i no_entry) ≡ true }
     requires best { IsBest (map arc_value entries.now) state.now left best.position best.steps }
     ensures best { IsBest (map arc_value entries.now) state.now left result.position result.steps }
-    ensures most { IsMost (sorted_of (map arc_value entries.now) slots.now) state.now left low high result.steps }
+    ensures most { IsMost (sorted_in (map arc_value entries.now) index.now) state.now left low high result.steps }
     ensures rises { best.steps ≤ result.steps }
     ensures probes { (asked : List Asked) × AreAsked (map arc_value entries.now) state.now asked
-        × All (λ a. IsFrom (sorted_of (map arc_value entries.now) slots.now) low high a.entry) asked
+        × All (λ a. IsFrom (sorted_in (map arc_value entries.now) index.now) low high a.entry) asked
         × (P.count probes.new ≡ raised P.more (sum_by (λ a. a.probes) asked) (P.count probes.old)) }
 {
     let mut now = best;
     let mut from = low;
     while from < high {
-        let end = group_end(entries, slots, from, high);
-        let first: &Entry = &entries[slots[from].position];
+        let end = group_end(entries, index, from, high);
+        let first: &Entry = index.entry(entries, from);
         if first.shape() == state.shape() {
-            if let Some(i) = last_match(entries, slots, from, end, state, left, probes) {
-                now = longer_of(now, entries, slots[i].position);
+            if let Some(i) = last_match(entries, index, from, end, state, left, probes) {
+                now = longer_of(now, entries, index.position(i));
             }
         }
         from = end;
@@ -157,31 +285,34 @@ fn longer_of(best: Best, entries: &[Arc<Entry>], position: usize) -> Best
 }
 
 /// Where the group ends of which the first slot is at `from`, among slots of one mark.
-fn group_end(entries: &[Arc<Entry>], slots: &[Slot], from: usize, high: usize) -> usize
-    requires index { IsIndex (map arc_value entries.now) slots.now }
+fn group_end(entries: &[Arc<Entry>], index: &Index, from: usize, high: usize) -> usize
+    requires index { IsIndexed (map arc_value entries.now) index.now }
     requires some { from < high }
-    requires range { high ≤ length slots.now }
+    requires range { high ≤ length (positions_of index.now) }
     requires marks { (i j : ℕ) → from ≤ i → i < high → from ≤ j → j < high
-        → mark_of (slice_index_or (sorted_of (map arc_value entries.now) slots.now) i no_entry)
-        ≡ mark_of (slice_index_or (sorted_of (map arc_value entries.now) slots.now) j no_entry) }
+        → mark_of (slice_index_or (sorted_in (map arc_value entries.now) index.now) i no_entry)
+        ≡ mark_of (slice_index_or (sorted_in (map arc_value entries.now) index.now) j no_entry) }
     ensures some { from < result }
     ensures range { result ≤ high }
     ensures same { (i : ℕ) → from ≤ i → i < result
-        → by_group (slice_index_or (sorted_of (map arc_value entries.now) slots.now) from no_entry)
-        (slice_index_or (sorted_of (map arc_value entries.now) slots.now) i no_entry) ≡ Ordering.Equal }
+        → by_group (slice_index_or (sorted_in (map arc_value entries.now) index.now) from no_entry)
+        (slice_index_or (sorted_in (map arc_value entries.now) index.now) i no_entry) ≡ Ordering.Equal }
     ensures rest { (i : ℕ) → result ≤ i → i < high
-        → by_group (slice_index_or (sorted_of (map arc_value entries.now) slots.now) from no_entry)
-        (slice_index_or (sorted_of (map arc_value entries.now) slots.now) i no_entry) ≡ Ordering.Less }
+        → by_group (slice_index_or (sorted_in (map arc_value entries.now) index.now) from no_entry)
+        (slice_index_or (sorted_in (map arc_value entries.now) index.now) i no_entry) ≡ Ordering.Less }
 {
-    let first: &Entry = &entries[slots[from].position];
-    if compare_groups(first, &entries[slots[high - 1].position]).is_eq() {
+    if from + 1 == high {
+        return high;
+    }
+    let first: &Entry = index.entry(entries, from);
+    if compare_groups(first, index.entry(entries, high - 1)).is_eq() {
         return high;
     }
     let mut low = from + 1;
     let mut end = high - 1;
     while low < end {
         let middle = low + (end - low) / 2;
-        if compare_groups(first, &entries[slots[middle].position]).is_eq() {
+        if compare_groups(first, index.entry(entries, middle)).is_eq() {
             low = middle + 1;
         } else {
             end = middle;
@@ -193,18 +324,18 @@ fn group_end(entries: &[Arc<Entry>], slots: &[Slot], from: usize, high: usize) -
 /// The last of the slots of a group whose entry matches a state and has at most `left` steps.
 fn last_match<P: Probes>(
     entries: &[Arc<Entry>],
-    slots: &[Slot],
+    index: &Index,
     from: usize,
     end: usize,
     state: &State,
     left: u64,
     probes: &mut P,
 ) -> Option<usize>
-    requires index { IsIndex (map arc_value entries.now) slots.now }
+    requires index { IsIndexed (map arc_value entries.now) index.now }
     requires some { from < end }
-    requires range { end ≤ length slots.now }
-    requires group { IsTailRising (sorted_of (map arc_value entries.now) slots.now) state.now from end }
-    ensures last { IsLast (sorted_of (map arc_value entries.now) slots.now) state.now left from end result }
+    requires range { end ≤ length (positions_of index.now) }
+    requires group { IsTailRising (sorted_in (map arc_value entries.now) index.now) state.now from end }
+    ensures last { IsLast (sorted_in (map arc_value entries.now) index.now) state.now left from end result }
     ensures probes { (times : ℕ) × IsFew times (end - from)
         × (P.count probes.new ≡ raised P.more times (P.count probes.old)) }
 {
@@ -213,7 +344,7 @@ fn last_match<P: Probes>(
     let mut high = end;
     while low < high {
         let middle = low + (high - low) / 2;
-        let entry: &Entry = &entries[slots[middle].position];
+        let entry: &Entry = index.entry(entries, middle);
         probes.tick();
         match compare_with(entry, state) {
             Ordering::Less => low = middle + 1,

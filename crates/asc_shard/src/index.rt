@@ -1,65 +1,105 @@
-ghost use Rattle.std.specs.Prelude.{◌≡◌, ℕ, ◌+◌, ◌<◌, ◌≤◌, ◌++◌, ◌∷◌, ◌==◌, [], All, false, true, map, length, position, vec_len, slice_index_or, vec_capacity};
+ghost use Rattle.std.specs.Prelude.{◌≡◌, ℕ, ◌+◌, ◌^◌, ◌<◌, ◌≤◌, ◌++◌, ◌∷◌, [], false, length, map, vec_len, slice_index_or, vec_capacity};
 ghost use Rattle.std.specs.Arc.{arc_value};
-ghost use Rattle.std.specs.List.{AllWithin, list_any, remove};
-ghost use Rattle.std.specs.Ordering.{is_lt, is_le};
+ghost use Rattle.std.specs.List.{list_any, remove};
+ghost use Rattle.std.specs.Ordering.{is_lt};
 ghost use Rattle.asc_shard.specs.Content.{is_same_entry};
-ghost use Rattle.asc_shard.specs.Inside.{IsIndex, fallen, by_all, by_mark, mark_of, no_entry, sorted_of};
+ghost use Rattle.asc_shard.specs.Inside.{IsIndexed, IsPlace, by_all, mark_of, no_entry, positions_of, sorted_in};
 
-use crate::mark::{Mark, compare_marks, mark_of};
-use crate::order::compare;
+use crate::heads::{Beginning, Head, beginning_of, lower, raise};
+use crate::mark::{Mark, mark_of};
+use crate::order::compare_alike;
+use crate::prints::range_of;
 use asc_traj::Entry;
 use std::cmp::Ordering;
 use std::sync::Arc;
 
-/// A place in the index of a shard: which of its entries stands there.
+/// The order of the entries of a shard: first by their fingerprints.
+#[derive(Drop)]
+pub struct Index {
+    // The number of the oldest entry. Numbers go on by one from entry to entry, and round at 2^32.
+    pub oldest: u32,
+    // The numbers of the entries, in their order.
+    pub numbers: Vec<u32>,
+    // Their fingerprints.
+    pub prints: Vec<u64>,
+    // The lists of their first places.
+    pub heads: Vec<Head>,
+}
+
+/// Where an entry stands in an index, or would.
 #[derive(Clone, Copy, Debug)]
-pub struct Slot {
-    pub mark: Mark,
-    // The entry's position in the shard, the oldest first.
-    pub position: usize,
+pub struct Place {
+    pub beginning: Beginning,
+    // How many entries stand before it.
+    pub at: usize,
+    // Whether one that is the same stands there.
+    pub same: bool,
 }
 
-/// How many slots have a mark before this one.
-pub fn count_before(slots: &[Slot], mark: Mark) -> usize
-    requires { (i j : ℕ) (d : Slot) → i ≤ j → j < length slots.now
-        → is_le (by_mark (slice_index_or slots.now i d).mark (slice_index_or slots.now j d).mark) ≡ true }
-    ensures most { result ≤ length slots.now }
-    ensures before { AllWithin (λ slot. is_lt (by_mark slot.mark mark) ≡ true) slots.now 0 result }
-    ensures rest { AllWithin (λ slot. is_lt (by_mark slot.mark mark) ≡ false) slots.now result (length slots.now) }
-{
-    slots.partition_point(|slot| compare_marks(slot.mark, mark).is_lt())
+impl Index {
+    /// The entry at a place.
+    #[inline]
+    pub fn entry<'a>(&self, entries: &'a [Arc<Entry>], at: usize) -> &'a Entry
+        requires index { IsIndexed (map arc_value entries.now) self.now }
+        requires within { at < length (positions_of self.now) }
+        ensures { result.now ≡ slice_index_or (sorted_in (map arc_value entries.now) self.now) at no_entry }
+    {
+        &entries[self.position(at)]
+    }
+
+    /// Which entry stands at a place, the oldest first.
+    #[inline]
+    pub fn position(&self, at: usize) -> usize
+        requires within { at < length (positions_of self.now) }
+        ensures { result ≡ slice_index_or (positions_of self.now) at 0 }
+    {
+        self.numbers[at].wrapping_sub(self.oldest) as usize
+    }
 }
 
-/// How many slots have a mark up to this one.
-pub fn count_through(slots: &[Slot], mark: Mark) -> usize
-    requires { (i j : ℕ) (d : Slot) → i ≤ j → j < length slots.now
-        → is_le (by_mark (slice_index_or slots.now i d).mark (slice_index_or slots.now j d).mark) ≡ true }
-    ensures most { result ≤ length slots.now }
-    ensures through { AllWithin (λ slot. is_le (by_mark slot.mark mark) ≡ true) slots.now 0 result }
-    ensures rest { AllWithin (λ slot. is_le (by_mark slot.mark mark) ≡ false) slots.now result (length slots.now) }
-{
-    slots.partition_point(|slot| compare_marks(slot.mark, mark).is_le())
-}
-
-/// How many entries of an index stand before this one.
-pub fn place_of(entries: &[Arc<Entry>], slots: &[Slot], entry: &Entry, mark: Mark) -> usize
-    requires index { IsIndex (map arc_value entries.now) slots.now }
+/// Where an entry stands in an index, or would.
+pub fn place_of(entries: &[Arc<Entry>], index: &Index, entry: &Entry, mark: Mark) -> Place
+    requires index { IsIndexed (map arc_value entries.now) index.now }
     requires mark { mark ≡ mark_of entry.now }
-    ensures most { result ≤ length slots.now }
-    ensures before { (i : ℕ) → i < result
-        → by_all (slice_index_or (sorted_of (map arc_value entries.now) slots.now) i no_entry) entry.now
+    ensures place { IsPlace (map arc_value entries.now) index.now entry.now result }
+    ensures same { result.same ≡ list_any (is_same_entry entry.now) (map arc_value entries.now) }
+{
+    let beginning = beginning_of(&index.heads, mark.mask);
+    let (low, high) = range_of(index, beginning.from, beginning.next, mark.print);
+    let at = place_among(entries, index, low, high, entry);
+    let same = at < high && compare_alike(index.entry(entries, at), entry).is_eq();
+    Place {
+        beginning,
+        at,
+        same,
+    }
+}
+
+/// The same among entries of its mark.
+fn place_among(
+    entries: &[Arc<Entry>],
+    index: &Index,
+    from: usize,
+    end: usize,
+    entry: &Entry,
+) -> usize
+    requires index { IsIndexed (map arc_value entries.now) index.now }
+    requires range { (from ≤ end) × (end ≤ length (positions_of index.now)) }
+    requires marks { (i : ℕ) → from ≤ i → i < end
+        → mark_of (slice_index_or (sorted_in (map arc_value entries.now) index.now) i no_entry) ≡ mark_of entry.now }
+    ensures range { (from ≤ result) × (result ≤ end) }
+    ensures before { (i : ℕ) → from ≤ i → i < result
+        → by_all (slice_index_or (sorted_in (map arc_value entries.now) index.now) i no_entry) entry.now
         ≡ Ordering.Less }
-    ensures rest { (i : ℕ) → result ≤ i → i < length slots.now
-        → is_lt (by_all (slice_index_or (sorted_of (map arc_value entries.now) slots.now) i no_entry) entry.now)
+    ensures rest { (i : ℕ) → result ≤ i → i < end
+        → is_lt (by_all (slice_index_or (sorted_in (map arc_value entries.now) index.now) i no_entry) entry.now)
         ≡ false }
 {
-    let mut low = 0;
-    let mut high = slots.len();
+    let mut low = from;
+    let mut high = end;
     while low < high {
         let middle = low + (high - low) / 2;
-        let slot = slots[middle];
-        let held: &Entry = &entries[slot.position];
-        if compare(held, slot.mark, entry, mark).is_lt() {
+        if compare_alike(index.entry(entries, middle), entry).is_lt() {
             low = middle + 1;
         } else {
             high = middle;
@@ -68,68 +108,72 @@ pub fn place_of(entries: &[Arc<Entry>], slots: &[Slot], entry: &Entry, mark: Mar
     low
 }
 
-/// Whether an index has an entry that is the same as this one.
-pub fn has_same(entries: &[Arc<Entry>], slots: &[Slot], entry: &Entry, mark: Mark) -> bool
-    requires index { IsIndex (map arc_value entries.now) slots.now }
-    requires mark { mark ≡ mark_of entry.now }
-    ensures { result ≡ list_any (is_same_entry entry.now) (map arc_value entries.now) }
-{
-    let place = place_of(entries, slots, entry, mark);
-    if place == slots.len() {
-        return false;
-    }
-    let slot = slots[place];
-    let held: &Entry = &entries[slot.position];
-    compare(held, slot.mark, entry, mark).is_eq()
-}
-
-/// Takes the oldest entry out of an index. The positions of all others fall by one.
-pub fn forget_oldest(entries: &[Arc<Entry>], slots: &mut Vec<Slot>)
-    requires some { 0 < length entries.now }
-    requires index { IsIndex (map arc_value entries.now) slots.old.items }
-    ensures index { IsIndex (remove (map arc_value entries.now) 0) slots.new.items }
-    ensures room { vec_capacity slots.new ≡ vec_capacity slots.old }
-{
-    if let Some(oldest) = place_of_oldest(slots) {
-        slots.remove(oldest);
-        fall(slots);
-    }
-}
-
-/// Where the oldest entry stands in an index.
-fn place_of_oldest(slots: &[Slot]) -> Option<usize>
-    ensures { result ≡ position (λ slot. slot.position == 0) slots.now }
-{
-    slots.iter().position(|slot| slot.position == 0)
-}
-
-/// All positions fall by one.
-fn fall(slots: &mut [Slot])
-    requires { All (λ slot. 1 ≤ slot.position) slots.old }
-    ensures { slots.new ≡ map fallen slots.old }
-{
-    for i in 0..slots.len() {
-        slots[i].position -= 1;
-    }
-}
-
-/// Puts an entry behind the others, and into their index.
-pub fn add(entries: &mut Vec<Arc<Entry>>, slots: &mut Vec<Slot>, entry: Arc<Entry>, mark: Mark)
+/// Puts an entry behind the others, and at its place into their index.
+pub fn add(
+    entries: &mut Vec<Arc<Entry>>,
+    index: &mut Index,
+    entry: Arc<Entry>,
+    mark: Mark,
+    place: Place,
+)
     requires room { vec_len entries.old < vec_capacity entries.old }
-    requires slots_room { vec_len slots.old < vec_capacity slots.old }
-    requires index { IsIndex (map arc_value entries.old.items) slots.old.items }
+    requires few { vec_len entries.old + 1 < 2 ^ 32 }
+    requires numbers_room { vec_len entries.old < vec_capacity index.old.numbers }
+    requires prints_room { vec_len entries.old < vec_capacity index.old.prints }
+    requires heads_room { vec_len entries.old < vec_capacity index.old.heads }
+    requires index { IsIndexed (map arc_value entries.old.items) index.old }
     requires mark { mark ≡ mark_of (arc_value entry) }
+    requires place { IsPlace (map arc_value entries.old.items) index.old (arc_value entry) place }
     requires apart { list_any (is_same_entry (arc_value entry)) (map arc_value entries.old.items) ≡ false }
     ensures entries { entries.new.items ≡ entries.old.items ++ entry ∷ [] }
-    ensures index { IsIndex (map arc_value entries.new.items) slots.new.items }
+    ensures index { IsIndexed (map arc_value entries.new.items) index.new }
     ensures capacity { vec_capacity entries.new ≡ vec_capacity entries.old }
-    ensures slots_capacity { vec_capacity slots.old ≤ vec_capacity slots.new }
+    ensures rooms { (vec_capacity index.new.numbers ≡ vec_capacity index.old.numbers)
+        × (vec_capacity index.new.prints ≡ vec_capacity index.old.prints)
+        × (vec_capacity index.new.heads ≡ vec_capacity index.old.heads) }
 {
     // That it holds everywhere.
     entry.truth();
-    let place = place_of(entries, slots, &entry, mark);
-    let position = entries.len();
-    // There is room for it.
-    let _ = slots.insert(place, Slot { mark, position });
+    let number = index.oldest.wrapping_add(entries.len() as u32);
+    // There is room for each.
+    let _ = index.numbers.insert(place.at, number);
+    let _ = index.prints.insert(place.at, mark.print);
+    raise(&mut index.heads, place.beginning, &entry, mark.mask);
     entries.push_reserved(entry);
+}
+
+/// Takes the oldest entry out of the others, and out of their index.
+pub fn forget_oldest(entries: &mut Vec<Arc<Entry>>, index: &mut Index)
+    requires some { 0 < length entries.old.items }
+    requires index { IsIndexed (map arc_value entries.old.items) index.old }
+    ensures entries { entries.new.items ≡ remove entries.old.items 0 }
+    ensures index { IsIndexed (map arc_value entries.new.items) index.new }
+    ensures capacity { vec_capacity entries.new ≡ vec_capacity entries.old }
+    ensures rooms { (vec_capacity index.new.numbers ≡ vec_capacity index.old.numbers)
+        × (vec_capacity index.new.prints ≡ vec_capacity index.old.prints)
+        × (vec_capacity index.new.heads ≡ vec_capacity index.old.heads) }
+{
+    let mark = mark_of(&entries[0]);
+    let beginning = beginning_of(&index.heads, mark.mask);
+    let (low, high) = range_of(index, beginning.from, beginning.next, mark.print);
+    let at = place_of_oldest(index, low, high);
+    index.numbers.remove(at);
+    index.prints.remove(at);
+    lower(&mut index.heads, beginning.head);
+    index.oldest = index.oldest.wrapping_add(1);
+    drop(entries.remove(0));
+}
+
+/// Where the oldest entry stands, of places from one to another.
+fn place_of_oldest(index: &Index, low: usize, high: usize) -> usize
+    requires range { high ≤ length (positions_of index.now) }
+    requires there { (k : ℕ) × (low ≤ k) × (k < high) × (slice_index_or (positions_of index.now) k 0 ≡ 0) }
+    ensures range { (low ≤ result) × (result < high) }
+    ensures oldest { slice_index_or (positions_of index.now) result 0 ≡ 0 }
+{
+    let mut at = low;
+    while at + 1 < high && index.position(at) != 0 {
+        at += 1;
+    }
+    at
 }

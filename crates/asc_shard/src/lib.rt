@@ -2,10 +2,12 @@
 #![tactic(auto)]
 
 mod find;
+mod heads;
 mod index;
 mod laws;
 mod mark;
 mod order;
+mod prints;
 mod shard;
 #[cfg(test)]
 mod tests;

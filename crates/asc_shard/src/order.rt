@@ -1,22 +1,23 @@
-ghost use Rattle.std.specs.Prelude.{◌≡◌};
+ghost use Rattle.std.specs.Prelude.{◌≡◌, ◌==◌, ◌+◌, ◌<◌, ◌≤◌, ◌*◌, All, length, slice_index};
+ghost use Rattle.std.specs.List.{list_all};
+ghost use Rattle.asc_traj.specs.Content.{matches};
 ghost use Rattle.std.specs.Ordering.{nat_cmp};
 ghost use Rattle.std.specs.Cmp.Lexicographic.{slice_cmp};
-ghost use Rattle.asc_shard.specs.Inside.{bytes_of, compare_with, mark_of, places_of, rank_of, by_all, by_group, by_shape};
+ghost use Rattle.asc_model.specs.Shape.{length_of};
+ghost use Rattle.asc_traj.specs.Parts.{IsPart, all_cells, cells_from, part_cells, word_place};
+ghost use Rattle.asc_shard.specs.Inside.{bytes_at, bytes_of, compare_with, mark_of, places_of, rank_of, by_all, by_group, by_shape};
 
-use crate::mark::{Mark, compare_marks};
 use asc_model::Version;
 use asc_shape::{Shape, State};
-use asc_traj::Entry;
+use asc_traj::{Entry, Part, next_cell};
 use std::cmp::Ordering;
 
-/// Which of two entries with these marks is first in the index.
-pub fn compare(a: &Entry, a_mark: Mark, b: &Entry, b_mark: Mark) -> Ordering
-    requires a { a_mark ≡ mark_of a.now }
-    requires b { b_mark ≡ mark_of b.now }
+/// Which of two entries of one mark is first in the index.
+pub fn compare_alike(a: &Entry, b: &Entry) -> Ordering
+    requires { mark_of a.now ≡ mark_of b.now }
     ensures { result ≡ by_all a.now b.now }
 {
-    compare_marks(a_mark, b_mark)
-        .then_with(|| compare_groups(a, b))
+    compare_groups(a, b)
         .then_with(|| compare_bytes(a.reads(), b.reads()))
         .then_with(|| a.steps().cmp(&b.steps()))
 }
@@ -46,32 +47,76 @@ fn rank_of(version: Version) -> u8
     }
 }
 
-/// Which places are first, as in a dictionary.
-fn compare_places(a: &[(u32, u8)], b: &[(u32, u8)]) -> Ordering
-    ensures { result ≡ slice_cmp nat_cmp (places_of a.now) (places_of b.now) }
+/// Which places are first, as in a dictionary. Words of which both have the same bytes are passed over.
+fn compare_places(a: &[Part], b: &[Part]) -> Ordering
+    ensures { result ≡ slice_cmp nat_cmp (places_of (all_cells a.now)) (places_of (all_cells b.now)) }
 {
     let mut i = 0;
-    while i < a.len() && i < b.len() {
-        if a[i].0 != b[i].0 {
-            return a[i].0.cmp(&b[i].0);
-        }
+    while i < a.len() && i < b.len() && a[i].at == b[i].at {
         i += 1;
     }
-    a.len().cmp(&b.len())
+    compare_places_from(a, b, 4 * i)
 }
 
-/// Which bytes are first, as in a dictionary.
-fn compare_bytes(a: &[(u32, u8)], b: &[(u32, u8)]) -> Ordering
-    ensures { result ≡ slice_cmp nat_cmp (bytes_of a.now) (bytes_of b.now) }
+/// The same from a byte on, place by place.
+#[inline(never)]
+fn compare_places_from(a: &[Part], b: &[Part], from: usize) -> Ordering
+    requires a { from ≤ 4 * length a.now }
+    requires b { from ≤ 4 * length b.now }
+    ensures { result ≡ slice_cmp nat_cmp (places_of (cells_from a.now from)) (places_of (cells_from b.now from)) }
+{
+    let mut at = from;
+    let mut other = from;
+    loop {
+        match (next_cell(a, at), next_cell(b, other)) {
+            (Some(first), Some(second)) => {
+                if first.place != second.place {
+                    return first.place.cmp(&second.place);
+                }
+                at = first.next;
+                other = second.next;
+            }
+            (None, None) => return Ordering::Equal,
+            (None, Some(_)) => return Ordering::Less,
+            (Some(_), None) => return Ordering::Greater,
+        }
+    }
+}
+
+/// Which bytes are first, as in a dictionary. Words that are the same are passed over.
+fn compare_bytes(a: &[Part], b: &[Part]) -> Ordering
+    ensures { result ≡ slice_cmp nat_cmp (bytes_of (all_cells a.now)) (bytes_of (all_cells b.now)) }
 {
     let mut i = 0;
-    while i < a.len() && i < b.len() {
-        if a[i].1 != b[i].1 {
-            return a[i].1.cmp(&b[i].1);
-        }
+    while i < a.len() && i < b.len() && a[i].word == b[i].word && a[i].at == b[i].at {
         i += 1;
     }
-    a.len().cmp(&b.len())
+    compare_bytes_from(a, b, 4 * i)
+}
+
+/// The same from a byte on, byte by byte.
+#[inline(never)]
+fn compare_bytes_from(a: &[Part], b: &[Part], from: usize) -> Ordering
+    requires a { from ≤ 4 * length a.now }
+    requires b { from ≤ 4 * length b.now }
+    ensures { result ≡ slice_cmp nat_cmp (bytes_of (cells_from a.now from)) (bytes_of (cells_from b.now from)) }
+{
+    let mut at = from;
+    let mut other = from;
+    loop {
+        match (next_cell(a, at), next_cell(b, other)) {
+            (Some(first), Some(second)) => {
+                if first.byte != second.byte {
+                    return first.byte.cmp(&second.byte);
+                }
+                at = first.next;
+                other = second.next;
+            }
+            (None, None) => return Ordering::Equal,
+            (None, Some(_)) => return Ordering::Less,
+            (Some(_), None) => return Ordering::Greater,
+        }
+    }
 }
 
 /// Which are first, the bytes that an entry reads or those that a state of its shape has at their places.
@@ -80,11 +125,65 @@ pub fn compare_with(entry: &Entry, state: &State) -> Ordering
     ensures { result ≡ compare_with entry.now state.now }
 {
     entry.truth();
-    for cell in entry.reads() {
-        let byte = state.get(cell.0);
-        if cell.1 != byte {
-            return cell.1.cmp(&byte);
+    compare_parts(entry.reads(), state)
+}
+
+/// The same of parts.
+#[inline]
+fn compare_parts(parts: &[Part], state: &State) -> Ordering
+    requires parts { All IsPart parts.now }
+    requires within { All (λ part. word_place part + 4 ≤ length_of state.now.shape) parts.now }
+    ensures { result ≡ slice_cmp nat_cmp (bytes_of (all_cells parts.now)) (bytes_at state.now (all_cells parts.now)) }
+{
+    let mut i = 0;
+    while i < parts.len() && parts[i].is_in(state) {
+        i += 1;
+    }
+    compare_parts_from(parts, state, 4 * i)
+}
+
+/// The same from a byte on, byte by byte.
+#[inline(never)]
+fn compare_parts_from(parts: &[Part], state: &State, from: usize) -> Ordering
+    requires from { from ≤ 4 * length parts.now }
+    requires within { All (λ cell. cell.0 < length_of state.now.shape) (cells_from parts.now from) }
+    ensures { result ≡ slice_cmp nat_cmp (bytes_of (cells_from parts.now from))
+        (bytes_at state.now (cells_from parts.now from)) }
+{
+    let mut at = from;
+    while let Some(cell) = next_cell(parts, at) {
+        let byte = state.get(cell.place);
+        if cell.byte != byte {
+            return cell.byte.cmp(&byte);
         }
+        at = cell.next;
     }
     Ordering::Equal
+}
+
+/// Whether a state has all that an entry of its shape reads. Its parts from one on are compared before the others.
+pub fn has_reads(entry: &Entry, state: &State, from: usize) -> bool
+    requires { entry.now.shape ≡ state.now.shape }
+    ensures { result ≡ matches state.now entry.now }
+{
+    entry.truth();
+    let parts = entry.reads();
+    let middle = if from < parts.len() { from } else { 0 };
+    has_parts(&parts[middle..], state) && has_parts(&parts[..middle], state)
+}
+
+/// Whether a state has each of these parts.
+#[inline]
+fn has_parts(parts: &[Part], state: &State) -> bool
+    requires parts { All IsPart parts.now }
+    requires within { All (λ part. word_place part + 4 ≤ length_of state.now.shape) parts.now }
+    ensures { result ≡ list_all (λ part. list_all (λ cell. slice_index state.now.bytes cell.0 == cell.1)
+        (part_cells part)) parts.now }
+{
+    for part in parts {
+        if !part.is_in(state) {
+            return false;
+        }
+    }
+    true
 }

@@ -8,7 +8,7 @@ ghost use Rattle.asc_shard.specs.Content.{add, is_same_entry, outcome_of, IsCont
 ghost use Rattle.asc_shard.specs.Inside.{raised};
 
 use crate::find::{Probes, Uncounted, search};
-use crate::index::{Slot, add, forget_oldest, has_same};
+use crate::index::{Index, add, forget_oldest, place_of};
 use crate::mark::mark_of;
 use asc_shape::{Memory, State, Steps};
 use asc_traj::{Entry, jump_by};
@@ -26,7 +26,7 @@ pub enum Inserted {
     Stored,
 }
 
-/// The greatest capacity of a shard. The index of so many entries, 48 bytes for each, stays in the processor's second
+/// The greatest capacity of a shard. The index of so many entries stays in the processor's second
 /// cache while the walk looks up.
 pub const MOST_CAPACITY: usize = 4096;
 
@@ -35,7 +35,7 @@ pub const MOST_CAPACITY: usize = 4096;
 pub struct Shard {
     entries: Vec<Arc<Entry>>,
     // Their index: where those with one fingerprint, and of them those of one group, stand together.
-    slots: Vec<Slot>,
+    index: Index,
     capacity: usize,
 }
 
@@ -43,16 +43,17 @@ impl Model for Shard {
     ghost use Rattle.std.specs.Prelude.{◌≡◌, ◌≤◌, ◌<◌, map, length, vec_capacity};
     ghost use Rattle.std.specs.Arc.{arc_value};
     ghost use Rattle.asc_shard.specs.Content.{AreApart};
-    ghost use Rattle.asc_shard.specs.Inside.{IsIndex};
+    ghost use Rattle.asc_shard.specs.Inside.{IsIndexed};
     ghost use Rattle.asc_shard.specs.Shard as model;
 
     ghost Value = { model.Shard };
 
     ghost view = { λ s. record { held = map arc_value s.entries.items; capacity = s.capacity } };
 
-    ghost invariant = { λ s. (length s.entries.items ≤ s.capacity) × (0 < s.capacity)
-        × (s.capacity ≤ vec_capacity s.entries) × (s.capacity ≤ vec_capacity s.slots)
-        × AreApart (map arc_value s.entries.items) × IsIndex (map arc_value s.entries.items) s.slots.items };
+    ghost invariant = { λ s. (length s.entries.items ≤ s.capacity) × (0 < s.capacity) × (s.capacity ≤ 4096)
+        × (s.capacity < vec_capacity s.entries) × (s.capacity < vec_capacity s.index.numbers)
+        × (s.capacity < vec_capacity s.index.prints) × (s.capacity < vec_capacity s.index.heads)
+        × AreApart (map arc_value s.entries.items) × IsIndexed (map arc_value s.entries.items) s.index };
 }
 
 impl Shard {
@@ -61,11 +62,18 @@ impl Shard {
         requires { (0 < capacity) × (capacity ≤ MOST_CAPACITY) }
         ensures { IfOk result (λ s. s ≡ record { held = []; capacity = capacity }) }
     {
-        let entries = Vec::with_capacity(alloc, capacity)?;
-        let slots = Vec::with_capacity(alloc, capacity)?;
+        // While one more is put, all that were held are there.
+        let room = capacity + 1;
+        let entries = Vec::with_capacity(alloc, room)?;
+        let index = Index {
+            oldest: 0,
+            numbers: Vec::with_capacity(alloc, room)?,
+            prints: Vec::with_capacity(alloc, room)?,
+            heads: Vec::with_capacity(alloc, room)?,
+        };
         Ok(Shard {
             entries,
-            slots,
+            index,
             capacity,
         })
     }
@@ -74,7 +82,7 @@ impl Shard {
     pub fn holds(&self, entry: &Entry) -> bool
         ensures { result ≡ list_any (is_same_entry entry.now) self.now.held }
     {
-        has_same(&self.entries, &self.slots, entry, mark_of(entry))
+        place_of(&self.entries, &self.index, entry, mark_of(entry)).same
     }
 
     /// Puts an entry last, unless one that is the same is held. No allocator is handed in.
@@ -84,14 +92,14 @@ impl Shard {
         ensures outcome { result ≡ outcome_of self.old.held (arc_value entry) }
     {
         let mark = mark_of(&entry);
-        if has_same(&self.entries, &self.slots, &entry, mark) {
+        let place = place_of(&self.entries, &self.index, &entry, mark);
+        if place.same {
             return Inserted::Known;
         }
-        if self.entries.len() == self.capacity {
-            forget_oldest(&self.entries, &mut self.slots);
-            drop(self.entries.remove(0));
+        add(&mut self.entries, &mut self.index, entry, mark, place);
+        if self.entries.len() > self.capacity {
+            forget_oldest(&mut self.entries, &mut self.index);
         }
-        add(&mut self.entries, &mut self.slots, entry, mark);
         Inserted::Stored
     }
 
@@ -131,7 +139,7 @@ impl Shard {
         ensures probes { (asked : List Asked) × AreAsked self.now.held state.now asked
             × (P.count probes.new ≡ raised P.more (sum_by (λ a. a.probes) asked) (P.count probes.old)) }
     {
-        search(&self.entries, &self.slots, state, left, probes)
+        search(&self.entries, &self.index, state, left, probes)
     }
 
     /// How many entries it holds.

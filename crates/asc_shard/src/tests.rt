@@ -6,7 +6,7 @@ use crate::find::Probes;
 use crate::{Inserted, MOST_CAPACITY, Shard};
 use asc_depvec::Tracer;
 use asc_shape::{Shape, State, Steps};
-use asc_traj::{Entry, Never, Stop, Traced, trace};
+use asc_traj::{Entry, Never, Stop, Traced, cells_of, trace};
 use std::alloc::Global;
 use std::marker::Brand;
 use std::process::Abort;
@@ -98,9 +98,11 @@ fn shard_of<R: Abort>(rt: &R, alloc: Global, capacity: usize) -> Shard {
 }
 
 /// The entry at a position has the reads of this one.
-fn has<R: Abort>(rt: &R, shard: &Shard, i: usize, entry: &Entry) {
+fn has<R: Abort>(rt: &R, alloc: Global, shard: &Shard, i: usize, entry: &Entry) {
     assert!(rt; i < shard.len());
-    assert_eq!(rt; shard.entry(i).reads(), entry.reads());
+    let found = cells_of(alloc, shard.entry(i).reads()).expect(rt, "memory");
+    let wanted = cells_of(alloc, entry.reads()).expect(rt, "memory");
+    assert_eq!(rt; found.as_slice(), wanted.as_slice());
 }
 
 #[test]
@@ -115,20 +117,20 @@ fn bounded(rt: HostRuntime) {
     let second = laps_from(&rt, alloc, 1, 100, 1);
     let third = laps_from(&rt, alloc, 2, 100, 1);
     assert_eq!(rt; (shard.len(), shard.capacity()), (2, 2));
-    has(&rt, &shard, 0, &second);
-    has(&rt, &shard, 1, &third);
+    has(&rt, alloc, &shard, 0, &second);
+    has(&rt, alloc, &shard, 1, &third);
     assert_eq!(rt;
         shard.insert(laps_from(&rt, alloc, 2, 100, 1)),
         Inserted::Known
     );
-    has(&rt, &shard, 0, &second);
+    has(&rt, alloc, &shard, 0, &second);
     assert_eq!(rt;
         shard.insert(laps_from(&rt, alloc, 0, 100, 1)),
         Inserted::Stored
     );
     assert_eq!(rt; shard.len(), 2);
-    has(&rt, &shard, 0, &third);
-    has(&rt, &shard, 1, &first);
+    has(&rt, alloc, &shard, 0, &third);
+    has(&rt, alloc, &shard, 1, &first);
 }
 
 #[test]
@@ -185,6 +187,29 @@ fn apart(rt: HostRuntime) {
     assert!(rt; probes <= 3);
     let state = loading(&rt, alloc, 0x10104, 0);
     assert_eq!(rt; looked(&shard, &state, 1), (None, 0));
+}
+
+/// A load of a word, whose address six registers have.
+fn loading_by<R: Abort>(rt: &R, alloc: Global, base: u32) -> State {
+    let mut state = state_of(rt, alloc, 65_536, &[0x0000_2303 | (base << 15)]);
+    for reg in 10..16 {
+        state.set_reg(reg, 0x10100);
+    }
+    state
+}
+
+#[test]
+fn lists(rt: HostRuntime) {
+    let alloc = rt.alloc();
+    let mut shard = shard_of(&rt, alloc, 6);
+    for base in 10..16 {
+        shard.insert(entry_of(&rt, alloc, &loading_by(&rt, alloc, base), 9, 1));
+    }
+    // The state has the fingerprint of each list.
+    for base in 10..16 {
+        let state = loading_by(&rt, alloc, base);
+        assert_eq!(rt; looked(&shard, &state, 1), (Some(base as usize - 10), 6));
+    }
 }
 
 #[test]

@@ -3,7 +3,7 @@ ghost use Rattle.std.specs.Prelude.{◌≡◌, ◌≤◌, IfOk};
 ghost use Rattle.asc_show.specs.Visited.{IsLap, bounds_of};
 
 use asc_depvec::Tracer;
-use asc_shape::{Memory, State};
+use asc_shape::{Guess, Memory, Snapshot, State};
 use asc_traj::{Entry, Never, Stop, Why, trace};
 use std::alloc::Global;
 use std::sync::Arc;
@@ -33,12 +33,15 @@ pub(crate) fn trace_lap(
     ensures { IfOk result (λ lap. IsLap (bounds_of pc laps span) state.now lap) }
 {
     let mut tracer = Tracer::new(alloc, state.shape(), PLACES)?;
-    tracer.start(state);
+    let guess = Guess::last(Snapshot::of(alloc, state)?);
+    // That it is a state, of the same shape.
+    let _ = guess.shape();
+    tracer.start(guess);
     let traced = trace(&mut tracer, &Stop { pc, laps, span }, &mut Never);
     let entry = if traced.steps == 0 {
         None
     } else {
-        Some(Entry::of(alloc, &tracer, traced.steps)?)
+        Some(Entry::of(alloc, &mut tracer, traced.steps)?)
     };
     Ok(Lap {
         entry,

@@ -5,7 +5,7 @@ ghost use Rattle.asc_model.specs.Shape.{length_of};
 ghost use Rattle.asc_show.specs.Text.{cells_text, entry_text, line_text, names, place_text, why_text, word_of};
 
 use asc_shape::Shape;
-use asc_traj::{Entry, Why};
+use asc_traj::{Entry, Why, cells_of};
 use itoa::Buffer;
 use std::alloc::{AllocError, Global};
 
@@ -20,9 +20,9 @@ pub(crate) fn entry_text(alloc: Global, entry: &Entry, why: Why) -> Result<Vec<u
     put_number(&mut text, entry.steps())?;
     text.extend_from_slice(why_text(why).as_bytes())?;
     text.extend_from_slice(b"\nreads\n")?;
-    put_cells(&mut text, shape, entry.reads())?;
+    put_cells(&mut text, shape, &cells_of(alloc, entry.reads())?)?;
     text.extend_from_slice(b"writes\n")?;
-    put_cells(&mut text, shape, entry.writes())?;
+    put_cells(&mut text, shape, &cells_of(alloc, entry.writes())?)?;
     Ok(text)
 }
 

@@ -135,7 +135,8 @@ fn execute_specialized<B: Words, const UNTIL: bool>(
 /// most.
 ///
 /// Each arm does the same, as in `execute_specialized`. With many more arms the compiler no longer takes this into the
-/// loop of a trace, which then is slower. The last arm is for none of the operations that `decode_likely` answers.
+/// loop of a trace, which then is slower. The last arm is for none of the operations that `decode_likely` answers, and is
+/// a call, so that it takes no room here.
 #[inline(always)]
 pub(crate) fn execute_likely<B: Words, K>(
     bytes: &mut B,
@@ -166,22 +167,48 @@ pub(crate) fn execute_likely<B: Words, K>(
         Op::Bge => execute(bytes, shape, pc, instruction),
         Op::Bltu => execute(bytes, shape, pc, instruction),
         Op::Bgeu => execute(bytes, shape, pc, instruction),
+        Op::Lb => execute(bytes, shape, pc, instruction),
         Op::Lw => execute(bytes, shape, pc, instruction),
         Op::Lbu => execute(bytes, shape, pc, instruction),
         Op::Sb => execute(bytes, shape, pc, instruction),
         Op::Sw => execute(bytes, shape, pc, instruction),
         Op::Addi => execute(bytes, shape, pc, instruction),
+        Op::Xori => execute(bytes, shape, pc, instruction),
+        Op::Ori => execute(bytes, shape, pc, instruction),
         Op::Andi => execute(bytes, shape, pc, instruction),
         Op::Slli => execute(bytes, shape, pc, instruction),
         Op::Srli => execute(bytes, shape, pc, instruction),
+        Op::Srai => execute(bytes, shape, pc, instruction),
         Op::Add => execute(bytes, shape, pc, instruction),
         Op::Sub => execute(bytes, shape, pc, instruction),
         Op::Sltu => execute(bytes, shape, pc, instruction),
         Op::Xor => execute(bytes, shape, pc, instruction),
         Op::Or => execute(bytes, shape, pc, instruction),
         Op::And => execute(bytes, shape, pc, instruction),
-        _ => execute(bytes, shape, pc, instruction),
+        Op::Mul => execute(bytes, shape, pc, instruction),
+        _ => execute_rest(bytes, shape, pc, instruction),
     }
+}
+
+/// Carries out the instruction at this pc, as `execute` does, out of line: so `execute_likely` stays small enough to be
+/// taken into the loop of a trace.
+#[cold]
+#[inline(never)]
+fn execute_rest<B: Words>(bytes: &mut B, shape: Shape, pc: u32, instruction: Instr) -> Stepped
+    requires shape { shape ≡ (B.face bytes.old).state.shape }
+    requires registers { HasRegisters instruction }
+    requires at { AtInstruction (B.face bytes.old) pc }
+    requires version { let s = (B.face bytes.old).state in
+        IsOfVersion s.shape.version (effect_of (view_of s) instruction) }
+    requires room { 22 ≤ room_of (B.face bytes.old).marks }
+    ensures answer { let s = (B.face bytes.old).state in
+        result ≡ answer_of (outcome_of_word s.shape (view_of s) (Some instruction)) }
+    ensures face { let s = (B.face bytes.old).state in
+        B.face bytes.new ≡ face_after_outcome (B.face bytes.old)
+        (operand_places s.shape (view_of s) (Some instruction))
+        (outcome_of_word s.shape (view_of s) (Some instruction)) }
+{
+    execute(bytes, shape, pc, instruction)
 }
 
 /// The operation of an instruction.

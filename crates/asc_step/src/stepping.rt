@@ -44,15 +44,15 @@ pub fn try_step_of<B: Words, K>(bytes: &mut B, shape: Shape) -> Stepped
     let word = read_word(bytes, shape.place_of(pc));
     match decode_likely(word) {
         Some(instruction) => execute_likely::<B, K>(bytes, shape, pc, instruction),
-        None => execute_word(bytes, shape, pc, word),
+        None => execute_word(bytes, pc, word),
     }
 }
 
-/// Carries out the word that was fetched from this pc, whatever it is.
+/// Carries out the word that was fetched from this pc, whatever it is. It is not handed the shape, which a loop would
+/// keep in memory for it alone.
 #[cold]
 #[inline(never)]
-fn execute_word<B: Words>(bytes: &mut B, shape: Shape, pc: u32, word: u32) -> Stepped
-    requires shape { shape ≡ (B.face bytes.old).state.shape }
+fn execute_word<B: Words>(bytes: &mut B, pc: u32, word: u32) -> Stepped
     requires at { AtInstruction (B.face bytes.old) pc }
     requires word { let s = (B.face bytes.old).state in word ≡ fetch s.shape (view_of s) }
     requires room { 22 ≤ room_of (B.face bytes.old).marks }
@@ -63,6 +63,7 @@ fn execute_word<B: Words>(bytes: &mut B, shape: Shape, pc: u32, word: u32) -> St
         (operand_places s.shape (view_of s) (decode s.shape.version word))
         (outcome_of_word s.shape (view_of s) (decode s.shape.version word)) }
 {
+    let shape = bytes.shape();
     match decode(word, has_atomics(shape.version())) {
         Some(instruction) => execute(bytes, shape, pc, instruction),
         None => fault(FaultKind::Illegal, pc, word),

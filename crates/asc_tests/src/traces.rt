@@ -1,6 +1,6 @@
 //! A trace of a state whose bytes are all 0xFF.
 use asc_depvec::Tracer;
-use asc_shape::{Shape, State};
+use asc_shape::{Guess, Shape, Snapshot, State};
 use asc_step::{Fault, FaultKind};
 use asc_traj::{Never, Stop, Traced, Why, trace};
 
@@ -15,7 +15,9 @@ fn all_ones(rt: HostRuntime) {
         }
     }
     let mut tracer = Tracer::new(rt.alloc(), state.shape(), 64).expect(&rt, "memory");
-    tracer.start(&state);
+    let guess = Guess::last(Snapshot::of(rt.alloc(), &state).expect(&rt, "memory"));
+    assert!(rt; guess.shape() == state.shape());
+    tracer.start(guess);
     let stop = Stop {
         pc: 0x10000,
         laps: 1,
@@ -34,5 +36,5 @@ fn all_ones(rt: HostRuntime) {
             why: Why::Fault(fault)
         }
     );
-    assert!(rt; tracer.touched().is_empty());
+    assert_eq!(rt; tracer.mark(), 0);
 }

@@ -1,32 +1,28 @@
 -- The entry of the steps that a tracer stands for.
-use Rattle.std.proofs.Common.{◌≡◌, ℕ, ◌+◌, ◌^◌, ◌<◌, ◌≤◌, Bool, true, false, List, [], ◌∷◌, map, length, slice_index, Some, if◌then◌else◌, refl, sym, ap, subst, ◌∙◌, arith}
+use Rattle.std.proofs.Common.{◌≡◌, ℕ, zero, suc, ◌+◌, ◌*◌, ◌/◌, ◌%◌, ◌<◌, ◌≤◌, ◌||◌, Bool, true, false, not, List, ◌∷◌, ◌++◌, length, Some, refl, sym, ap, subst, ◌∙◌, inl, inr, arith}
 use Rattle.std.specs.Prelude.{All, filter}
-use Rattle.std.specs.List.{flat_map}
-use Rattle.std.specs.List.Sorted.{IsPermutation, IsNonDecreasingBy}
-use Rattle.std.proofs.lemmas.List.Sorted.{All-permutation}
-use Rattle.std.proofs.lemmas.List.Elements.{All-head, All-tail, All-filter}
-use Rattle.asc_model.specs.Shape.{length_of, most_size, start_of}
-use Rattle.asc_model.specs.declared.version.Version.{Version}
-use Rattle.asc_model.specs.declared.version.Version.TheVariants.{One, Two}
+use Rattle.std.specs.List.{list_any}
+use Rattle.std.proofs.lemmas.Bool.{cases_Bool, cases_eq, cond-false, cond-true}
+use Rattle.std.proofs.lemmas.List.Elements.{All-nil, All-cons, filter-append}
+use Rattle.asc_model.specs.declared.status.Status.{Status}
+use Rattle.asc_model.specs.declared.status.Status.TheVariants.{Untouched}
+use Rattle.asc_model.specs.Shape.{length_of}
 use Rattle.asc_model.specs.State.{State, IsState}
 use Rattle.asc_model.specs.Step.{At}
 use Rattle.asc_model.specs.Places.{places_from}
 use Rattle.asc_model.specs.DependencyVector.{is_among, first_reads, written_in}
 use Rattle.asc_model.specs.Entry.{Entry, IsTrueEntry, cells_among, entry_of}
-use Rattle.asc_model.proofs.Numbers.{AreCells, AreBytes-bytes_after, length-bytes_after}
-use Rattle.asc_model.proofs.Listings.{RisesFrom}
+use Rattle.asc_model.proofs.Numbers.{length-bytes_after}
 use Rattle.asc_model.proofs.Entries.{entry_of-is, entries_are_true}
-use Rattle.asc_shape.specs.Face.{FitPlaces, status_at, is_untouched}
+use Rattle.asc_shape.specs.Face.{status_at, is_untouched}
 use Rattle.asc_depvec.specs.Dependency.{status_by}
-use Rattle.asc_depvec.specs.Tracer.{Tracing, face_of}
-use Rattle.asc_depvec.proofs.Starts.{starts_are_told}
+use Rattle.asc_depvec.specs.Tracer.{Tracing, is_touched_word, touched_words}
+use Rattle.asc_depvec.proofs.Bits.{filter-alike, filter-none, filter-parts}
+use Rattle.asc_depvec.proofs.Marking.{untouched_is}
 use Rattle.asc_traj.specs.Trace.{StandsFor, origin_of}
-use Rattle.asc_traj.specs.declared.entry.Run.{Run}
-use Rattle.asc_traj.specs.Inside.{IsRun, cells_of, is_read_first, is_written}
-use Rattle.asc_depvec.proofs.Undoing.{touched-within}
-use Rattle.asc_traj.proofs.Places.{places_of}
-use Rattle.asc_traj.proofs.Runs.{HasSame, HasSame-runs, rising}
-use Rattle.asc_traj.proofs.Sorting.{filter-alike, cells_are, cells_at, passed, all_sorted}
+use Rattle.asc_traj.specs.Inside.{is_read_first, is_written, now_at, places_of_words, read_first, started, written}
+use Rattle.asc_traj.proofs.Matching.{length_whole}
+use Rattle.asc_traj.proofs.Splits.{read_first-is, written-is}
 
 -- ---- statuses
 
@@ -42,95 +38,100 @@ written_by true false = refl
 written_by false true = refl
 written_by false false = refl
 
--- ---- the start
+-- ---- the places of touched words
 
-all-AreCells : (cells : List (ℕ × ℕ)) → All (λ cell. cell.1 < 2 ^ 8) cells → AreCells cells
-all-AreCells [] h = tt
-all-AreCells (cell ∷ cells) h =
-    (All-head (λ c. c.1 < 2 ^ 8) cell cells h, all-AreCells cells (All-tail (λ c. c.1 < 2 ^ 8) cell cells h))
+or_none : (a b : Bool) → (a || b) ≡ false → (a ≡ false) × (b ≡ false)
+or_none true b e = absurd (true≢false e)
+  where
+    true≢false : true ≡ false → ⊥
+    true≢false h = absurd cc
+or_none false b e = (refl, e)
 
-length-start : (t : Tracing) → length (origin_of t).bytes ≡ length t.state.bytes
-length-start t = length-bytes_after t.state.bytes t.touched
+-- a test that passes none of places in a row fails at each
+any_none : (f : ℕ → Bool) (n place p : ℕ) → list_any f (places_from place n) ≡ false → place ≤ p → p < place + n → f p ≡ false
+any_none f zero place p none least most = absurd (omega arith)
+any_none f (suc n) place p none least most =
+    let parts = or_none (f place) (list_any f (places_from (place + 1) n)) none in
+    elim (cases_eq p place) [
+      | inl same ↦ ap f same ∙ parts.0
+      | inr other ↦ any_none f n (place + 1) p parts.1 (omega (arith, least, other)) (omega (arith, most))
+    ]
 
--- where a tracer started is a state
-IsState-start : (t : Tracing) → IsState t.state → All (λ cell. cell.1 < 2 ^ 8) t.touched → IsState (origin_of t)
-IsState-start t good bytes = record {
-  shape = good.shape;
-  length = length-start t ∙ good.length;
-  bytes = AreBytes-bytes_after t.state.bytes t.touched (all-AreCells t.touched bytes) good.bytes;
-}
+not_false : (b : Bool) → not b ≡ false → b ≡ true
+not_false true h = refl
+not_false false h = absurd cc
+
+-- a test that fails at all places of the words that another one fails at passes as many in the words that that one passes
+words-cover : (g h : ℕ → Bool) → ((word p : ℕ) → h word ≡ false → 4 * word ≤ p → p < 4 * word + 4 → g p ≡ false) → (m from : ℕ)
+    → filter g (places_of_words (filter h (places_from from m))) ≡ filter g (places_from (4 * from) (4 * m))
+words-cover g h fails zero from = refl
+words-cover g h fails (suc m) from =
+    let rest = filter h (places_from (from + 1) m) in
+    let four : 4 + 4 * m ≡ 4 * suc m = omega arith in
+    let next : 4 * (from + 1) ≡ 4 * from + 4 = omega arith in
+    let whole : filter g (places_from (4 * from) 4) ++ filter g (places_from (4 * (from + 1)) (4 * m)) ≡ filter g (places_from (4 * from) (4 * suc m)) =
+    ap (λ (k : ℕ). filter g (places_from (4 * from) 4) ++ filter g (places_from k (4 * m))) next
+    ∙ sym (filter-parts g 4 (4 * m) (4 * from)) ∙ ap (λ (k : ℕ). filter g (places_from (4 * from) k)) four in
+    let later = words-cover g h fails m (from + 1) in
+    elim (cases_Bool (h from)) [
+      | inl e ↦
+          ap (λ (list : List ℕ). filter g (places_of_words list)) (cond-true (h from) (from ∷ rest) rest e)
+          ∙ filter-append g (places_from (4 * from) 4) (places_of_words rest)
+          ∙ ap (λ (list : List ℕ). filter g (places_from (4 * from) 4) ++ list) later ∙ whole
+      | inr e ↦
+          ap (λ (list : List ℕ). filter g (places_of_words list)) (cond-false (h from) (from ∷ rest) rest e) ∙ later
+          ∙ sym (ap (λ (list : List ℕ). list ++ filter g (places_from (4 * (from + 1)) (4 * m))) (filter-none g (4 * from) 4 (λ p least most. fails from p e least most))) ∙ whole
+    ]
+
+-- a test of statuses that an untouched place does not pass
+pub touched-cover : (t : Tracing) (q : Status → Bool) → q Untouched ≡ false → length t.statuses % 4 ≡ 0
+    → filter (λ p. q (status_at t.statuses p)) (places_of_words (touched_words t)) ≡ filter (λ p. q (status_at t.statuses p)) (places_from 0 (length t.statuses))
+touched-cover t q none whole =
+    let all : 4 * (length t.statuses / 4) ≡ length t.statuses = omega (arith, whole) in
+    words-cover (λ p. q (status_at t.statuses p)) (is_touched_word t.statuses)
+    (λ word p e least most.
+    ap q (untouched_is (status_at t.statuses p) (not_false (is_untouched (status_at t.statuses p)) (any_none (λ place. not (is_untouched (status_at t.statuses place))) 4 (4 * word) p e least most))) ∙ none)
+    (length t.statuses / 4) 0
+    ∙ ap (λ (n : ℕ). filter (λ p. q (status_at t.statuses p)) (places_from 0 n)) all
 
 -- ---- the entry
 
--- What makes an entry: a tracer that stands for some steps, its touched places in rising order, those that were read
--- first, and those that were written with their bytes.
-pub record Makes (n : ℕ) (t : Tracing) (sorted reads writes : List (ℕ × ℕ)) : Type 0 where
+-- What makes an entry: a tracer that stands for some steps, the places of its touched words that were read first, and
+-- those that were written with their bytes.
+pub record Makes (n : ℕ) (t : Tracing) (reads writes : List (ℕ × ℕ)) : Type 0 where
   pub least : 1 ≤ n
   pub stands : StandsFor n t
   pub good : IsState t.state
-  pub bytes : All (λ cell. cell.1 < 2 ^ 8) t.touched
-  pub same : HasSame t.touched sorted
-  pub up : RisesFrom 0 (places_of sorted)
-  pub read : reads ≡ filter (λ cell. is_read_first (status_at t.statuses cell.0)) sorted
-  pub written : writes ≡ map (λ cell. (cell.0, slice_index t.state.bytes cell.0)) (filter (λ cell. is_written (status_at t.statuses cell.0)) sorted)
+  pub begin : IsState (origin_of t)
+  pub read : reads ≡ read_first t (started t (places_of_words (touched_words t)))
+  pub written : writes ≡ written t (started t (places_of_words (touched_words t)))
 
--- the cells of the runs of the touched places, by rising place, make it
-pub runs_make : (n : ℕ) (t : Tracing) (runs moved : List Run) (reads writes : List (ℕ × ℕ)) → 1 ≤ n → StandsFor n t → IsState t.state → All (λ cell. cell.1 < 2 ^ 8) t.touched
-    → All (IsRun t.touched) runs → flat_map (cells_of t.touched) runs ≡ t.touched → IsPermutation runs moved → IsNonDecreasingBy (λ run. run.place) moved
-    → reads ≡ filter (λ cell. is_read_first (status_at t.statuses cell.0)) (flat_map (cells_of t.touched) moved)
-    → writes ≡ map (λ cell. (cell.0, slice_index t.state.bytes cell.0)) (filter (λ cell. is_written (status_at t.statuses cell.0)) (flat_map (cells_of t.touched) moved))
-    → Makes n t (flat_map (cells_of t.touched) moved) reads writes
-runs_make n t runs moved reads writes least stands good bytes are whole by sorted read written =
-    let same = HasSame-runs t.touched runs moved whole by in
-    let once = λ (p : ℕ). subst (λ (m : ℕ). m ≤ 1) (sym (same.times p ∙ stands.touched.1 p)) (by_status (is_untouched (status_at t.statuses p))) in
-    record {
-      least = least;
-      stands = stands;
-      good = good;
-      bytes = bytes;
-      same = same;
-      up = rising t.touched moved (All-permutation (IsRun t.touched) runs moved by are) sorted once;
-      read = read;
-      written = written;
-    }
-  where
-    by_status : (b : Bool) → (if b then 0 else 1) ≤ 1
-    by_status true = omega arith
-    by_status false = omega arith
+-- a tracer's statuses are whole words
+pub whole_words : (t : Tracing) (n : ℕ) → StandsFor n t → IsState t.state → length t.statuses % 4 ≡ 0
+whole_words t n stands good = ap (λ (k : ℕ). k % 4) (stands.touched.0 ∙ good.length) ∙ length_whole t.state.shape good.shape
 
-module _ (n : ℕ) (t : Tracing) (sorted reads writes : List (ℕ × ℕ)) (makes : Makes n t sorted reads writes) where
+module _ (n : ℕ) (t : Tracing) (reads writes : List (ℕ × ℕ)) (makes : Makes n t reads writes) where
   abbrev start : State
   start = origin_of t
 
-  -- the places that steps touch so, by the statuses
-  reads-places : places_of (filter (λ cell. is_read_first (status_at t.statuses cell.0)) sorted) ≡ filter (λ p. is_among p (first_reads n start)) (places_from 0 (length start.bytes))
-  reads-places =
-      passed (length t.state.bytes) t.statuses t.touched sorted makes.stands.touched makes.same makes.up is_read_first refl
-      ∙ filter-alike (λ p. is_read_first (status_at t.statuses p)) (λ p. is_among p (first_reads n start)) 0 (length t.state.bytes)
-      (λ p least most. ap is_read_first (makes.stands.statuses p (omega arith)) ∙ read_by (is_among p (first_reads n start)) (is_among p (written_in n start)))
-      ∙ ap (λ m. filter (λ p. is_among p (first_reads n start)) (places_from 0 m)) (sym (length-start t))
-
-  writes-places : places_of (filter (λ cell. is_written (status_at t.statuses cell.0)) sorted) ≡ filter (λ p. is_among p (written_in n start)) (places_from 0 (length t.state.bytes))
-  writes-places =
-      passed (length t.state.bytes) t.statuses t.touched sorted makes.stands.touched makes.same makes.up is_written refl
-      ∙ filter-alike (λ p. is_written (status_at t.statuses p)) (λ p. is_among p (written_in n start)) 0 (length t.state.bytes)
-      (λ p least most. ap is_written (makes.stands.statuses p (omega arith)) ∙ written_by (is_among p (first_reads n start)) (is_among p (written_in n start)))
+  size : length t.statuses ≡ length t.state.bytes
+  size = makes.stands.touched.0
 
   reads-are : reads ≡ cells_among (first_reads n start) start
   reads-are =
-      let told = (starts_are_told t makes.stands.touched).touched in
-      let same = λ (cell : ℕ × ℕ). slice_index start.bytes cell.0 ≡ cell.1 in
-      let kept = filter (λ (cell : ℕ × ℕ). is_read_first (status_at t.statuses cell.0)) sorted in
-      makes.read
-      ∙ cells_are start.bytes kept (All-filter (λ cell. is_read_first (status_at t.statuses cell.0)) same sorted
-      (all_sorted (length t.state.bytes) t.statuses t.touched sorted makes.stands.touched makes.same makes.up same told))
-      ∙ ap (map (λ place. (place, slice_index start.bytes place))) reads-places
+      makes.read ∙ read_first-is t (places_of_words (touched_words t))
+      ∙ ap (started t) (touched-cover t is_read_first refl (whole_words t n makes.stands makes.good)
+      ∙ filter-alike (λ p. is_read_first (status_at t.statuses p)) (λ p. is_among p (first_reads n start)) 0 (length t.statuses)
+      (λ p least most. ap is_read_first (makes.stands.statuses p (omega (arith, most, size))) ∙ read_by (is_among p (first_reads n start)) (is_among p (written_in n start)))
+      ∙ ap (λ m. filter (λ p. is_among p (first_reads n start)) (places_from 0 m)) (size ∙ sym (length-bytes_after t.state.bytes t.touched)))
 
   writes-are : writes ≡ cells_among (written_in n start) t.state
   writes-are =
-      makes.written
-      ∙ cells_at t.state.bytes (filter (λ cell. is_written (status_at t.statuses cell.0)) sorted)
-      ∙ ap (map (λ place. (place, slice_index t.state.bytes place))) writes-places
+      makes.written ∙ written-is t (places_of_words (touched_words t))
+      ∙ ap (now_at t) (touched-cover t is_written refl (whole_words t n makes.stands makes.good)
+      ∙ filter-alike (λ p. is_written (status_at t.statuses p)) (λ p. is_among p (written_in n start)) 0 (length t.statuses)
+      (λ p least most. ap is_written (makes.stands.statuses p (omega (arith, most, size))) ∙ written_by (is_among p (first_reads n start)) (is_among p (written_in n start)))
+      ∙ ap (λ m. filter (λ p. is_among p (written_in n start)) (places_from 0 m)) size)
 
   abbrev pub entry : Entry
   entry = record { shape = t.state.shape; reads = reads; writes = writes; steps = n }
@@ -144,19 +145,23 @@ module _ (n : ℕ) (t : Tracing) (sorted reads writes : List (ℕ × ℕ)) (make
 
   -- and so it is true
   pub entry_true : IsTrueEntry entry
-  entry_true = entries_are_true n start entry (IsState-start t makes.good makes.bytes) makes.least entry_is
+  entry_true = entries_are_true n start entry makes.begin makes.least entry_is
 
--- ---- places
+-- ---- words
 
--- touched places are places of the state
-pub touched_places : (t : Tracing) → IsState t.state → FitPlaces (length t.state.bytes) (face_of t).marks → All (λ cell. cell.0 < length_of t.state.shape) t.touched
-touched_places t good fits = subst (λ m. All (λ cell. cell.0 < m) t.touched) good.length (touched-within (length t.state.bytes) t.statuses t.touched fits)
+All-filter_places : (g : ℕ → Bool) (n place : ℕ) → All (λ p. p < place + n) (filter g (places_from place n))
+All-filter_places g zero place = All-nil (λ p. p < place + 0)
+All-filter_places g (suc n) place =
+    let next : place + 1 + n ≡ place + suc n = omega arith in
+    let rest = filter g (places_from (place + 1) n) in
+    let later = subst (λ (k : ℕ). All (λ p. p < k) rest) next (All-filter_places g n (place + 1)) in
+    elim (cases_Bool (g place)) [
+      | inl e ↦ subst (All (λ p. p < place + suc n)) (sym (cond-true (g place) (place ∷ rest) rest e)) (All-cons (λ p. p < place + suc n) place rest (omega arith) later)
+      | inr e ↦ subst (All (λ p. p < place + suc n)) (sym (cond-false (g place) (place ∷ rest) rest e)) later
+    ]
 
--- places of a state are below 2^31
-start_low : (version : Version) (size : ℕ) → size ≤ most_size → start_of version + size ≤ 2 ^ 31
-start_low One size most = omega arith
-start_low Two size most = omega arith
-
--- and so they are low
-pub touched_low : (t : Tracing) → IsState t.state → FitPlaces (length t.state.bytes) (face_of t).marks → All (λ cell. cell.0 < 2 ^ 31) t.touched
-touched_low t good fits = λ k d l. omega (arith, touched_places t good fits k d l, start_low t.state.shape.version t.state.shape.size good.shape.size.most)
+-- each touched word stands in the state
+pub words-within : (t : Tracing) (n : ℕ) → StandsFor n t → IsState t.state → All (λ word. 4 * word + 4 ≤ length_of t.state.shape) (touched_words t)
+words-within t n stands good =
+    let size = stands.touched.0 ∙ good.length in
+    λ k d lt. let h = All-filter_places (is_touched_word t.statuses) (length t.statuses / 4) 0 k d lt in omega (arith, h, size, whole_words t n stands good)

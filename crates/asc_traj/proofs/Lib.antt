@@ -1,13 +1,11 @@
 pub mod Places
 pub mod Attempts
 pub mod Traces
-pub mod Sorting
 pub mod Entries
-pub mod Runs
 pub mod Matching
 pub mod Looks
 pub mod Finding
 pub mod HaltSteps
 pub mod HaltShared
 pub mod Splits
-pub mod Halves
+pub mod Parts

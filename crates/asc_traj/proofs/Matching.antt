@@ -1,12 +1,14 @@
 -- An entry matches a state exactly where the test says so.
-use Rattle.std.proofs.Common.{◌≡◌, ◌==◌, ◌&&◌, ℕ, Bool, true, false, List, [], ◌∷◌, slice_index, refl, sym, ap, ◌∙◌}
+use Rattle.std.proofs.Common.{◌≡◌, ◌+◌, ◌%◌, ◌==◌, ◌&&◌, ℕ, Bool, true, false, List, [], ◌∷◌, slice_index, refl, sym, ap, ◌∙◌, arith}
 use Rattle.std.specs.Prelude.{All}
 use Rattle.std.specs.List.{list_all}
 use Rattle.std.proofs.lemmas.Bool.{and_parts, eqb-true, eq-eqb, false≢true}
 use Rattle.std.proofs.lemmas.List.Elements.{All-nil, All-cons, All-head, All-tail}
 use Rattle.asc_model.specs.State.{State}
 use Rattle.asc_model.specs.Entry.{Entry, Matches}
-use Rattle.asc_model.specs.Shape.{is_same_shape}
+use Rattle.asc_model.specs.declared.version.Version.{Version}
+use Rattle.asc_model.specs.declared.version.Version.TheVariants.{One, Two}
+use Rattle.asc_model.specs.Shape.{IsShape, Shape, is_same_shape, length_of, start_of}
 use Rattle.asc_model.proofs.Shapes.{is_same_shape-true, is_same_shape-same}
 use Rattle.asc_traj.specs.Content.{matches}
 
@@ -50,3 +52,11 @@ matches-unlike s e unlike = unlike_by (matches s e) refl
     unlike_by : (b : Bool) → matches s e ≡ b → false ≡ b
     unlike_by true h = absurd (unlike (is_same_shape-true s.shape e.shape (and_parts (is_same_shape s.shape e.shape) _ h).0))
     unlike_by false h = refl
+
+-- a state has a multiple of four bytes
+pub length_whole : (shape : Shape) → IsShape shape → length_of shape % 4 ≡ 0
+length_whole shape is = by shape.version
+  where
+    by : (version : Version) → (start_of version + shape.size) % 4 ≡ 0
+    by One = omega (arith, is.size.aligned)
+    by Two = omega (arith, is.size.aligned)

@@ -1,110 +1,167 @@
--- Cells put behind two lists: those that were read first, and those that were written.
-use Rattle.std.proofs.Common.{◌≡◌, ℕ, zero, suc, ◌+◌, ◌<◌, ◌≤◌, Bool, true, false, cond, List, [], ◌∷◌, ◌++◌, length, map, get_or, slice_index, if◌then◌else◌, refl, sym, ap, subst, ◌∙◌, arith}
-use Rattle.std.specs.Prelude.{All, filter}
-use Rattle.std.proofs.lemmas.List.{append-nil, append_assoc, length-append, length-map, map-append}
-use Rattle.std.proofs.lemmas.List.Elements.{All-head, All-tail, filter-append}
-use Rattle.std.proofs.lemmas.List.Sums.{count_by-le-length, length-filter}
+-- The parts of a word's places: those that were read first, and those that were written.
+use Rattle.std.proofs.Common.{◌≡◌, ℕ, zero, suc, ◌+◌, ◌*◌, ◌/◌, ◌%◌, ◌^◌, ◌<◌, ◌≤◌, ◌==◌, Bool, true, false, cond, List, [], ◌∷◌, ◌++◌, length, map, take, slice_index, slice_index_or, refl, sym, ap, ◌∙◌, inl, inr, arith}
+use Rattle.std.specs.Prelude.{filter}
+use Rattle.std.proofs.lemmas.Bool.{cases_Bool, cond-false, cond-true}
+use Rattle.std.proofs.lemmas.Grind.{flat_map-append}
+use Rattle.std.proofs.lemmas.List.{append-nil, map-append, take_more}
+use Rattle.std.proofs.lemmas.List.Elements.{filter-append}
 use Rattle.asc_model.specs.declared.status.Status.{Status}
-use Rattle.asc_model.specs.Places.{places_from}
+use Rattle.asc_model.specs.Number.{AreBytes, bytes_of, word_at}
+use Rattle.asc_model.specs.Places.{cells, places_from}
+use Rattle.asc_shape.proofs.Guesses.{bytes_at, bytes_of-number_at}
 use Rattle.asc_shape.specs.Face.{status_at}
 use Rattle.asc_depvec.specs.Tracer.{HaveStatus, Tracing}
-use Rattle.asc_traj.specs.Halves.{Parted}
-use Rattle.asc_traj.specs.Inside.{HasRoomFor, IsRow, is_read_first, is_written, read_first, with_split, written}
-use Rattle.asc_traj.proofs.Places.{places_of}
+use Rattle.asc_traj.specs.Inside.{is_read_first, is_written, mask_of, now_at, places_of_words, read_first, started, written}
+use Rattle.asc_traj.specs.Parts.{masked}
+use Rattle.asc_traj.specs.Trace.{origin_of}
+use Rattle.asc_traj.proofs.Parts.{here, masked-none, masked-suc, masked-zero}
 
--- ---- one after another
+-- ---- filters of places with bytes
 
-pub split-none : (t : Tracing) (lists : Parted) → lists ≡ with_split t [] lists
-split-none t lists =
-    ap (λ (list : List (ℕ × ℕ)). record lists { reads = list }) (sym (append-nil lists.reads))
-    ∙ ap (λ (list : List (ℕ × ℕ)). record lists { reads = lists.reads ++ []; writes = list }) (sym (append-nil lists.writes))
+pub filter-started : (t : Tracing) (g : ℕ → Bool) (places : List ℕ) → filter (λ cell. g cell.0) (started t places) ≡ started t (filter g places)
+filter-started t g [] = refl
+filter-started t g (place ∷ places) =
+    let rest = filter-started t g places in
+    elim (cases_Bool (g place)) [
+      | inl e ↦
+          cond-true (g place) ((place, slice_index (origin_of t).bytes place) ∷ filter (λ cell. g cell.0) (started t places)) (filter (λ cell. g cell.0) (started t places)) e ∙ ap (λ (list : List (ℕ × ℕ)). (place, slice_index (origin_of t).bytes place) ∷ list) rest
+          ∙ ap (started t) (sym (cond-true (g place) (place ∷ filter g places) (filter g places) e))
+      | inr e ↦
+          cond-false (g place) ((place, slice_index (origin_of t).bytes place) ∷ filter (λ cell. g cell.0) (started t places)) (filter (λ cell. g cell.0) (started t places)) e ∙ rest
+          ∙ ap (started t) (sym (cond-false (g place) (place ∷ filter g places) (filter g places) e))
+    ]
 
-pub split-more : (t : Tracing) (cells others : List (ℕ × ℕ)) (lists : Parted) → with_split t others (with_split t cells lists) ≡ with_split t (cells ++ others) lists
-split-more t cells others lists =
-    ap (λ (list : List (ℕ × ℕ)). record lists { reads = list; writes = (lists.writes ++ written t cells) ++ written t others })
-    (append_assoc lists.reads (read_first t cells) (read_first t others)
-    ∙ ap (λ (list : List (ℕ × ℕ)). lists.reads ++ list) (sym (filter-append (λ cell. is_read_first (status_at t.statuses cell.0)) cells others)))
-    ∙ ap (λ (list : List (ℕ × ℕ)). record lists { reads = lists.reads ++ read_first t (cells ++ others); writes = list })
-    (append_assoc lists.writes (written t cells) (written t others)
-    ∙ ap (λ (list : List (ℕ × ℕ)). lists.writes ++ list) (sym both))
-  where
-    both : written t (cells ++ others) ≡ written t cells ++ written t others
-    both =
-        ap (map (λ (cell : ℕ × ℕ). (cell.0, slice_index t.state.bytes cell.0))) (filter-append (λ cell. is_written (status_at t.statuses cell.0)) cells others)
-        ∙ map-append (λ (cell : ℕ × ℕ). (cell.0, slice_index t.state.bytes cell.0)) (filter (λ cell. is_written (status_at t.statuses cell.0)) cells)
-        (filter (λ cell. is_written (status_at t.statuses cell.0)) others)
+pub filter-now : (t : Tracing) (g : ℕ → Bool) (places : List ℕ) → filter (λ cell. g cell.0) (now_at t places) ≡ now_at t (filter g places)
+filter-now t g [] = refl
+filter-now t g (place ∷ places) =
+    let rest = filter-now t g places in
+    elim (cases_Bool (g place)) [
+      | inl e ↦
+          cond-true (g place) ((place, slice_index t.state.bytes place) ∷ filter (λ cell. g cell.0) (now_at t places)) (filter (λ cell. g cell.0) (now_at t places)) e ∙ ap (λ (list : List (ℕ × ℕ)). (place, slice_index t.state.bytes place) ∷ list) rest
+          ∙ ap (now_at t) (sym (cond-true (g place) (place ∷ filter g places) (filter g places) e))
+      | inr e ↦
+          cond-false (g place) ((place, slice_index t.state.bytes place) ∷ filter (λ cell. g cell.0) (now_at t places)) (filter (λ cell. g cell.0) (now_at t places)) e ∙ rest
+          ∙ ap (now_at t) (sym (cond-false (g place) (place ∷ filter g places) (filter g places) e))
+    ]
 
--- lists with cells behind them have room for as many fewer
-pub room-less : (t : Tracing) (cells : List (ℕ × ℕ)) (lists now : Parted) (n m : ℕ) → now ≡ with_split t cells lists → length cells + n ≤ m → HasRoomFor lists m → HasRoomFor now n
-room-less t cells lists now n m is less room =
-    let reads = length-append lists.reads (read_first t cells) in
-    let writes = length-append lists.writes (written t cells) in
-    let passed = most (λ cell. is_read_first (status_at t.statuses cell.0)) in
-    let kept = most (λ cell. is_written (status_at t.statuses cell.0)) in
+now-started : (t : Tracing) (places : List ℕ) → map {B = ℕ × ℕ} (λ (cell : ℕ × ℕ). (cell.0, slice_index t.state.bytes cell.0)) (started t places) ≡ now_at t places
+now-started t [] = refl
+now-started t (place ∷ places) = ap (λ (list : List (ℕ × ℕ)). (place, slice_index t.state.bytes place) ∷ list) (now-started t places)
+
+-- those that were read first, and those that were written, by their places
+pub read_first-is : (t : Tracing) (places : List ℕ) → read_first t (started t places) ≡ started t (filter (λ p. is_read_first (status_at t.statuses p)) places)
+read_first-is t places = filter-started t (λ p. is_read_first (status_at t.statuses p)) places
+
+pub written-is : (t : Tracing) (places : List ℕ) → written t (started t places) ≡ now_at t (filter (λ p. is_written (status_at t.statuses p)) places)
+written-is t places =
+    ap (map (λ (cell : ℕ × ℕ). (cell.0, slice_index t.state.bytes cell.0))) (filter-started t (λ p. is_written (status_at t.statuses p)) places)
+    ∙ now-started t (filter (λ p. is_written (status_at t.statuses p)) places)
+
+-- ---- one list of places behind another
+
+pub read_first-append : (t : Tracing) (a b : List ℕ) → read_first t (started t (a ++ b)) ≡ read_first t (started t a) ++ read_first t (started t b)
+read_first-append t a b =
+    let g = λ (cell : ℕ × ℕ). is_read_first (status_at t.statuses cell.0) in
+    ap (filter g) (map-append _ a b) ∙ filter-append g (started t a) (started t b)
+
+pub written-append : (t : Tracing) (a b : List ℕ) → written t (started t (a ++ b)) ≡ written t (started t a) ++ written t (started t b)
+written-append t a b =
+    let g = λ (cell : ℕ × ℕ). is_written (status_at t.statuses cell.0) in
     let with_now : ℕ × ℕ → ℕ × ℕ = λ cell. (cell.0, slice_index t.state.bytes cell.0) in
-    let same = length-map (filter (λ cell. is_written (status_at t.statuses cell.0)) cells) with_now in
-    subst (λ (lists : Parted). HasRoomFor lists n) (sym is) (record {
-      reads = omega (arith, reads, passed, less, room.reads);
-      writes = omega (arith, writes, kept, same, less, room.writes);
-    })
-  where
-    most : (q : ℕ × ℕ → Bool) → length (filter q cells) ≤ length cells
-    most q = omega (arith, length-filter q cells, count_by-le-length q cells)
+    ap (λ (list : List (ℕ × ℕ)). map with_now (filter g list)) (map-append _ a b)
+    ∙ ap (map with_now) (filter-append g (started t a) (started t b))
+    ∙ map-append with_now (filter g (started t a)) (filter g (started t b))
 
--- ---- rows
+-- the places of one word more
+pub words-take : (words : List ℕ) (i d : ℕ) → i < length words → places_of_words (take (i + 1) words) ≡ places_of_words (take i words) ++ places_from (4 * slice_index_or words i d) 4
+words-take words i d within =
+    let row = λ (word : ℕ). places_from (4 * word) 4 in
+    ap places_of_words (take_more words i d within) ∙ flat_map-append row (take i words) (slice_index_or words i d ∷ [])
+    ∙ ap (λ (list : List ℕ). places_of_words (take i words) ++ list) (append-nil (row (slice_index_or words i d)))
 
--- cells at the places from a place on are a row
-pub IsRow-from : (place : ℕ) (cells : List (ℕ × ℕ)) → places_of cells ≡ places_from place (length cells) → IsRow cells
-IsRow-from place [] row = refl
-IsRow-from place (cell ∷ cells) row =
-    let first : place ≡ cell.0 = cc in
-    subst (λ (p : ℕ). places_of (cell ∷ cells) ≡ places_from p (suc (length cells))) first row
+-- ---- masks
 
--- ---- cells of one status
+-- the n lowest bits of a mask are those of a test of places from one on
+abbrev pub HasBits : (n mask place : ℕ) → (ℕ → Bool) → Type 0
+HasBits zero mask place g = Unit {0}
+HasBits (suc n) mask place g = ((mask % 2 == 1) ≡ g place) × HasBits n (mask / 2) (place + 1) g
 
--- a test of the status passes all of them or none
-filter-same : (q : Status → Bool) (statuses : List Status) (status : Status) (place n : ℕ) (cells : List (ℕ × ℕ)) → places_of cells ≡ places_from place n
-    → HaveStatus statuses status place n → filter (λ cell. q (status_at statuses cell.0)) cells ≡ (if q status then cells else [])
-filter-same q statuses status place n [] row have = none (q status)
-  where
-    none : (b : Bool) → ◌≡◌ {A = List (ℕ × ℕ)} [] (if b then [] else [])
-    none true = refl
-    none false = refl
-filter-same q statuses status place zero (cell ∷ cells) row have = absurd (cc)
-filter-same q statuses status place (suc n) (cell ∷ cells) row have =
-    let first : cell.0 ≡ place = cc in
-    let others : places_of cells ≡ places_from (place + 1) n = cc in
-    let rest = filter (λ (c : ℕ × ℕ). q (status_at statuses c.0)) cells in
-    ap (λ (s : Status). cond (q s) (cell ∷ rest) rest) (ap (status_at statuses) first ∙ have place (omega arith) (omega arith))
-    ∙ step (q status) rest (filter-same q statuses status (place + 1) n cells others (λ k least most. have k (omega arith) (omega arith)))
-  where
-    step : (b : Bool) (rest : List (ℕ × ℕ)) → rest ≡ (if b then cells else []) → cond b (cell ∷ rest) rest ≡ (if b then cell ∷ cells else [])
-    step true rest e = ap (λ (list : List (ℕ × ℕ)). cell ∷ list) e
-    step false rest e = e
+one : (b : Bool) (cell : ℕ × ℕ) (rest : List (ℕ × ℕ)) → here b cell ++ rest ≡ cond b (cell ∷ rest) rest
+one true cell rest = refl
+one false cell rest = refl
 
--- what is put behind the lists for a row of four cells of one status
-pub split-same : (t : Tracing) (status : Status) (cells : List (ℕ × ℕ)) (lists : Parted) → IsRow cells → length cells ≡ 4 → HaveStatus t.statuses status (get_or cells 0 (0, 0)).0 4
-    → with_split t cells lists ≡ record lists {
-      reads = lists.reads ++ (if is_read_first status then cells else []);
-      writes = lists.writes ++ map (λ (cell : ℕ × ℕ). (cell.0, slice_index t.state.bytes cell.0)) (if is_written status then cells else []);
-    }
-split-same t status cells lists row four have =
-    let first = (get_or cells 0 (0, 0)).0 in
-    let places : places_of cells ≡ places_from first 4 = row ∙ ap (places_from first) four in
-    ap (λ (list : List (ℕ × ℕ)). record lists { reads = lists.reads ++ list; writes = lists.writes ++ written t cells }) (filter-same is_read_first t.statuses status first 4 cells places have)
-    ∙ ap (λ (list : List (ℕ × ℕ)). record lists {
-      reads = lists.reads ++ (if is_read_first status then cells else []);
-      writes = lists.writes ++ map (λ (cell : ℕ × ℕ). (cell.0, slice_index t.state.bytes cell.0)) list;
-    }) (filter-same is_written t.statuses status first 4 cells places have)
+masked-is : (n : ℕ) (g : ℕ → Bool) (mask place word : ℕ) → HasBits n mask place g → masked n mask place word ≡ filter (λ cell. g cell.0) (cells place (bytes_of n word))
+masked-is zero g mask place word bits = masked-zero mask place word
+masked-is (suc n) g mask place word bits =
+    masked-suc n mask place word
+    ∙ ap (λ (b : Bool). here b (place, word % 2 ^ 8) ++ masked n (mask / 2) (place + 1) (word / 2 ^ 8)) bits.0
+    ∙ ap (λ (list : List (ℕ × ℕ)). here (g place) (place, word % 2 ^ 8) ++ list) (masked-is n g (mask / 2) (place + 1) (word / 2 ^ 8) bits.1)
+    ∙ one (g place) (place, word % 2 ^ 8) (filter (λ cell. g cell.0) (cells (place + 1) (bytes_of n (word / 2 ^ 8))))
 
--- a row of four cells ends within the places that its cells are within
-pub row_within : (cells : List (ℕ × ℕ)) (n : ℕ) → IsRow cells → length cells ≡ 4 → All (λ cell. cell.0 < n) cells → (get_or cells 0 (0, 0)).0 + 4 ≤ n
-row_within [] n row four within = absurd (omega arith)
-row_within (a ∷ []) n row four within = absurd (omega arith)
-row_within (a ∷ b ∷ []) n row four within = absurd (omega arith)
-row_within (a ∷ b ∷ c ∷ []) n row four within = absurd (omega arith)
-row_within (a ∷ b ∷ c ∷ d ∷ cells) n row four within =
-    let fits = λ (cell : ℕ × ℕ). cell.0 < n in
-    let last = All-head fits d cells (All-tail fits c (d ∷ cells) (All-tail fits b (c ∷ d ∷ cells) (All-tail fits a (b ∷ c ∷ d ∷ cells) within))) in
-    let place : d.0 ≡ a.0 + 1 + 1 + 1 = cc in
-    omega (arith, last, place)
+pub bits-of : (g : ℕ → Bool) (p : ℕ) (a b c d : Bool) → a ≡ g p → b ≡ g (p + 1) → c ≡ g (p + 1 + 1) → d ≡ g (p + 1 + 1 + 1) → HasBits 4 (mask_of a b c d) p g
+bits-of g p true true true true e f h i = (e, (f, (h, (i, tt))))
+bits-of g p true true true false e f h i = (e, (f, (h, (i, tt))))
+bits-of g p true true false true e f h i = (e, (f, (h, (i, tt))))
+bits-of g p true true false false e f h i = (e, (f, (h, (i, tt))))
+bits-of g p true false true true e f h i = (e, (f, (h, (i, tt))))
+bits-of g p true false true false e f h i = (e, (f, (h, (i, tt))))
+bits-of g p true false false true e f h i = (e, (f, (h, (i, tt))))
+bits-of g p true false false false e f h i = (e, (f, (h, (i, tt))))
+bits-of g p false true true true e f h i = (e, (f, (h, (i, tt))))
+bits-of g p false true true false e f h i = (e, (f, (h, (i, tt))))
+bits-of g p false true false true e f h i = (e, (f, (h, (i, tt))))
+bits-of g p false true false false e f h i = (e, (f, (h, (i, tt))))
+bits-of g p false false true true e f h i = (e, (f, (h, (i, tt))))
+bits-of g p false false true false e f h i = (e, (f, (h, (i, tt))))
+bits-of g p false false false true e f h i = (e, (f, (h, (i, tt))))
+bits-of g p false false false false e f h i = (e, (f, (h, (i, tt))))
+
+-- those of a word of one status
+each : (q : Status → Bool) (statuses : List Status) (status : Status) (place : ℕ) (b : Bool) → HaveStatus statuses status place 4 → q status ≡ b → (k : ℕ) → place ≤ k → k < place + 4 → b ≡ q (status_at statuses k)
+each q statuses status place b have is k least most = sym (ap q (have k least most) ∙ is)
+
+pub all-bits : (q : Status → Bool) (statuses : List Status) (status : Status) (place : ℕ) → HaveStatus statuses status place 4 → q status ≡ true → HasBits 4 15 place (λ p. q (status_at statuses p))
+all-bits q statuses status place have is =
+    let b = each q statuses status place true have is in
+    (b place (omega arith) (omega arith), (b (place + 1) (omega arith) (omega arith), (b (place + 1 + 1) (omega arith) (omega arith), (b (place + 1 + 1 + 1) (omega arith) (omega arith), tt))))
+
+pub no-bits : (q : Status → Bool) (statuses : List Status) (status : Status) (place : ℕ) → HaveStatus statuses status place 4 → q status ≡ false → HasBits 4 0 place (λ p. q (status_at statuses p))
+no-bits q statuses status place have is =
+    let b = each q statuses status place false have is in
+    (b place (omega arith) (omega arith), (b (place + 1) (omega arith) (omega arith), (b (place + 1 + 1) (omega arith) (omega arith), (b (place + 1 + 1 + 1) (omega arith) (omega arith), tt))))
+
+-- ---- words
+
+row_cells : (bytes : List ℕ) (place n : ℕ) → cells place (bytes_at bytes place n) ≡ map (λ p. (p, slice_index bytes p)) (places_from place n)
+row_cells bytes place zero = refl
+row_cells bytes place (suc n) = ap (λ (list : List (ℕ × ℕ)). (place, slice_index bytes place) ∷ list) (row_cells bytes (place + 1) n)
+
+-- the cells of a word
+pub word_cells : (bytes : List ℕ) (place word : ℕ) → AreBytes bytes → word ≡ word_at bytes place → cells place (bytes_of 4 word) ≡ map (λ p. (p, slice_index bytes p)) (places_from place 4)
+word_cells bytes place word all is = ap (cells place) (ap (bytes_of 4) is ∙ bytes_of-number_at 4 bytes place all) ∙ row_cells bytes place 4
+
+-- what was pushed by a mask are the places that were read first, or those that were written
+pub pushed-reads : (t : Tracing) (place mask word : ℕ) (old new : List (ℕ × ℕ)) → HasBits 4 mask place (λ p. is_read_first (status_at t.statuses p)) → cells place (bytes_of 4 word) ≡ started t (places_from place 4)
+    → new ≡ old ++ masked 4 mask place word → new ≡ old ++ read_first t (started t (places_from place 4))
+pushed-reads t place mask word old new bits is put =
+    let g = λ (p : ℕ). is_read_first (status_at t.statuses p) in
+    put ∙ ap (λ (list : List (ℕ × ℕ)). old ++ list) (masked-is 4 g mask place word bits ∙ ap (filter (λ cell. g cell.0)) is)
+
+pub pushed-writes : (t : Tracing) (place mask word : ℕ) (old new : List (ℕ × ℕ)) → HasBits 4 mask place (λ p. is_written (status_at t.statuses p)) → cells place (bytes_of 4 word) ≡ now_at t (places_from place 4)
+    → new ≡ old ++ masked 4 mask place word → new ≡ old ++ written t (started t (places_from place 4))
+pushed-writes t place mask word old new bits is put =
+    let g = λ (p : ℕ). is_written (status_at t.statuses p) in
+    put ∙ ap (λ (list : List (ℕ × ℕ)). old ++ list) (masked-is 4 g mask place word bits ∙ ap (filter (λ cell. g cell.0)) is ∙ filter-now t g (places_from place 4) ∙ sym (written-is t (places_from place 4)))
+
+-- nothing was
+pub no-reads : (t : Tracing) (place : ℕ) (old : List (ℕ × ℕ)) → HasBits 4 0 place (λ p. is_read_first (status_at t.statuses p)) → AreBytes (origin_of t).bytes
+    → old ≡ old ++ read_first t (started t (places_from place 4))
+no-reads t place old bits all =
+    pushed-reads t place 0 (word_at (origin_of t).bytes place) old old bits (word_cells (origin_of t).bytes place (word_at (origin_of t).bytes place) all refl)
+    (sym (ap (λ (list : List (ℕ × ℕ)). old ++ list) (masked-none 4 place (word_at (origin_of t).bytes place)) ∙ append-nil old))
+
+pub no-writes : (t : Tracing) (place : ℕ) (old : List (ℕ × ℕ)) → HasBits 4 0 place (λ p. is_written (status_at t.statuses p)) → AreBytes t.state.bytes
+    → old ≡ old ++ written t (started t (places_from place 4))
+no-writes t place old bits all =
+    pushed-writes t place 0 (word_at t.state.bytes place) old old bits (word_cells t.state.bytes place (word_at t.state.bytes place) all refl)
+    (sym (ap (λ (list : List (ℕ × ℕ)). old ++ list) (masked-none 4 place (word_at t.state.bytes place)) ∙ append-nil old))

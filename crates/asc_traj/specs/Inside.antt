@@ -1,14 +1,15 @@
 -- Words of private contracts.
-use Rattle.std.specs.Prelude.{◌≡◌, ℕ, ◌+◌, ◌-◌, ◌<◌, ◌≤◌, Bool, true, false, List, ◌++◌, length, map, filter, take, drop, slice_index, slice_index_or, Option, Some, None}
+use Rattle.std.specs.Prelude.{◌≡◌, ℕ, ◌+◌, ◌*◌, ◌≤◌, Bool, true, false, List, ◌++◌, All, map, filter, flat_map, slice_index, vec_capacity, vec_len, Option, Some, None}
 use Rattle.asc_model.specs.declared.why.Why.{Why}
 use Rattle.asc_model.specs.declared.why.Why.TheVariants as whys
 use Rattle.asc_model.specs.declared.status.Status.{Status}
 use Rattle.asc_model.specs.declared.status.Status.TheVariants.{Untouched, Read, Written, ReadWritten}
-use Rattle.asc_model.specs.Places.{places_from}
 use Rattle.asc_shape.specs.Face.{status_at}
 use Rattle.asc_depvec.specs.Tracer.{Tracing}
-use Rattle.asc_traj.specs.Halves.{Parted}
-use Rattle.asc_traj.specs.declared.entry.Run.{Run}
+use Rattle.asc_model.specs.Places.{places_from}
+use Rattle.asc_traj.specs.Parts.{IsPart, all_cells}
+use Rattle.asc_traj.specs.declared.entry.Halves.{Halves}
+use Rattle.asc_traj.specs.Trace.{origin_of}
 use Rattle.asc_step.specs.declared.stepped.Stepped.{Stepped}
 use Rattle.asc_step.specs.declared.stepped.Stepped.TheVariants.{Went, Call, Fault}
 
@@ -40,33 +41,39 @@ read_first t cells = filter (λ cell. is_read_first (status_at t.statuses cell.0
 abbrev pub written : Tracing → List (ℕ × ℕ) → List (ℕ × ℕ)
 written t cells = map (λ cell. (cell.0, slice_index t.state.bytes cell.0)) (filter (λ cell. is_written (status_at t.statuses cell.0)) cells)
 
--- both lists have room for so many cells more
-pub record HasRoomFor (lists : Parted) (n : ℕ) : Type 0 where
-  pub reads : length lists.reads + n ≤ lists.room
-  pub writes : length lists.writes + n ≤ lists.room
+-- places, each with its byte where a tracer started
+abbrev pub started : Tracing → List ℕ → List (ℕ × ℕ)
+started t places = map (λ place. (place, slice_index (origin_of t).bytes place)) places
 
--- two lists with cells behind them: those that were read first, and those that were written
-abbrev pub with_split : Tracing → List (ℕ × ℕ) → Parted → Parted
-with_split t cells lists = record lists { reads = lists.reads ++ read_first t cells; writes = lists.writes ++ written t cells }
+-- and each with its byte now
+abbrev pub now_at : Tracing → List ℕ → List (ℕ × ℕ)
+now_at t places = map (λ place. (place, slice_index t.state.bytes place)) places
 
--- cells at places one after another
-abbrev pub IsRow : List (ℕ × ℕ) → Type 0
-IsRow cells = map (λ cell. cell.0) cells ≡ places_from (slice_index_or cells 0 (0, 0)).0 (length cells)
+-- the places of words
+abbrev pub places_of_words : List ℕ → List ℕ
+places_of_words words = flat_map (λ word. places_from (4 * word) 4) words
 
--- where a run ends
-abbrev pub run_end : Run → ℕ
-run_end run = run.from + run.more + 1
+-- both lists are of parts
+pub record AreHalves (halves : Halves) : Type 0 where
+  pub reads : All IsPart halves.reads.items
+  pub writes : All IsPart halves.writes.items
 
--- the cells of a run
-abbrev pub cells_of : List (ℕ × ℕ) → Run → List (ℕ × ℕ)
-cells_of cells run = take (run_end run - run.from) (drop run.from cells)
+-- both grew by one part at most, in the memory that they had
+pub record HasGrown (old new : Halves) : Type 0 where
+  pub few_reads : vec_len new.reads ≤ vec_len old.reads + 1
+  pub few_writes : vec_len new.writes ≤ vec_len old.writes + 1
+  pub room_reads : vec_capacity new.reads ≡ vec_capacity old.reads
+  pub room_writes : vec_capacity new.writes ≡ vec_capacity old.writes
 
--- at least one cell, from one up to another, at places one after another from this one on
-pub record IsStretch (cells : List (ℕ × ℕ)) (place from to : ℕ) : Type 0 where
-  pub some : from < to
-  pub most : to ≤ length cells
-  pub row : map (λ cell. cell.0) (take (to - from) (drop from cells)) ≡ places_from place (to - from)
+-- two lists with these places behind them: those that were read first, and those that were written
+pub record HasSplit (t : Tracing) (places : List ℕ) (old new : Halves) : Type 0 where
+  pub reads : all_cells new.reads.items ≡ all_cells old.reads.items ++ read_first t (started t places)
+  pub writes : all_cells new.writes.items ≡ all_cells old.writes.items ++ written t (started t places)
 
--- a run of cells
-abbrev pub IsRun : List (ℕ × ℕ) → Run → Type 0
-IsRun cells run = IsStretch cells run.place run.from (run_end run)
+-- the mask of four bytes
+abbrev pub bit_of : Bool → ℕ
+bit_of true = 1
+bit_of false = 0
+
+abbrev pub mask_of : (a b c d : Bool) → ℕ
+mask_of a b c d = bit_of a + 2 * bit_of b + 4 * bit_of c + 8 * bit_of d

@@ -1,5 +1,5 @@
 pub mod Trace
-pub mod Halves
+pub mod Parts
 pub mod Inside
 pub mod Content
 pub mod Finder

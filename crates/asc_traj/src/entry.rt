@@ -1,20 +1,25 @@
-ghost use Rattle.std.specs.Prelude.{◌≡◌, ◌+◌, ◌-◌, ◌≤◌, ◌<◌, ◌^◌, ◌==◌, true, false, All, IfOk, Some, flat_map, length, map, slice_index, slice_index_or, take, drop};
+ghost use Rattle.std.specs.Prelude.{◌≡◌, ℕ, ◌+◌, ◌*◌, ◌≤◌, ◌<◌, ◌^◌, ◌==◌, true, false, [], ◌++◌, All, IfOk, Some, length, slice_index, vec_capacity, vec_len};
 ghost use Rattle.std.specs.List.{list_all};
 ghost use Rattle.std.specs.Arc.{arc_value};
+ghost use Rattle.asc_model.specs.declared.status.Status.TheVariants.{Read};
 ghost use Rattle.asc_model.specs.Shape.{length_of};
+ghost use Rattle.asc_model.specs.State.{IsState};
 ghost use Rattle.asc_model.specs.Entry.{IsTrueEntry, Matches, put_entry, entry_of};
 ghost use Rattle.asc_model.specs.Step.{At};
 ghost use Rattle.asc_model.specs.Plain.{plain};
-ghost use Rattle.asc_model.specs.Places.{places_from};
-ghost use Rattle.asc_depvec.specs.Tracer.{IsTracing, most_cap};
+ghost use Rattle.asc_model.specs.Places.{bytes_after, cells, places_from};
+ghost use Rattle.asc_model.specs.Number.{bytes_of};
+ghost use Rattle.asc_shape.specs.Face.{status_at};
+ghost use Rattle.asc_depvec.specs.Tracer.{HaveStatus, IsTracing};
 ghost use Rattle.asc_traj.specs.Content.{matches};
+ghost use Rattle.asc_traj.specs.Parts.{IsPart, all_cells, part_cells, word_place};
 ghost use Rattle.asc_traj.specs.Trace.{StandsFor, origin_of};
-ghost use Rattle.asc_traj.specs.Inside.{HasRoomFor, IsRow, IsRun, IsStretch, cells_of, read_first, run_end, with_split, written};
+ghost use Rattle.asc_traj.specs.Inside.{AreHalves, HasGrown, HasSplit, is_read_first, is_written, mask_of, now_at, places_of_words, read_first, started, written};
 
-use crate::lists::Lists;
+use crate::part::{Part, push};
 use crate::tracing::known;
 use asc_depvec::Tracer;
-use asc_shape::{Memory, Shape, State, Status};
+use asc_shape::{Bytes, Memory, Shape, State, Status};
 use std::alloc::{AllocError, Global};
 use std::marker::Model;
 use std::sync::Arc;
@@ -27,44 +32,54 @@ use std::sync::Arc;
 #[derive(Drop)]
 pub struct Entry {
     shape: Shape,
-    lists: Lists,
+    halves: Halves,
     steps: u64,
+}
+
+/// The parts of an entry: of the places that were read first, and of those that were written.
+#[derive(Drop)]
+struct Halves {
+    reads: Vec<Part>,
+    writes: Vec<Part>,
 }
 
 impl Model for Entry {
     ghost use Rattle.asc_model.specs.Entry as model;
+    ghost use Rattle.std.specs.Prelude.{All};
     ghost use Rattle.asc_model.specs.Entry.{IsTrueEntry};
+    ghost use Rattle.asc_traj.specs.Parts.{IsPart, all_cells};
 
     ghost Value = { model.Entry };
 
-    ghost view = { λ e. record { shape = e.shape; reads = e.lists.reads; writes = e.lists.writes; steps = e.steps } };
+    ghost view = { λ e. record { shape = e.shape; reads = all_cells e.halves.reads.items; writes = all_cells e.halves.writes.items; steps = e.steps } };
 
     ghost invariant = { λ e. IsTrueEntry (record {
       shape = e.shape;
-      reads = e.lists.reads;
-      writes = e.lists.writes;
+      reads = all_cells e.halves.reads.items;
+      writes = all_cells e.halves.writes.items;
       steps = e.steps;
-    }) };
+    }) × (All IsPart e.halves.reads.items) × (All IsPart e.halves.writes.items) };
 }
 
 impl Entry {
     /// The entry of the steps that a tracer stands for, as `trace` leaves it.
     #[inline(never)]
-    pub fn of(alloc: Global, tracer: &Tracer, steps: u64) -> Result<Arc<Entry>, Memory>
+    pub fn of(alloc: Global, tracer: &mut Tracer, steps: u64) -> Result<Arc<Entry>, Memory>
         requires steps { 1 ≤ steps }
-        requires stands { StandsFor steps tracer.now }
-        ensures { IfOk result (λ entry. entry_of steps (origin_of tracer.now) ≡ Some (arc_value entry)) }
+        requires stands { StandsFor steps tracer.old }
+        ensures entry { IfOk result (λ entry. entry_of steps (origin_of tracer.old) ≡ Some (arc_value entry)) }
+        ensures tracer { tracer.new ≡ tracer.old }
     {
         known(tracer);
-        are_bytes(tracer.touched());
-        let mut runs = runs_of(alloc, tracer.touched())?;
-        runs.sort_unstable_by_key(|run| run.place);
-        let lists = split(alloc, tracer, &runs)?;
+        // That its start is a state.
+        let _ = tracer.started().shape();
+        let words = tracer.touched_words(alloc)?;
+        let halves = split(alloc, tracer, &words)?;
         Ok(Arc::new(
             alloc,
             Entry {
-                shape: tracer.state().shape(),
-                lists,
+                shape: Bytes::shape(tracer),
+                halves,
                 steps,
             },
         )?)
@@ -85,20 +100,22 @@ impl Entry {
         self.shape
     }
 
-    /// The places that its steps read first, rising, each with the byte that it must have.
+    /// The places that its steps read first, rising, each with the byte that it must have, as parts of words.
     #[inline]
-    pub fn reads(&self) -> &[(u32, u8)]
-        ensures { result.now ≡ self.now.reads }
+    pub fn reads(&self) -> &[Part]
+        ensures cells { all_cells result.now ≡ self.now.reads }
+        ensures parts { All IsPart result.now }
     {
-        self.lists.reads()
+        &self.halves.reads
     }
 
-    /// The places that its steps write, rising, each with the byte that they leave there.
+    /// The places that its steps write, rising, each with the byte that they leave there, as parts of words.
     #[inline]
-    pub fn writes(&self) -> &[(u32, u8)]
-        ensures { result.now ≡ self.now.writes }
+    pub fn writes(&self) -> &[Part]
+        ensures cells { all_cells result.now ≡ self.now.writes }
+        ensures parts { All IsPart result.now }
     {
-        self.lists.writes()
+        &self.halves.writes
     }
 
     /// How many steps it stands for, at least 1.
@@ -115,7 +132,7 @@ impl Entry {
         ensures no { result ≡ false → Matches self.now state.now → ⊥ }
         ensures test { result ≡ matches state.now self.now }
     {
-        self.shape == state.shape() && has_bytes(state, self.lists.reads())
+        self.shape == state.shape() && has_parts(state, &self.halves.reads)
     }
 
     /// Puts its written bytes into a state of its shape. Where it matches the state, that is what its steps, plainly
@@ -127,219 +144,175 @@ impl Entry {
     {
         // That it is a state.
         let _ = state.shape();
-        for &(place, byte) in self.lists.writes() {
-            state.set(place, byte);
+        put_parts(state, &self.halves.writes);
+    }
+}
+
+/// Whether a state has each of these parts.
+#[inline]
+fn has_parts(state: &State, parts: &[Part]) -> bool
+    requires parts { All IsPart parts.now }
+    requires within { All (λ part. word_place part + 4 ≤ length_of state.now.shape) parts.now }
+    ensures { result ≡ list_all (λ part. list_all (λ cell. slice_index state.now.bytes cell.0 == cell.1)
+        (part_cells part)) parts.now }
+{
+    for part in parts {
+        if !part.is_in(state) {
+            return false;
         }
     }
+    true
 }
 
-/// Whether a state has each of these bytes at its place.
-fn has_bytes(state: &State, cells: &[(u32, u8)]) -> bool
-    requires { All (λ cell. cell.0 < length_of state.now.shape) cells.now }
-    ensures { result ≡ list_all (λ cell. slice_index state.now.bytes cell.0 == cell.1) cells.now }
-{
-    cells.iter().all(|&(place, byte)| state.get(place) == byte)
-}
-
-/// Cells listed one after another, at places one after another. It has the place of the first, where that is listed,
-/// and how many more there are. The last two are below `MOST_CAP`. It takes 8 bytes: for so few the sort has code of its
-/// own.
-#[derive(Clone, Copy)]
-struct Run {
-    place: u32,
-    from: u16,
-    more: u16,
-}
-
-/// The runs that cells are made of, in their order.
+/// Puts parts into a state.
 #[inline]
-fn runs_of(alloc: Global, cells: &[(u32, u8)]) -> Result<Vec<Run>, AllocError>
-    requires most { length cells.now ≤ most_cap }
-    requires low { All (λ cell. cell.0 < 2 ^ 31) cells.now }
-    ensures runs { IfOk result (λ runs. All (IsRun cells.now) runs.items) }
-    ensures whole { IfOk result (λ runs. flat_map (cells_of cells.now) runs.items ≡ cells.now) }
+fn put_parts(state: &mut State, parts: &[Part])
+    requires { All (λ part. word_place part + 4 ≤ length_of state.old.shape) parts.now }
+    ensures { state.new ≡ record state.old { bytes = bytes_after state.old.bytes (all_cells parts.now) } }
 {
-    // There are no more runs than cells.
-    let mut runs = Vec::with_capacity(alloc, cells.len())?;
-    let mut from = 0;
-    while from < cells.len() {
-        let place = cells[from].0;
-        let to = end_of(cells, from, place);
-        runs.push_reserved(Run {
-            place,
-            from: from as u16,
-            more: (to - from - 1) as u16,
-        });
-        from = to;
-    }
-    Ok(runs)
-}
-
-/// Where the run ends that begins there, at this place.
-#[inline]
-fn end_of(cells: &[(u32, u8)], from: usize, place: u32) -> usize
-    requires most { length cells.now ≤ most_cap }
-    requires low { All (λ cell. cell.0 < 2 ^ 31) cells.now }
-    requires from { from < length cells.now }
-    requires place { (slice_index_or cells.now from (0, 0)).0 ≡ place }
-    ensures { IsStretch cells.now place from result }
-{
-    if !is_word(cells, from) {
-        return end_of_cells(cells, from, place, from + 1);
-    }
-    let to = from + 4;
-    // Most runs are one word: it is tested apart, with no loop.
-    if to < cells.len() && cells[to].0 == place + 4 {
-        end_of_words(cells, from, place, to)
-    } else {
-        to
+    for part in parts {
+        part.put(state);
     }
 }
 
-/// Where the run ends that begins at `from` and has all cells before `least`. It goes on by words, and from the first
-/// cell that begins none, by cells.
+/// The parts of the touched places in rising words.
 #[inline]
-fn end_of_words(cells: &[(u32, u8)], from: usize, place: u32, least: usize) -> usize
-    requires most { length cells.now ≤ most_cap }
-    requires low { All (λ cell. cell.0 < 2 ^ 31) cells.now }
-    requires place { place < 2 ^ 31 }
-    requires begun { IsStretch cells.now place from least }
-    ensures { IsStretch cells.now place from result }
+fn split(alloc: Global, tracer: &Tracer, words: &[u32]) -> Result<Halves, AllocError>
+    requires start { IsState (origin_of tracer.now) }
+    requires words { All (λ word. 4 * word + 4 ≤ length_of tracer.now.state.shape) words.now }
+    ensures parts { IfOk result (λ halves. AreHalves halves) }
+    ensures reads { IfOk result (λ halves. all_cells halves.reads.items
+        ≡ read_first tracer.now (started tracer.now (places_of_words words.now))) }
+    ensures writes { IfOk result (λ halves. all_cells halves.writes.items
+        ≡ written tracer.now (started tracer.now (places_of_words words.now))) }
 {
-    let mut to = least;
-    let mut next = place + (to - from) as u32;
-    while to < cells.len() && cells[to].0 == next {
-        if !is_word(cells, to) {
-            return end_of_cells(cells, from, place, to + 1);
-        }
-        to += 4;
-        next += 4;
+    let mut halves = Halves {
+        reads: Vec::with_capacity(alloc, words.len())?,
+        writes: Vec::with_capacity(alloc, words.len())?,
+    };
+    for &word in words {
+        split_word(tracer, word, &mut halves);
     }
-    to
+    Ok(halves)
 }
 
-/// Where the run ends that begins at `from` and has all cells before `least`, cell by cell.
+/// Puts the parts of a word's places behind others, at once where these have one status.
 #[inline]
-fn end_of_cells(cells: &[(u32, u8)], from: usize, place: u32, least: usize) -> usize
-    requires most { length cells.now ≤ most_cap }
-    requires place { place < 2 ^ 31 }
-    requires begun { IsStretch cells.now place from least }
-    ensures { IsStretch cells.now place from result }
+fn split_word(tracer: &Tracer, word: u32, halves: &mut Halves)
+    requires start { IsState (origin_of tracer.now) }
+    requires place { 4 * word + 4 ≤ length_of tracer.now.state.shape }
+    requires halves { AreHalves halves.old }
+    requires reads { vec_len halves.old.reads < vec_capacity halves.old.reads }
+    requires writes { vec_len halves.old.writes < vec_capacity halves.old.writes }
+    ensures halves { AreHalves halves.new }
+    ensures grown { HasGrown halves.old halves.new }
+    ensures split { HasSplit tracer.now (places_from (4 * word) 4) halves.old halves.new }
 {
-    let mut to = least;
-    let mut next = place + (to - from) as u32;
-    while to < cells.len() && cells[to].0 == next {
-        to += 1;
-        next += 1;
-    }
-    to
-}
-
-/// Whether the four cells from there on are those of four places in a row.
-#[inline]
-fn is_word(cells: &[(u32, u8)], at: usize) -> bool
-    requires most { length cells.now ≤ most_cap }
-    requires at { at < length cells.now }
-    requires low { (slice_index_or cells.now at (0, 0)).0 < 2 ^ 31 }
-    ensures most { result ≡ true → at + 4 ≤ length cells.now }
-    ensures row { result ≡ true → map (λ cell. cell.0) (take 4 (drop at cells.now))
-        ≡ places_from (slice_index_or cells.now at (0, 0)).0 4 }
-{
-    let place = cells[at].0;
-    if at + 4 > cells.len() {
-        return false;
-    }
-    cells[at + 1].0 == place + 1 && cells[at + 2].0 == place + 2 && cells[at + 3].0 == place + 3
-}
-
-/// Two lists, run by run. The first has the touched places that were read before they were written, each with its
-/// byte. The second has those that were written, each with its byte now.
-#[inline]
-fn split(alloc: Global, tracer: &Tracer, runs: &[Run]) -> Result<Lists, AllocError>
-    requires tracer { IsTracing tracer.now }
-    requires places { All (λ cell. cell.0 < length_of tracer.now.state.shape) tracer.now.touched }
-    requires runs { All (IsRun tracer.now.touched) runs.now }
-    requires most { length (flat_map (cells_of tracer.now.touched) runs.now) ≤ length tracer.now.touched }
-    ensures reads { IfOk result (λ lists. lists.reads
-        ≡ read_first tracer.now (flat_map (cells_of tracer.now.touched) runs.now)) }
-    ensures writes { IfOk result (λ lists. lists.writes
-        ≡ written tracer.now (flat_map (cells_of tracer.now.touched) runs.now)) }
-{
-    let touched = tracer.touched();
-    let mut lists = Lists::none(alloc, touched.len())?;
-    for run in runs {
-        split_run(tracer, touched, run, &mut lists);
-    }
-    Ok(lists)
-}
-
-/// Puts the cells of a run behind the lists, where there is room for them.
-#[inline]
-fn split_run(tracer: &Tracer, cells: &[(u32, u8)], run: &Run, lists: &mut Lists)
-    requires own { tracer.now.state.shape ≡ tracer.now.shape }
-    requires places { All (λ cell. cell.0 < length_of tracer.now.state.shape) cells.now }
-    requires run { IsRun cells.now run.now }
-    requires room { HasRoomFor lists.old (run_end run.now - run.now.from) }
-    ensures { lists.new ≡ with_split tracer.now (cells_of cells.now run.now) lists.old }
-{
-    let mut at = run.from as usize;
-    let mut left = run.more as usize + 1;
-    while left >= 4 {
-        split_word(tracer, &cells[at..at + 4], lists);
-        at += 4;
-        left -= 4;
-    }
-    split_cells(tracer, &cells[at..at + left], lists);
-}
-
-/// Puts the four cells of a word behind the lists, at once where their places have one status.
-#[inline]
-fn split_word(tracer: &Tracer, cells: &[(u32, u8)], lists: &mut Lists)
-    requires own { tracer.now.state.shape ≡ tracer.now.shape }
-    requires places { All (λ cell. cell.0 < length_of tracer.now.state.shape) cells.now }
-    requires row { IsRow cells.now }
-    requires four { length cells.now ≡ 4 }
-    requires room { HasRoomFor lists.old 4 }
-    ensures { lists.new ≡ with_split tracer.now cells.now lists.old }
-{
-    let place = cells[0].0;
+    known(tracer);
+    let place = 4 * word;
     match tracer.word_status(place) {
-        Some(Status::Read) => lists.push_read_word(cells),
-        Some(Status::Written) => lists.push_written_word(cells, place, tracer.state()),
+        Some(Status::Read) => push(&mut halves.reads, word, 15, kept_word(tracer, place)),
+        Some(Status::Written) => push(&mut halves.writes, word, 15, last_word(tracer, place)),
         Some(Status::ReadWritten) => {
-            lists.push_read_word(cells);
-            lists.push_written_word(cells, place, tracer.state());
+            push(&mut halves.reads, word, 15, first_word(tracer, place));
+            push(&mut halves.writes, word, 15, last_word(tracer, place));
         }
-        Some(Status::Untouched) | None => split_cells(tracer, cells, lists),
+        Some(Status::Untouched) | None => split_partly(tracer, word, halves),
     }
 }
 
-/// Puts cells behind the lists one by one, where there is room for them.
-#[inline]
-fn split_cells(tracer: &Tracer, cells: &[(u32, u8)], lists: &mut Lists)
-    requires places { All (λ cell. cell.0 < length_of tracer.now.state.shape) cells.now }
-    requires room { HasRoomFor lists.old (length cells.now) }
-    ensures { lists.new ≡ with_split tracer.now cells.now lists.old }
+/// The same, place by place.
+#[cold]
+#[inline(never)]
+fn split_partly(tracer: &Tracer, word: u32, halves: &mut Halves)
+    requires start { IsState (origin_of tracer.now) }
+    requires place { 4 * word + 4 ≤ length_of tracer.now.state.shape }
+    requires halves { AreHalves halves.old }
+    requires reads { vec_len halves.old.reads < vec_capacity halves.old.reads }
+    requires writes { vec_len halves.old.writes < vec_capacity halves.old.writes }
+    ensures halves { AreHalves halves.new }
+    ensures grown { HasGrown halves.old halves.new }
+    ensures split { HasSplit tracer.now (places_from (4 * word) 4) halves.old halves.new }
 {
-    for &(place, byte) in cells {
-        match tracer.status(place) {
-            Status::Untouched => {}
-            Status::Read => lists.push_read(place, byte),
-            Status::Written => lists.push_written(place, tracer.state().get(place)),
-            Status::ReadWritten => {
-                lists.push_read(place, byte);
-                lists.push_written(place, tracer.state().get(place));
-            }
-        }
+    known(tracer);
+    let place = 4 * word;
+    let statuses = [
+        tracer.status(place),
+        tracer.status(place + 1),
+        tracer.status(place + 2),
+        tracer.status(place + 3),
+    ];
+    let read = mask_of(
+        is_read_first(statuses[0]),
+        is_read_first(statuses[1]),
+        is_read_first(statuses[2]),
+        is_read_first(statuses[3]),
+    );
+    let written = mask_of(
+        is_written(statuses[0]),
+        is_written(statuses[1]),
+        is_written(statuses[2]),
+        is_written(statuses[3]),
+    );
+    push(&mut halves.reads, word, read, first_word(tracer, place));
+    push(&mut halves.writes, word, written, last_word(tracer, place));
+}
+
+/// The mask of four bytes.
+fn mask_of(first: bool, second: bool, third: bool, fourth: bool) -> u32
+    ensures mask { result ≡ mask_of first second third fourth }
+    ensures most { result < 16 }
+{
+    u32::from(first) + 2 * u32::from(second) + 4 * u32::from(third) + 8 * u32::from(fourth)
+}
+
+/// Whether a place was read before it was written.
+fn is_read_first(status: Status) -> bool
+    ensures { result ≡ is_read_first status }
+{
+    match status {
+        Status::Read | Status::ReadWritten => true,
+        Status::Untouched | Status::Written => false,
     }
 }
 
-/// It does nothing. A caller's proof learns from it that the bytes of a list are below 256.
-#[inline]
-fn are_bytes(cells: &[(u32, u8)])
-    ensures { All (λ cell. cell.1 < 2 ^ 8) cells.now }
+/// Whether a place was written.
+fn is_written(status: Status) -> bool
+    ensures { result ≡ is_written status }
 {
-    for &(_, byte) in cells {
-        let _ = byte as u32;
+    match status {
+        Status::Written | Status::ReadWritten => true,
+        Status::Untouched | Status::Read => false,
     }
+}
+
+/// The word that stood at the start in four places that were only read.
+#[inline]
+fn kept_word(tracer: &Tracer, place: u32) -> u32
+    requires start { IsState (origin_of tracer.now) }
+    requires place { place + 4 ≤ length_of tracer.now.state.shape }
+    requires read { HaveStatus tracer.now.statuses Read place 4 }
+    ensures { cells place (bytes_of 4 result) ≡ started tracer.now (places_from place 4) }
+{
+    tracer.read_word(place)
+}
+
+/// The word that stood in four places at the start.
+#[inline]
+fn first_word(tracer: &Tracer, place: u32) -> u32
+    requires start { IsState (origin_of tracer.now) }
+    requires place { place + 4 ≤ length_of tracer.now.state.shape }
+    ensures { cells place (bytes_of 4 result) ≡ started tracer.now (places_from place 4) }
+{
+    tracer.started().word(place)
+}
+
+/// The word in four places.
+#[inline]
+fn last_word(tracer: &Tracer, place: u32) -> u32
+    requires { place + 4 ≤ length_of tracer.now.state.shape }
+    ensures { cells place (bytes_of 4 result) ≡ now_at tracer.now (places_from place 4) }
+{
+    known(tracer);
+    tracer.word(place)
 }

@@ -1,19 +1,21 @@
 //! Traces of steps, and what is kept of them: entries, which hold from every state that they match.
 #![tactic(auto)]
 
+mod cells;
 mod entry;
 mod finder;
 mod guessing;
 mod halt;
 mod halter;
-mod lists;
 mod longest;
 mod noted;
+mod part;
 #[cfg(test)]
 mod tests;
 mod tracing;
 
 pub use asc_model::Why;
+pub use cells::{Cell, cells_of, next_cell};
 pub use entry::Entry;
 pub use finder::{Finder, ListFinder, Nothing};
 pub use guessing::Guessing;
@@ -21,4 +23,5 @@ pub use halt::{Halt, Never};
 pub use halter::{Flag, Halter};
 pub use longest::{is_longer, jump_by, jump_longest, longest_match};
 pub use noted::Noted;
+pub use part::Part;
 pub use tracing::{Stop, Traced, trace};

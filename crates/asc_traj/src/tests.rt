@@ -1,9 +1,12 @@
 ghost use Rattle.std.specs.Prelude.{◌≡◌};
 ghost use Rattle.asc_traj.specs.Trace.{StandsFor};
 
-use crate::{Entry, Finder, Halt, ListFinder, Never, Noted, Nothing, Stop, Traced, Why, trace};
+use crate::{
+    Entry, Finder, Halt, ListFinder, Never, Noted, Nothing, Part, Stop, Traced, Why, cells_of,
+    trace,
+};
 use asc_depvec::Tracer;
-use asc_shape::{Shape, State, Status};
+use asc_shape::{Guess, Shape, Snapshot, State, Status};
 use asc_step::{Fault, FaultKind, Stepped, try_step};
 use std::alloc::Global;
 use std::process::Abort;
@@ -141,7 +144,7 @@ fn traced<H: Halt, R: Abort>(
 {
     assert!(rt; (32..=65_536).contains(&cap) && stop.laps >= 1 && stop.span >= 1);
     let mut tracer = Tracer::new(alloc, from.shape(), cap).expect(rt, "memory");
-    tracer.start(from);
+    tracer.start(Guess::last(Snapshot::of(alloc, from).expect(rt, "memory")));
     let traced = trace(&mut tracer, &stop, halt);
     (traced, tracer)
 }
@@ -154,10 +157,10 @@ fn entry_of<R: Abort>(
     stop: Stop,
     ended: Traced,
 ) -> Arc<Entry> {
-    let (traced, tracer) = traced(rt, alloc, from, 96, stop, &mut Never);
+    let (traced, mut tracer) = traced(rt, alloc, from, 96, stop, &mut Never);
     assert_eq!(rt; traced, ended);
     assert!(rt; traced.steps >= 1);
-    Entry::of(alloc, &tracer, traced.steps).expect(rt, "memory")
+    Entry::of(alloc, &mut tracer, traced.steps).expect(rt, "memory")
 }
 
 /// The places and bytes of these runs.
@@ -173,8 +176,10 @@ fn cells<R: Abort>(rt: &R, alloc: Global, runs: &[Run]) -> Vec<(u32, u8)> {
 
 /// Compares all that an entry has.
 fn look<R: Abort>(rt: &R, alloc: Global, entry: &Entry, reads: &[Run], writes: &[Run], steps: u64) {
-    assert_eq!(rt; entry.reads(), cells(rt, alloc, reads).as_slice());
-    assert_eq!(rt; entry.writes(), cells(rt, alloc, writes).as_slice());
+    let found = cells_of(alloc, entry.reads()).expect(rt, "memory");
+    assert_eq!(rt; found.as_slice(), cells(rt, alloc, reads).as_slice());
+    let found = cells_of(alloc, entry.writes()).expect(rt, "memory");
+    assert_eq!(rt; found.as_slice(), cells(rt, alloc, writes).as_slice());
     assert_eq!(rt; entry.steps(), steps);
 }
 
@@ -318,7 +323,7 @@ fn statuses(rt: HostRuntime) {
             assert_eq!(rt; tracer.status(place), status, "at {place}");
         }
     }
-    assert_eq!(rt; tracer.touched().len(), 12);
+    assert_eq!(rt; tracer.mark(), 12);
 }
 
 /// SC.W x6, x7, (x10), which succeeds.
@@ -332,7 +337,7 @@ fn conditional_store(rt: HostRuntime) {
         state.set(place, byte);
     }
     let (ended, tracer) = traced(&rt, alloc, &state, 64, stop_at(9, 1), &mut Never);
-    assert_eq!(rt; (ended, tracer.touched().len()), (end(1, Why::Span), 29));
+    assert_eq!(rt; (ended, tracer.mark()), (end(1, Why::Span), 29));
     let entry = entry_of(&rt, alloc, &state, stop_at(9, 1), end(1, Why::Span));
     let reads: [Run; 5] = [
         (0, &[0, 0, 1, 0]),
@@ -365,6 +370,55 @@ fn other_version(rt: HostRuntime) {
     assert!(rt; entry.matches(&state) && !entry.matches(&other));
 }
 
+/// LB x6, 1(x10); SB x7, 2(x10); SH x7, 3(x10): words of which some bytes are touched.
+#[test]
+fn parts_of_words(rt: HostRuntime) {
+    let alloc = rt.alloc();
+    let words = [0x0015_0303, 0x0075_0123, 0x0075_11A3];
+    let mut state = state_of(&rt, alloc, shape_one(&rt), &words);
+    state.set_reg(7, 0xAABB_CCDD);
+    state.set_reg(10, 0x11000);
+    for (place, byte) in (4224..4232).zip([0x11, 0x22, 0x33, 0x44, 0x55, 0x66, 0x77, 0x88]) {
+        assert!(rt; (place as usize) < state.len());
+        state.set(place, byte);
+    }
+    let entry = entry_of(&rt, alloc, &state, stop_at(9, 3), end(3, Why::Span));
+    let reads: [Run; 5] = [
+        (0, &[0, 0, 1, 0]),
+        (28, &[0xDD, 0xCC, 0xBB, 0xAA]),
+        (40, &[0, 0x10, 1, 0]),
+        (128, &[3, 3, 0x15, 0, 0x23, 1, 0x75, 0, 0xA3, 0x11, 0x75, 0]),
+        (4225, &[0x22]),
+    ];
+    let writes: [Run; 3] = [
+        (0, &[0x0C, 0, 1, 0]),
+        (24, &[0x22, 0, 0, 0]),
+        (4226, &[0xDD, 0xDD, 0xCC]),
+    ];
+    look(&rt, alloc, &entry, &reads, &writes, 3);
+    let of = |part: &Part| (part.at, part.word);
+    assert_eq!(rt; entry.reads().last().map(of), Some((16 * 1056 + 2, 0x2200)));
+    assert_eq!(rt; entry.writes().last().map(of), Some((16 * 1057 + 1, 0xCC)));
+    assert_eq!(rt; (entry.reads().len(), entry.writes().len()), (7, 4));
+    put_is_steps(&rt, alloc, &entry, &state);
+    for (place, matched) in [
+        (4224, true),
+        (4225, false),
+        (4226, true),
+        (4228, true),
+        (31, false),
+    ] {
+        let mut other = State::new(alloc, state.shape()).expect(&rt, "memory");
+        other.copy_from(&state);
+        assert!(rt; (place as usize) < other.len());
+        other.set(place, 0xEE);
+        assert_eq!(rt; entry.matches(&other), matched, "at {place}");
+        if matched {
+            put_is_steps(&rt, alloc, &entry, &other);
+        }
+    }
+}
+
 #[test]
 fn nothing_touched(rt: HostRuntime) {
     let alloc = rt.alloc();
@@ -394,7 +448,7 @@ fn nothing_touched(rt: HostRuntime) {
     ] {
         let (ended, tracer) = traced(&rt, alloc, state, 64, stop_at(9, 9), &mut Never);
         assert_eq!(rt; ended, end(0, why));
-        assert!(rt; tracer.touched().is_empty());
+        assert_eq!(rt; tracer.mark(), 0);
         for place in 0..65_664 {
             assert!(rt; tracer.status(place) == Status::Untouched, "at {place}");
         }

@@ -88,7 +88,7 @@ pub fn trace<H: Halt>(tracer: &mut Tracer, stop: &Stop, halt: &mut H) -> Traced
             return Traced { steps, why };
         }
         steps += 1;
-        if tracer.state().pc() == stop.pc {
+        if tracer.pc() == stop.pc {
             laps += 1;
         }
     }
@@ -106,7 +106,7 @@ fn bound_met(tracer: &Tracer, stop: &Stop, steps: u64, laps: u64) -> Option<Why>
         Some(Why::Lap)
     } else if steps == stop.span {
         Some(Why::Span)
-    } else if tracer.left() < LEAST_CAP {
+    } else if tracer.room() < LEAST_CAP {
         Some(Why::Room)
     } else {
         None

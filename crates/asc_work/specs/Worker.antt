@@ -59,7 +59,7 @@ abbrev pub HasInserted : {W H : Type 0} → Column → Worker W H → Job → (o
 HasInserted Stored w job old new = IsOfShape w.shape job × Inserts answers.Stored (entry_for w.laps w.span job) old new
 HasInserted Known w job old new = IsOfShape w.shape job × Inserts answers.Known (entry_for w.laps w.span job) old new
 HasInserted Empty w job old new = new ≡ old
-HasInserted Dropped w job old new = new ≡ old
+HasInserted Dropped w job old new = IsOfShape w.shape job × (1 ≤ steps_for w.laps w.span job) × (new ≡ old)
 HasInserted Stopped w job old new = new ≡ old
 
 -- A count of yes answers stays, or is one more.
@@ -90,7 +90,7 @@ abbrev pub Misses : Column → (steps before now : ℕ) → Type 0
 Misses Stored steps before now = ⊥
 Misses Known steps before now = ⊥
 Misses Empty steps before now = (steps ≡ 0) × RisesAtMostOnce before now
-Misses Dropped steps before now = now ≡ before
+Misses Dropped steps before now = ⊥
 Misses Stopped steps before now = (1 ≤ steps) × (now ≡ one_more before)
 
 -- what became of an entry

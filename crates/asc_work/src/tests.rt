@@ -43,11 +43,11 @@ fn counting<R: Abort>(rt: &R, alloc: Global, pc: u32, x5: u32) -> Arc<Snapshot> 
 }
 
 /// A job that guesses the last state as it is.
-fn last_job<R: Abort>(rt: &R, last: Arc<Snapshot>) -> Job {
+fn last_job<R: Abort>(rt: &R, last: &Arc<Snapshot>) -> Job {
     Job {
         ticket: 0,
-        prev: Arc::try_clone(&last).expect(rt, "memory"),
-        last,
+        prev: Arc::try_clone(last).expect(rt, "memory"),
+        last: Arc::try_clone(last).expect(rt, "memory"),
         ahead: 1,
         kind: Kind::Last,
     }
@@ -64,20 +64,13 @@ fn flag<R: Abort>(rt: &R, alloc: Global, halted: bool) -> Flag {
 
 /// What a new worker answers to the same job twice, and its tally.
 fn answers<R: Abort>(rt: &R, alloc: Global, pc: u32, halted: bool) -> (Ran, Ran, Tally) {
-    let job = last_job(rt, counting(rt, alloc, pc, 0));
+    let last = counting(rt, alloc, pc, 0);
     let mut shard = Shard::new(alloc, 4).expect(rt, "memory");
     let writer = ListWriter::new(&mut shard);
-    match Worker::new(
-        alloc,
-        job.last.shape(),
-        1,
-        100,
-        writer,
-        flag(rt, alloc, halted),
-    ) {
+    match Worker::new(alloc, last.shape(), 1, 100, writer, flag(rt, alloc, halted)) {
         Ok(mut worker) => {
-            let first = worker.run_job(&job, &Open);
-            let second = worker.run_job(&job, &Open);
+            let first = worker.run_job(last_job(rt, &last), &Open);
+            let second = worker.run_job(last_job(rt, &last), &Open);
             (first, second, worker.take_tally())
         }
         Err(_) => panic!(rt; "no memory"),

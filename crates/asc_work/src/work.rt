@@ -50,9 +50,10 @@ fn run_next<R: Wait, W: Insert + Drop, H: Halt + Drop, G: Gate>(
 {
     match taker.pop(rt) {
         Some(job) => {
-            gate.pass(Point::Taken, job.ticket);
-            worker.run_job(&job, gate);
-            gate.pass(Point::Done, job.ticket);
+            let ticket = job.ticket;
+            gate.pass(Point::Taken, ticket);
+            worker.run_job(job, gate);
+            gate.pass(Point::Done, ticket);
             true
         }
         None => false,

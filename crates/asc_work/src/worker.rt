@@ -1,7 +1,6 @@
-ghost use Rattle.std.specs.Prelude.{◌≡◌, ◌⊎◌, ◌+◌, ◌<◌, ◌≤◌, ◌^◌, [], true, false, IfOk, IfErr, IfSome, IsNone, IsSome, OnErr, MatchBool};
+ghost use Rattle.std.specs.Prelude.{◌≡◌, ◌⊎◌, ◌+◌, ◌<◌, ◌≤◌, ◌^◌, [], true, false, IfOk, IfErr, MatchBool};
 ghost use Rattle.asc_model.specs.Reach.{IsReach, reach_of};
 ghost use Rattle.asc_model.specs.Entry.{entry_of};
-ghost use Rattle.asc_work.specs.Inside.{HasTracer, IsOwn};
 ghost use Rattle.asc_jobs.specs.declared.tally.Column.TheVariants as ran;
 ghost use Rattle.asc_traj.specs.Trace.{CountsAnswer, StandsFor, MayStop, bounds_of, is_stopped, origin_of};
 ghost use Rattle.asc_jobs.specs.Tally.{no_jobs, noted, counts_of};
@@ -9,31 +8,26 @@ ghost use Rattle.asc_work.specs.Worker.{IsOfShape, IsEmpty, HasInserted, HasAske
 
 use crate::Ran;
 use asc_cache::Insert;
-use asc_depvec::{ReservedTracer, Tracer};
+use asc_depvec::Tracer;
 use asc_guess::guess;
 use asc_jobs::{Job, Tally};
 use asc_outside::{Gate, Memory, Point};
-use asc_shape::{Pair, Shape};
+use asc_shape::Shape;
 use asc_shard::Inserted;
 use asc_traj::{Entry, Halt, Never, Stop, Traced, Why, trace};
 use std::alloc::Global;
 use std::marker::Model;
-use std::sync::Arc;
 
 // How many places a trace may touch.
 const CAP: usize = 4096;
 
-/// It runs jobs, one after another, and inserts the entries of their guesses.
-///
-/// The memory of its tracer is taken when it is made, and filled for its first job. So a worker that runs none costs
-/// little, and others fill theirs at once where each runs in a thread of its own.
+/// It runs jobs, one after another, and inserts the entries of their guesses. The memory of its tracer is taken when it
+/// is made.
 #[derive(Drop)]
 pub struct Worker<W: Insert + Drop, H: Halt + Drop> {
     alloc: Global,
     shape: Shape,
-    // Until the first job it has memory for a tracer, and then the tracer.
-    reserved: Option<ReservedTracer>,
-    tracer: Option<Tracer>,
+    tracer: Tracer,
     laps: u64,
     span: u64,
     writer: W,
@@ -44,7 +38,7 @@ pub struct Worker<W: Insert + Drop, H: Halt + Drop> {
 impl<W: Insert + Drop, H: Halt + Drop> Model for Worker<W, H> {
     ghost use Rattle.asc_jobs.specs.Tally.{counts_of};
     ghost use Rattle.asc_work.specs.Worker as model;
-    ghost use Rattle.asc_work.specs.Inside.{HasTracer};
+    ghost use Rattle.asc_work.specs.Inside.{IsOwn};
     ghost use Rattle.std.specs.Prelude.{◌≤◌};
 
     ghost Value = { model.Worker W H };
@@ -58,7 +52,7 @@ impl<W: Insert + Drop, H: Halt + Drop> Model for Worker<W, H> {
       tally = counts_of w.tally;
     } };
 
-    ghost invariant = { λ w. HasTracer w.shape w.reserved w.tracer × (1 ≤ w.laps) × (1 ≤ w.span) };
+    ghost invariant = { λ w. IsOwn w.shape w.tracer × (1 ≤ w.laps) × (1 ≤ w.span) };
 }
 
 impl<W: Insert + Drop, H: Halt + Drop> Worker<W, H> {
@@ -84,12 +78,11 @@ impl<W: Insert + Drop, H: Halt + Drop> Worker<W, H> {
         }) }
         ensures memory { IfErr result (λ back. (back.1 ≡ writer) × (back.2 ≡ halt)) }
     {
-        match ReservedTracer::new(alloc, shape, CAP) {
-            Ok(reserved) => Ok(Worker {
+        match Tracer::new(alloc, shape, CAP) {
+            Ok(tracer) => Ok(Worker {
                 alloc,
                 shape,
-                reserved: Some(reserved),
-                tracer: None,
+                tracer,
                 laps,
                 span,
                 writer,
@@ -102,14 +95,14 @@ impl<W: Insert + Drop, H: Halt + Drop> Worker<W, H> {
 
     /// Runs a job: guesses its state, traces that until it is back at the pc of the last visit, and inserts the entry of
     /// the trace. It notes in its tally what became of the job, and answers that. The gate is passed at `Traced` before
-    /// the insertion. It costs what the trace touches and what the snapshots use.
-    pub fn run_job<G: Gate>(&mut self, job: &Job, gate: &G) -> Ran
+    /// the insertion. It costs what the trace touches, and what the last one touched.
+    pub fn run_job<G: Gate>(&mut self, job: Job, gate: &G) -> Ran
         requires { self.old.tally.ran < 2 ^ 62 }
-        ensures empty { result ≡ ran.Empty → IsEmpty self.old job.now }
-        ensures other { (IsOfShape self.old.shape job.now → ⊥) → result ≡ ran.Empty }
-        ensures steps { IsEmpty self.old job.now → (result ≡ ran.Empty) ⊎ (result ≡ ran.Dropped) }
+        ensures empty { result ≡ ran.Empty → IsEmpty self.old job }
+        ensures other { (IsOfShape self.old.shape job → ⊥) → result ≡ ran.Empty }
+        ensures steps { IsEmpty self.old job → result ≡ ran.Empty }
         ensures halt { HasAsked result (H.count self.old.halt) (H.count self.new.halt) }
-        ensures inserted { HasInserted result self.old job.now (W.content self.old.writer) (W.content self.new.writer) }
+        ensures inserted { HasInserted result self.old job (W.content self.old.writer) (W.content self.new.writer) }
         ensures tally { self.new.tally ≡ noted result self.old.tally }
         ensures shape { self.new.shape ≡ self.old.shape }
         ensures laps { self.new.laps ≡ self.old.laps }
@@ -145,7 +138,6 @@ impl<W: Insert + Drop, H: Halt + Drop> Worker<W, H> {
         let Self {
             alloc: _,
             shape: _,
-            reserved: _reserved,
             tracer: _tracer,
             laps: _,
             span: _,
@@ -165,12 +157,12 @@ impl<W: Insert + Drop, H: Halt + Drop> Worker<W, H> {
     }
 
     // Runs a job, but for its tally.
-    fn outcome<G: Gate>(&mut self, job: &Job, gate: &G) -> Ran
-        ensures empty { result ≡ ran.Empty → IsEmpty self.old job.now }
-        ensures other { (IsOfShape self.old.shape job.now → ⊥) → result ≡ ran.Empty }
-        ensures steps { IsEmpty self.old job.now → (result ≡ ran.Empty) ⊎ (result ≡ ran.Dropped) }
+    fn outcome<G: Gate>(&mut self, job: Job, gate: &G) -> Ran
+        ensures empty { result ≡ ran.Empty → IsEmpty self.old job }
+        ensures other { (IsOfShape self.old.shape job → ⊥) → result ≡ ran.Empty }
+        ensures steps { IsEmpty self.old job → result ≡ ran.Empty }
         ensures halt { HasAsked result (H.count self.old.halt) (H.count self.new.halt) }
-        ensures inserted { HasInserted result self.old job.now (W.content self.old.writer) (W.content self.new.writer) }
+        ensures inserted { HasInserted result self.old job (W.content self.old.writer) (W.content self.new.writer) }
         ensures tally { self.new.tally ≡ self.old.tally }
         ensures shape { self.new.shape ≡ self.old.shape }
         ensures laps { self.new.laps ≡ self.old.laps }
@@ -179,25 +171,15 @@ impl<W: Insert + Drop, H: Halt + Drop> Worker<W, H> {
         if job.prev.shape() != self.shape || job.last.shape() != self.shape {
             return Ran::Empty;
         }
-        fill(self.shape, &mut self.reserved, &mut self.tracer);
-        let Some(tracer) = &mut self.tracer else {
-            unreachable!()
-        };
-        let traced = trace_job(
-            self.alloc,
-            tracer,
-            &mut self.halt,
-            job,
-            self.laps,
-            self.span,
-        );
+        let ticket = job.ticket;
+        let traced = trace_job(&mut self.tracer, &mut self.halt, job, self.laps, self.span);
         match traced {
             Ok(steps) => insert(
                 self.alloc,
-                tracer,
+                &mut self.tracer,
                 steps,
                 &mut self.writer,
-                job.ticket,
+                ticket,
                 gate,
             ),
             Err(ran) => ran,
@@ -205,52 +187,38 @@ impl<W: Insert + Drop, H: Halt + Drop> Worker<W, H> {
     }
 }
 
-// Fills the memory for a tracer, where that was not done yet.
-fn fill(_shape: Shape, reserved: &mut Option<ReservedTracer>, tracer: &mut Option<Tracer>)
-    requires { HasTracer _shape reserved.old tracer.old }
-    ensures own { IfSome tracer.new (λ t. IsOwn _shape t) }
-    ensures some { IsSome tracer.new }
-    ensures filled { IsNone reserved.new }
-{
-    if let Some(memory) = reserved.take() {
-        *tracer = Some(memory.fill());
-    }
-}
-
-// Guesses the state of a job into a tracer, and traces that: at least one step.
+// Traces the guess of a job: at least one step.
 fn trace_job<H: Halt>(
-    alloc: Global,
     tracer: &mut Tracer,
     halt: &mut H,
-    job: &Job,
+    job: Job,
     laps: u64,
     span: u64,
 ) -> Result<u64, Ran>
-    requires shapes { IsOfShape tracer.old.shape job.now }
+    requires shapes { IsOfShape tracer.old.shape job }
     requires own_shape { tracer.old.state.shape ≡ tracer.old.shape }
     requires cap { tracer.old.cap ≡ 4096 }
     requires laps { 1 ≤ laps }
     requires span { 1 ≤ span }
     ensures some { IfOk result (λ n. 1 ≤ n) }
-    ensures reach { IfOk result (λ n. n ≡ steps_for laps span job.now) }
+    ensures reach { IfOk result (λ n. n ≡ steps_for laps span job) }
     ensures stands { IfOk result (λ n. StandsFor n tracer.new) }
-    ensures start { IfOk result (λ n. origin_of tracer.new ≡ guess_for job.now) }
+    ensures start { IfOk result (λ n. origin_of tracer.new ≡ guess_for job) }
     ensures halt { IfOk result (λ n. H.count halt.new ≡ H.count halt.old) }
-    ensures misses { IfErr result (λ ran. Misses ran (steps_for laps span job.now) (H.count halt.old) (H.count halt.new)) }
+    ensures misses { IfErr result (λ ran. Misses ran (steps_for laps span job) (H.count halt.old) (H.count halt.new)) }
     ensures shape { tracer.new.shape ≡ tracer.old.shape }
     ensures new_shape { tracer.new.state.shape ≡ tracer.old.shape }
     ensures same_cap { tracer.new.cap ≡ tracer.old.cap }
 {
-    let Ok(pair) = pair_of(alloc, job) else {
-        return Err(Ran::Dropped);
-    };
-    tracer.reset();
-    guess(job.kind, &pair, job.ahead, tracer.state_mut());
     let stop = Stop {
         pc: job.last.pc(),
         laps,
         span,
     };
+    let guess = guess(job.kind, job.prev, job.last, job.ahead);
+    // That it is a state, of the job's shape.
+    let _ = guess.shape();
+    tracer.start(guess);
     let traced = trace(tracer, &stop, halt);
     settle(tracer, &stop, traced)
 }
@@ -293,8 +261,8 @@ fn unstarted(tracer: &mut Tracer, stop: &Stop) -> Ran
     requires own_shape { tracer.old.state.shape ≡ tracer.old.shape }
     requires laps { 1 ≤ stop.now.laps }
     requires span { 1 ≤ stop.now.span }
-    requires stopped { MayStop (bounds_of stop.now tracer.old.cap) tracer.old.state 0 }
-    ensures missed { Missed result true (reach_of (bounds_of stop.now tracer.old.cap) tracer.old.state) }
+    requires stopped { MayStop (bounds_of stop.now tracer.old.cap) (origin_of tracer.old) 0 }
+    ensures missed { Missed result true (reach_of (bounds_of stop.now tracer.old.cap) (origin_of tracer.old)) }
     ensures shape { tracer.new.shape ≡ tracer.old.shape }
     ensures new_shape { tracer.new.state.shape ≡ tracer.old.shape }
     ensures cap { tracer.new.cap ≡ tracer.old.cap }
@@ -313,24 +281,14 @@ fn is_stopped(why: Why) -> bool
     matches!(why, Why::Stopped)
 }
 
-// The snapshots of a job, as a pair.
-fn pair_of(alloc: Global, job: &Job) -> Result<Pair, Memory>
-    requires { job.now.prev.value.shape ≡ job.now.last.value.shape }
-    ensures { IfOk result (λ pair. pair ≡ record { prev = job.now.prev.value; last = job.now.last.value }) }
-{
-    let prev = Arc::try_clone(&job.prev)?;
-    let last = Arc::try_clone(&job.last)?;
-    Pair::of(alloc, prev, last)
-}
-
-// Whether there is a next step of a tracer's state, of which a trace was stopped at its start.
+// Whether there is a next step of the state that a tracer started from, of which a trace was stopped at its start.
 fn goes_on(tracer: &mut Tracer, stop: &Stop) -> bool
     requires own_shape { tracer.old.state.shape ≡ tracer.old.shape }
     requires laps { 1 ≤ stop.now.laps }
     requires span { 1 ≤ stop.now.span }
-    requires stopped { MayStop (bounds_of stop.now tracer.old.cap) tracer.old.state 0 }
-    ensures goes { MatchBool result (1 ≤ reach_of (bounds_of stop.now tracer.old.cap) tracer.old.state)
-        (reach_of (bounds_of stop.now tracer.old.cap) tracer.old.state ≡ 0) }
+    requires stopped { MayStop (bounds_of stop.now tracer.old.cap) (origin_of tracer.old) 0 }
+    ensures goes { MatchBool result (1 ≤ reach_of (bounds_of stop.now tracer.old.cap) (origin_of tracer.old))
+        (reach_of (bounds_of stop.now tracer.old.cap) (origin_of tracer.old) ≡ 0) }
     ensures shape { tracer.new.shape ≡ tracer.old.shape }
     ensures new_shape { tracer.new.state.shape ≡ tracer.old.shape }
     ensures cap { tracer.new.cap ≡ tracer.old.cap }
@@ -347,15 +305,16 @@ fn goes_on(tracer: &mut Tracer, stop: &Stop) -> bool
 // Makes the entry of a trace, passes the gate, and inserts the entry.
 fn insert<W: Insert, G: Gate>(
     alloc: Global,
-    tracer: &Tracer,
+    tracer: &mut Tracer,
     steps: u64,
     writer: &mut W,
     ticket: u64,
     gate: &G,
 ) -> Ran
     requires steps { 1 ≤ steps }
-    requires stands { StandsFor steps tracer.now }
-    ensures { Ends result (entry_of steps (origin_of tracer.now)) (W.content writer.old) (W.content writer.new) }
+    requires stands { StandsFor steps tracer.old }
+    ensures ends { Ends result (entry_of steps (origin_of tracer.old)) (W.content writer.old) (W.content writer.new) }
+    ensures tracer { tracer.new ≡ tracer.old }
 {
     let Ok(entry) = Entry::of(alloc, tracer, steps) else {
         return Ran::Dropped;

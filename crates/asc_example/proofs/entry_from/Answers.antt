@@ -21,10 +21,10 @@ returns c =
     let n = c.trace-traced.result.steps in
     let state = c.args.state.now in
     let tracer = c.trace-traced.new.tracer in
-    let entry = arc_value c.in_ok-of.field-0 in
+    let entry = arc_value c.in_ok-of-2.field-0 in
     let started : origin_of tracer ≡ state =
-    c.trace-traced.ensures.start ∙ ap (λ t. t.state) c.start.ensures in
+    c.trace-traced.ensures.start ∙ ap (λ t. t.state) c.start.ensures ∙ c.last-guess.ensures ∙ c.in_ok-of.ensures in
     let stands = c.trace-traced.ensures.stands in
     let counted : entry.steps ≡ n =
-    steps-are n (origin_of tracer) tracer.state entry stands.goes c.in_ok-of.ensures in
-    ap (λ k. entry_of k state) counted ∙ ap (entry_of n) (sym started) ∙ c.in_ok-of.ensures
+    steps-are n (origin_of tracer) tracer.state entry stands.goes c.in_ok-of-2.ensures.entry in
+    ap (λ k. entry_of k state) counted ∙ ap (entry_of n) (sym started) ∙ c.in_ok-of-2.ensures.entry

@@ -1,4 +1,4 @@
-use Rattle.asc_depvec.proofs.NewWords.{statuses-set_4}
+use Rattle.asc_depvec.proofs.Rows.{statuses-set_4}
 use Rattle.asc_depvec.proofs.tracer.mark_word.Goals as goal
 
 pub returns : goal.returns

@@ -1,5 +1,5 @@
 use Rattle.std.proofs.Common.{Some, false, [], ◌∷◌, ap, ◌∙◌, refl}
-use Rattle.asc_model.specs.declared.instruction.Op.TheVariants.{Add, Addi, And, Andi, Beq, Bge, Bgeu, Blt, Bltu, Bne, Div, Jal, Jalr, Lbu, Lui, Lw, Mul, Mulhu, Or, Rem, Remu, Sb, Slli, Sltu, Srai, Srli, Sub, Sw, Xor}
+use Rattle.asc_model.specs.declared.instruction.Op.TheVariants.{Add, Addi, And, Andi, Beq, Bge, Bgeu, Blt, Bltu, Bne, Div, Jal, Jalr, Lb, Lbu, Lui, Lw, Mul, Mulhu, Or, Ori, Rem, Remu, Sb, Slli, Sltu, Srai, Srli, Sub, Sw, Xor, Xori}
 use Rattle.asc_model.specs.Instruction.{Major, Minor, U, J, I, S, B, R, Shift}
 use Rattle.asc_isa.specs.declared.kind.Kind.TheVariants as kinds
 use Rattle.asc_isa.specs.Likely.{likely}
@@ -33,6 +33,9 @@ returns-in-Bltu c = ap Some c.b_type-in-Bltu.ensures ∙ ap likely (decode-only 
 pub returns-in-Bgeu : goal.returns-in-Bgeu
 returns-in-Bgeu c = ap Some c.b_type-in-Bgeu.ensures ∙ ap likely (decode-only false (Minor 0b1100011 0b111) B Bgeu c.args.word refl refl c.in-Bgeu.ensures)
 
+pub returns-in-Lb : goal.returns-in-Lb
+returns-in-Lb c = ap Some c.i_type-in-Lb.ensures ∙ ap likely (decode-only false (Minor 0b0000011 0b000) I Lb c.args.word refl refl c.in-Lb.ensures)
+
 pub returns-in-Lw : goal.returns-in-Lw
 returns-in-Lw c = ap Some c.i_type-in-Lw.ensures ∙ ap likely (decode-only false (Minor 0b0000011 0b010) I Lw c.args.word refl refl c.in-Lw.ensures)
 
@@ -48,20 +51,26 @@ returns-in-Sw c = ap Some c.s_type-in-Sw.ensures ∙ ap likely (decode-only fals
 pub returns-in-Addi : goal.returns-in-Addi
 returns-in-Addi c = ap Some c.i_type-in-Addi.ensures ∙ ap likely (decode-only false (Minor 0b0010011 0b000) I Addi c.args.word refl refl c.in-Addi.ensures)
 
+pub returns-in-Xori : goal.returns-in-Xori
+returns-in-Xori c = ap Some c.i_type-in-Xori.ensures ∙ ap likely (decode-only false (Minor 0b0010011 0b100) I Xori c.args.word refl refl c.in-Xori.ensures)
+
+pub returns-in-Ori : goal.returns-in-Ori
+returns-in-Ori c = ap Some c.i_type-in-Ori.ensures ∙ ap likely (decode-only false (Minor 0b0010011 0b110) I Ori c.args.word refl refl c.in-Ori.ensures)
+
 pub returns-in-Andi : goal.returns-in-Andi
 returns-in-Andi c = ap Some c.i_type-in-Andi.ensures ∙ ap likely (decode-only false (Minor 0b0010011 0b111) I Andi c.args.word refl refl c.in-Andi.ensures)
 
 pub returns-in-Slli : goal.returns-in-Slli
 returns-in-Slli c =
-    c.shift_by.ensures ∙ decode-likely Shift 0b0010011 0b001 c.args.word ((0b0000000, Slli) ∷ []) [] refl refl refl refl c.in-Slli.ensures
+    c.slli.ensures ∙ decode-likely Shift 0b0010011 0b001 c.args.word ((0b0000000, Slli) ∷ []) [] refl refl refl refl c.in-Slli.ensures
 
 pub returns-in-Srli : goal.returns-in-Srli
 returns-in-Srli c =
-    c.shift_by-in-Srli.ensures ∙ decode-likely Shift 0b0010011 0b101 c.args.word ((0b0000000, Srli) ∷ []) ((0b0100000, Srai) ∷ []) refl refl refl refl c.in-Srli.ensures
+    c.srli_or_srai.ensures ∙ decode-likely Shift 0b0010011 0b101 c.args.word ((0b0000000, Srli) ∷ (0b0100000, Srai) ∷ []) [] refl refl refl refl c.in-Srli.ensures
 
 pub returns-in-Add : goal.returns-in-Add
 returns-in-Add c =
-    c.add_or_sub.ensures ∙ decode-likely R 0b0110011 0b000 c.args.word ((0b0000000, Add) ∷ (0b0100000, Sub) ∷ []) ((0b0000001, Mul) ∷ []) refl refl refl refl c.in-Add.ensures
+    c.add_sub_or_mul.ensures ∙ decode-likely R 0b0110011 0b000 c.args.word ((0b0000000, Add) ∷ (0b0100000, Sub) ∷ (0b0000001, Mul) ∷ []) [] refl refl refl refl c.in-Add.ensures
 
 pub returns-in-Sltu : goal.returns-in-Sltu
 returns-in-Sltu c =
@@ -82,5 +91,5 @@ returns-in-And c =
 pub returns-in-Auipc : goal.returns-in-Auipc
 returns-in-Auipc c =
     decode-unlikely c.kind_of.result kinds.Auipc
-    (kinds.Lb ∷ kinds.Lh ∷ kinds.Lhu ∷ kinds.Sh ∷ kinds.Slti ∷ kinds.Sltiu ∷ kinds.Xori ∷ kinds.Ori ∷ kinds.Sll ∷ kinds.Slt ∷ kinds.Srl ∷ kinds.Fence ∷ kinds.FenceI ∷ kinds.System ∷ kinds.Atomic ∷ kinds.Other ∷ [])
+    (kinds.Lh ∷ kinds.Lhu ∷ kinds.Sh ∷ kinds.Slti ∷ kinds.Sltiu ∷ kinds.Sll ∷ kinds.Slt ∷ kinds.Srl ∷ kinds.Fence ∷ kinds.FenceI ∷ kinds.System ∷ kinds.Atomic ∷ kinds.Other ∷ [])
     c.args.word refl c.in-Auipc.is c.kind_of.ensures

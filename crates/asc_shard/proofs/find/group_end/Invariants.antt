@@ -1,7 +1,7 @@
 use Rattle.std.proofs.Common.{◌≡◌, ◌-◌, ◌<◌, ◌≤◌, ℕ, map, get_or}
 use Rattle.std.specs.Arc.{arc_value}
 use Rattle.std.specs.declared.cmp.Ordering.TheVariants.{Less, Equal}
-use Rattle.asc_shard.specs.Inside.{by_group, no_entry, sorted_of}
+use Rattle.asc_shard.specs.Inside.{by_group, no_entry, sorted_in}
 use Rattle.asc_shard.proofs.find.group_end.Given as goal
 
 abbrev pub invariant-loop-low : goal.invariant-loop-low
@@ -10,9 +10,9 @@ invariant-loop-low l = record {
   range : l.low ≤ l.end;
   most : l.end ≤ l.high;
   same : (i : ℕ) → l.from ≤ i → i < l.low
-      → by_group (get_or (sorted_of (map arc_value l.entries) l.slots) l.from no_entry) (get_or (sorted_of (map arc_value l.entries) l.slots) i no_entry) ≡ Equal;
+      → by_group (get_or (sorted_in (map arc_value l.entries) l.index) l.from no_entry) (get_or (sorted_in (map arc_value l.entries) l.index) i no_entry) ≡ Equal;
   rest : (i : ℕ) → l.end ≤ i → i < l.high
-      → by_group (get_or (sorted_of (map arc_value l.entries) l.slots) l.from no_entry) (get_or (sorted_of (map arc_value l.entries) l.slots) i no_entry) ≡ Less;
+      → by_group (get_or (sorted_in (map arc_value l.entries) l.index) l.from no_entry) (get_or (sorted_in (map arc_value l.entries) l.index) i no_entry) ≡ Less;
 }
 
 abbrev pub decreases-loop-low : goal.decreases-loop-low

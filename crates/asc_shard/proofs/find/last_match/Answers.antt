@@ -2,14 +2,14 @@ use Rattle.std.proofs.Common.{◌≡◌, ◌+◌, ◌-◌, ◌/◌, ◌<◌, ◌
 use Rattle.std.specs.Arc.{arc_value}
 use Rattle.std.specs.declared.cmp.Ordering.TheVariants.{Less, Equal, Greater}
 use Rattle.asc_model.specs.Entry.{Entry}
-use Rattle.asc_shard.specs.Inside.{compare_with, sorted_of}
-use Rattle.asc_shard.proofs.Slots.{nth, entry-read}
+use Rattle.asc_shard.specs.Inside.{compare_with, positions_of, sorted_of}
+use Rattle.asc_shard.proofs.Slots.{nth}
 use Rattle.asc_shard.proofs.Matching.{halved-none, halved-more, halved-few, sought-first, sought-less, sought-equal, sought-greater, sought-longer, sought-last}
 use Rattle.asc_shard.proofs.find.last_match.Goals as goal
 
 pub loop-low-init : goal.loop-low-init
 loop-low-init g c =
-    let xs = sorted_of (map arc_value c.args.entries.now) c.args.slots.now in
+    let xs = sorted_of (map arc_value c.args.entries.now) (positions_of c.args.index.now) in
     record {
       sought = sought-first xs c.args.state.now c.args.left c.args.from c.args.end c.requires.group c.requires.some;
       probes = (0, halved-none (c.args.end - c.args.from) (omega arith), refl);
@@ -17,7 +17,7 @@ loop-low-init g c =
 
 pub compare_with-requires : goal.compare_with-requires
 compare_with-requires g c =
-    let slots = c.args.slots.now in
+    let slots = positions_of c.args.index.now in
     let xs = sorted_of (map arc_value c.args.entries.now) slots in
     let s = c.args.state.now in
     let low = c.loop-low.low in
@@ -26,12 +26,12 @@ compare_with-requires g c =
     let least = v.least in
     let most = v.most in
     let m = low + (high - low) / 2 in
-    let read = entry-read c.args.entries.now slots m _ _ _ c.requires.index (omega arith) c.index-entries-slots.is c.deref-entry.ensures in
+    let read = c.entry-entry.ensures in
     ap (λ (e : Entry). e.shape) read ∙ c.requires.group.shape m (omega arith) (omega arith)
 
 pub loop-low-preserved-in-Less-1 : goal.loop-low-preserved-in-Less-1
 loop-low-preserved-in-Less-1 g c =
-    let slots = c.args.slots.now in
+    let slots = positions_of c.args.index.now in
     let xs = sorted_of (map arc_value c.args.entries.now) slots in
     let s = c.args.state.now in
     let low = c.loop-low.low in
@@ -40,7 +40,7 @@ loop-low-preserved-in-Less-1 g c =
     let least = v.least in
     let most = v.most in
     let m = low + (high - low) / 2 in
-    let read = entry-read c.args.entries.now slots m _ _ _ c.requires.index (omega arith) c.index-entries-slots.is c.deref-entry.ensures in
+    let read = c.entry-entry.ensures in
     let p = c.loop-low.invariant.probes in
     let here : compare_with (nth xs m) s ≡ Less = ap (λ (e : Entry). compare_with e s) (sym read) ∙ sym c.compare_with.ensures ∙ c.in-Less.is in
     record {
@@ -50,7 +50,7 @@ loop-low-preserved-in-Less-1 g c =
 
 pub loop-low-preserved-then-steps-left : goal.loop-low-preserved-then-steps-left
 loop-low-preserved-then-steps-left g c =
-    let slots = c.args.slots.now in
+    let slots = positions_of c.args.index.now in
     let xs = sorted_of (map arc_value c.args.entries.now) slots in
     let s = c.args.state.now in
     let low = c.loop-low.low in
@@ -59,7 +59,7 @@ loop-low-preserved-then-steps-left g c =
     let least = v.least in
     let most = v.most in
     let m = low + (high - low) / 2 in
-    let read = entry-read c.args.entries.now slots m _ _ _ c.requires.index (omega arith) c.index-entries-slots.is c.deref-entry.ensures in
+    let read = c.entry-entry.ensures in
     let p = c.loop-low.invariant.probes in
     let here : compare_with (nth xs m) s ≡ Equal = ap (λ (e : Entry). compare_with e s) (sym read) ∙ sym c.compare_with.ensures ∙ c.in-Equal.is in
     let fits : (nth xs m).steps ≤ c.args.left = subst (λ (e : Entry). e.steps ≤ c.args.left) read (subst (λ n. n ≤ c.args.left) c.steps.ensures c.if-steps-left.true) in
@@ -70,7 +70,7 @@ loop-low-preserved-then-steps-left g c =
 
 pub loop-low-preserved-in_default : goal.loop-low-preserved-in_default
 loop-low-preserved-in_default g c =
-    let slots = c.args.slots.now in
+    let slots = positions_of c.args.index.now in
     let xs = sorted_of (map arc_value c.args.entries.now) slots in
     let s = c.args.state.now in
     let low = c.loop-low.low in
@@ -79,7 +79,7 @@ loop-low-preserved-in_default g c =
     let least = v.least in
     let most = v.most in
     let m = low + (high - low) / 2 in
-    let read = entry-read c.args.entries.now slots m _ _ _ c.requires.index (omega arith) c.index-entries-slots.is c.deref-entry.ensures in
+    let read = c.entry-entry.ensures in
     let p = c.loop-low.invariant.probes in
     let here : compare_with (nth xs m) s ≡ Equal = ap (λ (e : Entry). compare_with e s) (sym read) ∙ sym c.compare_with.ensures ∙ c.in-Equal.is in
     let longer : c.args.left < (nth xs m).steps = subst (λ (e : Entry). c.args.left < e.steps) read (subst (λ n. c.args.left < n) c.steps.ensures c.if-steps-left.false) in
@@ -90,7 +90,7 @@ loop-low-preserved-in_default g c =
 
 pub loop-low-preserved : goal.loop-low-preserved
 loop-low-preserved g c =
-    let slots = c.args.slots.now in
+    let slots = positions_of c.args.index.now in
     let xs = sorted_of (map arc_value c.args.entries.now) slots in
     let s = c.args.state.now in
     let low = c.loop-low.low in
@@ -99,7 +99,7 @@ loop-low-preserved g c =
     let least = v.least in
     let most = v.most in
     let m = low + (high - low) / 2 in
-    let read = entry-read c.args.entries.now slots m _ _ _ c.requires.index (omega arith) c.index-entries-slots.is c.deref-entry.ensures in
+    let read = c.entry-entry.ensures in
     let p = c.loop-low.invariant.probes in
     let here : compare_with (nth xs m) s ≡ Greater = ap (λ (e : Entry). compare_with e s) (sym read) ∙ sym c.compare_with.ensures ∙ c.in_default.is in
     record {
@@ -109,7 +109,7 @@ loop-low-preserved g c =
 
 pub returns-clause-last : goal.returns-clause-last
 returns-clause-last g c =
-    let xs = sorted_of (map arc_value c.args.entries.now) c.args.slots.now in
+    let xs = sorted_of (map arc_value c.args.entries.now) (positions_of c.args.index.now) in
     sought-last xs c.args.state.now c.args.left c.args.from c.args.end c.requires.group c.loop-low.low c.loop-low.high c.loop-low.best c.loop-low.invariant.sought (omega arith)
 
 pub returns-clause-probes : goal.returns-clause-probes

@@ -1,10 +1,11 @@
-use Rattle.std.proofs.Common.{◌≡◌, ◌≤◌, ◌∷◌, ◌∙◌, get_or, map, sym, ap, subst, arith, rules}
+use Rattle.std.proofs.Common.{◌≡◌, ◌<◌, ◌≤◌, length, [], ◌∷◌, ◌∙◌, refl, map, sym, ap, subst, arith, rules}
 use Rattle.std.specs.Arc.{arc_value}
 use Rattle.asc_model.specs.Entry.{Entry}
 use Rattle.asc_traj.specs.Content.{matches}
-use Rattle.asc_shard.specs.declared.index.Slot.{Slot}
-use Rattle.asc_shard.specs.Inside.{IsMost, sorted_of}
-use Rattle.asc_shard.proofs.Slots.{nth, entry-read, position-in, sorted-at}
+use Rattle.asc_shard.specs.Inside.{IsFrom, IsMost, positions_of, sorted_of}
+use Rattle.asc_shard.specs.Groups.{Asked, IsAsked}
+use Rattle.std.proofs.lemmas.List.Elements.{All-nil}
+use Rattle.asc_shard.proofs.Slots.{nth, position-in, sorted-at}
 use Rattle.asc_shard.proofs.Ranges.{apart-more, asked-one, best-longer, froms-more, froms-one, most-apart, most-more, raised-one, tail-rising}
 use Rattle.asc_shard.proofs.find.search_range.Goals as goal
 
@@ -14,37 +15,36 @@ group_end-end-requires-clause-marks g c = λ i j least lt least_j lt_j. c.requir
 pub last_match-requires-clause-group : goal.last_match-requires-clause-group
 last_match-requires-clause-group g c =
     let held = map arc_value c.args.entries.now in
-    let slots = c.args.slots.now in
+    let slots = positions_of c.args.index.now in
     let xs = sorted_of held slots in
     let s = c.args.state.now in
     let from = c.loop-from.from in
     let end = c.group_end-end.result in
     let v = c.loop-from.invariant in
-    let first = entry-read c.args.entries.now slots from _ _ _ c.requires.index (omega arith) c.index-entries-slots.is c.deref-first.ensures in
+    let first = c.entry-first.ensures in
     let same : c.shape.result ≡ c.shape-in-loop-from.result = search rules in
     let shape : (nth xs from).shape ≡ s.shape = ap (λ (e : Entry). e.shape) (sym first) ∙ sym c.shape.ensures ∙ same ∙ c.shape-in-loop-from.ensures.shape in
-    tail-rising held slots s from end c.requires.index (omega arith) (λ i j least lt least_j lt_j. c.requires.marks i j (omega arith) (omega arith) (omega arith) (omega arith))
+    tail-rising held slots s from end c.requires.index.entries (omega arith) (λ i j least lt least_j lt_j. c.requires.marks i j (omega arith) (omega arith) (omega arith) (omega arith))
     c.group_end-end.ensures.same shape
 
 pub loop-from-preserved-in-Some : goal.loop-from-preserved-in-Some
 loop-from-preserved-in-Some g c =
     let held = map arc_value c.args.entries.now in
-    let slots = c.args.slots.now in
+    let slots = positions_of c.args.index.now in
     let xs = sorted_of held slots in
     let s = c.args.state.now in
     let from = c.loop-from.from in
     let end = c.group_end-end.result in
     let v = c.loop-from.invariant in
-    let first = entry-read c.args.entries.now slots from _ _ _ c.requires.index (omega arith) c.index-entries-slots.is c.deref-first.ensures in
+    let first = c.entry-first.ensures in
     let p = c.last_match.ensures.probes in
     let last = c.last_match.ensures.last in
     let i = c.in-Some.i in
     let within = last.within i c.in-Some.is in
-    let blank : Slot = record { mark = record { mask = 0; print = 0 }; position = 0 } in
-    let position = (get_or slots i blank).position in
-    let at : nth xs i ≡ nth held position = sorted-at held slots i blank (omega arith) in
+    let position = c.position.result in
+    let at : nth xs i ≡ nth held position = sorted-at held slots i 0 (omega arith) ∙ ap (nth held) (sym c.position.ensures) in
     let matched = last.matched i c.in-Some.is in
-    let best = best-longer held s c.args.left c.loop-from.now position v.best (position-in held slots i blank c.requires.index (omega arith))
+    let best = best-longer held s c.args.left c.loop-from.now position v.best (subst (λ n. n < length held) (sym c.position.ensures) (position-in held slots i 0 c.requires.index.entries (omega arith)))
     (ap (matches s) (sym at) ∙ matched.0) (subst (λ (e : Entry). e.steps ≤ c.args.left) at matched.1) c.longer_of-now.result c.longer_of-now.ensures in
     let rises = best.1 in
     let some : IsMost xs s c.args.left from end c.longer_of-now.result.steps = λ k least lt match enough.
@@ -61,7 +61,7 @@ loop-from-preserved-in-Some g c =
       apart = apart-more xs c.args.low from end c.args.high (omega arith) v.apart c.group_end-end.ensures.same c.group_end-end.ensures.rest;
       probes = (
         record { entry = nth xs from; probes = p.0 } ∷ v.probes.0,
-        asked-one held slots s c.args.low from end p.0 v.probes.0 c.requires.index (omega arith) (omega arith) (omega arith)
+        asked-one held slots s c.args.low from end p.0 v.probes.0 c.requires.index.entries (omega arith) (omega arith) (omega arith)
             (λ i least lt. v.apart i from least lt (omega arith) (omega arith)) c.group_end-end.ensures.same
             (c.requires.prints from (omega arith) (omega arith)) p.1 v.probes.1 v.probes.2,
         froms-one xs c.args.low from end p.0 v.probes.0 (omega arith) (omega arith) v.probes.2,
@@ -72,13 +72,13 @@ loop-from-preserved-in-Some g c =
 pub loop-from-preserved-in_default : goal.loop-from-preserved-in_default
 loop-from-preserved-in_default g c =
     let held = map arc_value c.args.entries.now in
-    let slots = c.args.slots.now in
+    let slots = positions_of c.args.index.now in
     let xs = sorted_of held slots in
     let s = c.args.state.now in
     let from = c.loop-from.from in
     let end = c.group_end-end.result in
     let v = c.loop-from.invariant in
-    let first = entry-read c.args.entries.now slots from _ _ _ c.requires.index (omega arith) c.index-entries-slots.is c.deref-first.ensures in
+    let first = c.entry-first.ensures in
     let p = c.last_match.ensures.probes in
     let none : IsMost xs s c.args.left from end c.loop-from.now.steps = λ k least lt match enough.
     let le = c.last_match.ensures.last.none c.in_default.is k least lt match enough in
@@ -92,7 +92,7 @@ loop-from-preserved-in_default g c =
       apart = apart-more xs c.args.low from end c.args.high (omega arith) v.apart c.group_end-end.ensures.same c.group_end-end.ensures.rest;
       probes = (
         record { entry = nth xs from; probes = p.0 } ∷ v.probes.0,
-        asked-one held slots s c.args.low from end p.0 v.probes.0 c.requires.index (omega arith) (omega arith) (omega arith)
+        asked-one held slots s c.args.low from end p.0 v.probes.0 c.requires.index.entries (omega arith) (omega arith) (omega arith)
             (λ i least lt. v.apart i from least lt (omega arith) (omega arith)) c.group_end-end.ensures.same
             (c.requires.prints from (omega arith) (omega arith)) p.1 v.probes.1 v.probes.2,
         froms-one xs c.args.low from end p.0 v.probes.0 (omega arith) (omega arith) v.probes.2,
@@ -103,13 +103,13 @@ loop-from-preserved-in_default g c =
 pub loop-from-preserved : goal.loop-from-preserved
 loop-from-preserved g c =
     let held = map arc_value c.args.entries.now in
-    let slots = c.args.slots.now in
+    let slots = positions_of c.args.index.now in
     let xs = sorted_of held slots in
     let s = c.args.state.now in
     let from = c.loop-from.from in
     let end = c.group_end-end.result in
     let v = c.loop-from.invariant in
-    let first = entry-read c.args.entries.now slots from _ _ _ c.requires.index (omega arith) c.index-entries-slots.is c.deref-first.ensures in
+    let first = c.entry-first.ensures in
     let unlike : c.shape.result ≡ c.shape-in-loop-from.result → ⊥ = λ same. search rules in
     let other : (nth xs from).shape ≡ s.shape → ⊥ = λ e.
     unlike (c.shape.ensures ∙ ap (λ (entry : Entry). entry.shape) first ∙ e ∙ sym c.shape-in-loop-from.ensures.shape) in
@@ -127,5 +127,23 @@ loop-from-preserved g c =
 pub returns-clause-probes : goal.returns-clause-probes
 returns-clause-probes g c =
     let v = c.loop-from.invariant in
-    let xs = sorted_of (map arc_value c.args.entries.now) c.args.slots.now in
+    let xs = sorted_of (map arc_value c.args.entries.now) (positions_of c.args.index.now) in
     (v.probes.0, v.probes.1, froms-more xs c.args.low c.loop-from.from c.args.high v.probes.0 v.most v.probes.2, v.probes.3)
+
+pub loop-from-init : goal.loop-from-init
+loop-from-init g c =
+    let held = map arc_value c.args.entries.now in
+    record {
+      least = omega arith;
+      most = c.requires.range.0;
+      best = c.requires.best;
+      found = λ i least lt match enough. absurd (omega arith);
+      rises = omega arith;
+      apart = λ i j least lt least_j lt_j. absurd (omega arith);
+      probes = (
+        [],
+        record { each = All-nil (IsAsked held c.args.state.now); apart = λ i j d lt below. absurd (omega arith) },
+        All-nil (λ (a : Asked). IsFrom (sorted_of held (positions_of c.args.index.now)) c.args.low c.args.low a.entry),
+        refl,
+      );
+    }

@@ -3,7 +3,7 @@ use Rattle.std.specs.Prelude.{All, sum_by}
 use Rattle.std.specs.Arc.{arc_value}
 use Rattle.std.specs.declared.cmp.Ordering.TheVariants.{Less}
 use Rattle.asc_shard.specs.Groups.{AreAsked, Asked}
-use Rattle.asc_shard.specs.Inside.{IsBest, IsFrom, IsMost, by_group, raised, sorted_of}
+use Rattle.asc_shard.specs.Inside.{IsBest, IsFrom, IsMost, by_group, raised, sorted_in}
 use Rattle.asc_shard.proofs.Slots.{nth}
 use Rattle.asc_shard.proofs.find.search_range.Given as goal
 
@@ -12,12 +12,12 @@ invariant-loop-from g l = record {
   least : l.low ≤ l.from;
   most : l.from ≤ l.high;
   best : IsBest (map arc_value l.entries) l.state l.left l.now.position l.now.steps;
-  found : IsMost (sorted_of (map arc_value l.entries) l.slots) l.state l.left l.low l.from l.now.steps;
+  found : IsMost (sorted_in (map arc_value l.entries) l.index) l.state l.left l.low l.from l.now.steps;
   rises : l.fn.best.steps ≤ l.now.steps;
   apart : (i j : ℕ) → l.low ≤ i → i < l.from → l.from ≤ j → j < l.high
-      → by_group (nth (sorted_of (map arc_value l.entries) l.slots) i) (nth (sorted_of (map arc_value l.entries) l.slots) j) ≡ Less;
+      → by_group (nth (sorted_in (map arc_value l.entries) l.index) i) (nth (sorted_in (map arc_value l.entries) l.index) j) ≡ Less;
   probes : (asked : List Asked) × AreAsked (map arc_value l.entries) l.state asked
-      × All (λ a. IsFrom (sorted_of (map arc_value l.entries) l.slots) l.low l.from a.entry) asked
+      × All (λ a. IsFrom (sorted_in (map arc_value l.entries) l.index) l.low l.from a.entry) asked
       × (g.P.Probes.count l.probes ≡ raised g.P.Probes.more (sum_by (λ a. a.probes) asked) (g.P.Probes.count l.fn.probes));
 }
 

@@ -1,33 +1,35 @@
-use Rattle.std.proofs.Common.{◌≡◌, ◌+◌, ◌-◌, sym, ap, ◌∙◌, arith, true, false, length, drop, get_or}
-use Rattle.std.proofs.lemmas.List.{get_or-replicate, drop_all, length-set, length-replicate}
-use Rattle.asc_model.specs.DependencyVector.{is_among}
-use Rattle.asc_shard.specs.Inside.{places_of}
-use Rattle.asc_shard.proofs.Marks.{had-more, bits-alike}
+use Rattle.std.proofs.Common.{◌≡◌, ◌∙◌, ℕ, ◌+◌, ◌*◌, ◌/◌, ◌%◌, ◌^◌, ◌<◌, get_or, ap, arith}
+use Rattle.std.proofs.lemmas.Nat.{shl_whole}
+use Rattle.std.proofs.lemmas.List.{take_all}
+use Rattle.asc_traj.specs.declared.part.Part.{Part}
+use Rattle.asc_traj.specs.Parts.{all_cells, word_place}
+use Rattle.asc_traj.proofs.Parts.{part}
+use Rattle.asc_shard.proofs.Marks.{bits-one, bits-room, bits_in, mask-is}
 use Rattle.asc_shard.proofs.mark.mask_of.Goals as goal
 
-pub loop-i-init : goal.loop-i-init
-loop-i-init c = record {
-  room = length-replicate 128 false;
-  most = omega arith;
-  has = λ p lt. get_or-replicate 128 p false false lt
-      ∙ sym (ap (λ list. is_among p (places_of list)) (drop_all (length c.args.cells.now) c.args.cells.now (omega arith)));
-}
+-- what is shifted is not cut off
+shifted : (p : Part) (low : ℕ) → p.at < 512 → low ≡ p.at % 16 → (low * 2 ^ (p.at / 16 * 4)) % 340282366920938463463374607431768211456 ≡ p.at % 16 * 2 ^ word_place p
+shifted p low lt is =
+    ap (λ (n : ℕ). (n * 2 ^ (p.at / 16 * 4)) % 340282366920938463463374607431768211456) is
+    ∙ shl_whole (p.at % 16) 4 (p.at / 16 * 4) 128 (let small : p.at % 16 < 16 = omega arith in small) (omega (arith, lt))
 
-pub loop-i-preserved : goal.loop-i-preserved
-loop-i-preserved c =
-    let cells = c.args.cells.now in
-    let before : c.loop-i.i ≡ (c.loop-i.i - 1) + 1 = omega arith in
-    record {
-      room = length-set c.loop-i.has (get_or cells (c.loop-i.i - 1) (0, 0)).0 true ∙ c.loop-i.invariant.room;
-      most = omega arith;
-      has = λ p lt. had-more c.loop-i.has cells (c.loop-i.i - 1) p (0, 0) (omega arith) (omega (arith, c.loop-i.invariant.room))
-          (c.loop-i.invariant.has p lt ∙ ap (λ n. is_among p (places_of (drop n cells))) before);
-    }
+pub overflow_add-mask : goal.overflow_add-mask
+overflow_add-mask c =
+    let parts = c.args.parts.now in
+    let i = c.loop-part.part-index in
+    let p = get_or parts i (part 0 0) in
+    let cut = shifted p c.from.result (c.requires.places i (part 0 0) c.loop-part-test.true) c.from.ensures in
+    omega (arith, c.loop-part.invariant, cut, bits-room parts i (part 0 0) c.loop-part-test.true c.requires.places c.requires.rise)
+
+pub loop-part-preserved : goal.loop-part-preserved
+loop-part-preserved c =
+    let parts = c.args.parts.now in
+    let i = c.loop-part.part-index in
+    let p = get_or parts i (part 0 0) in
+    let cut = shifted p c.from.result (c.requires.places i (part 0 0) c.loop-part-test.true) c.from.ensures in
+    ap (λ (n : ℕ). c.loop-part.mask + n) cut ∙ ap (λ (n : ℕ). n + p.at % 16 * 2 ^ word_place p) c.loop-part.invariant ∙ bits-one parts i (part 0 0) c.loop-part-test.true
 
 pub returns : goal.returns
 returns c =
-    let cells = c.args.cells.now in
-    let none : c.loop-i.i ≡ 0 = omega arith in
-    c.bits_of.ensures
-    ∙ bits-alike (λ p. get_or c.loop-i.has p false) (λ p. is_among p (places_of cells)) 128 0
-    (λ p least most. c.loop-i.invariant.has p (omega arith) ∙ ap (λ n. is_among p (places_of (drop n cells))) none)
+    let parts = c.args.parts.now in
+    c.loop-part.invariant ∙ ap (λ list. bits_in (all_cells list)) (take_all c.loop-part.part-index parts c.loop-part-test.false) ∙ mask-is parts c.requires.places c.requires.rise

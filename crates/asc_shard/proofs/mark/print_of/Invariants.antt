@@ -1,7 +1,8 @@
-use Rattle.std.proofs.Common.{◌≡◌, take}
+-- The fingerprint of so many parts.
+use Rattle.std.proofs.Common.{◌≡◌, ℕ, take}
+use Rattle.asc_traj.specs.Parts.{all_cells}
 use Rattle.asc_shard.specs.Marks.{fingerprint}
-use Rattle.asc_shard.specs.Inside.{bytes_of}
 use Rattle.asc_shard.proofs.mark.print_of.Given as goal
 
-abbrev pub invariant-loop-cell : goal.invariant-loop-cell
-invariant-loop-cell l = l.print ≡ fingerprint (bytes_of (take l.cell-index l.cells))
+abbrev pub invariant-loop-part : goal.invariant-loop-part
+invariant-loop-part l = l.print ≡ fingerprint (λ (cell : ℕ × ℕ). cell.1) (all_cells (take l.part-index l.parts))

@@ -1,6 +1,8 @@
+-- So many words are passed over.
 use Rattle.std.proofs.Common.{◌≡◌, ◌-◌, ◌≤◌, length, drop}
 use Rattle.std.specs.Ordering.{nat_cmp}
 use Rattle.std.specs.Cmp.Lexicographic.{slice_cmp}
+use Rattle.asc_traj.specs.Parts.{all_cells}
 use Rattle.asc_shard.specs.Inside.{places_of}
 use Rattle.asc_shard.proofs.order.compare_places.Given as goal
 
@@ -8,7 +10,7 @@ abbrev pub invariant-loop-i : goal.invariant-loop-i
 invariant-loop-i l = record {
   first : l.i ≤ length l.a;
   second : l.i ≤ length l.b;
-  rest : slice_cmp nat_cmp (places_of l.a) (places_of l.b) ≡ slice_cmp nat_cmp (places_of (drop l.i l.a)) (places_of (drop l.i l.b));
+  rest : slice_cmp nat_cmp (places_of (all_cells l.a)) (places_of (all_cells l.b)) ≡ slice_cmp nat_cmp (places_of (all_cells (drop l.i l.a))) (places_of (all_cells (drop l.i l.b)));
 }
 
 abbrev pub decreases-loop-i : goal.decreases-loop-i

@@ -15,13 +15,13 @@ use Rattle.asc_step.proofs.stepping.execute_word.Goals as goal
 pub execute-requires-clause-version : goal.execute-requires-clause-version
 execute-requires-clause-version g c =
     effect_of_version _ _ _ _ c.requires.at.state
-    (c.has_atomics.ensures ∙ c.version.ensures ∙ ap (λ (x : Shape). x.version) c.requires.shape)
+    (c.has_atomics.ensures ∙ c.version.ensures ∙ ap (λ (x : Shape). x.version) c.shape-shape.ensures.shape)
     c.in-Some.ensures.instruction
 
 pub returns-in-None-clause-face : goal.returns-in-None-clause-face
 returns-in-None-clause-face g c =
     let f : Face = g.B.Bytes.face c.args.bytes.now in
     let none : None ≡ decode f.state.shape.version c.args.word = c.in-None.ensures.instruction
-    ∙ ap (λ (v : Version). decode v c.args.word) (c.has_atomics.ensures ∙ c.version.ensures ∙ ap (λ (x : Shape). x.version) c.requires.shape) in
+    ∙ ap (λ (v : Version). decode v c.args.word) (c.has_atomics.ensures ∙ c.version.ensures ∙ ap (λ (x : Shape). x.version) c.shape-shape.ensures.shape) in
     subst (λ (i : Option Instr). f ≡ face_after_outcome f (operand_places f.state.shape (view_of f.state) i) (outcome_of_word f.state.shape (view_of f.state) i)) none
     (sym (face_after_puts-nil (face_after_reads f []) ∙ face_after_reads-nil f))

@@ -54,7 +54,7 @@ loop-why-preserved-then-pc-stop g c =
     let later = c.attempt.new.tracer in
     let way = c.loop-why.invariant.way in
     let marks = c.known-in-loop-why.ensures.marks in
-    let pc = sym (ap (λ s. (view_of s).pc) c.state.ensures) ∙ sym c.pc.ensures ∙ c.if-pc-stop.true in
+    let pc = sym c.pc.ensures ∙ c.if-pc-stop.true in
     record {
       way = goes_on bounds start c.loop-why.steps c.loop-why.laps t later way c.known-in-loop-why.ensures.state marks
           (sym (met-bound bounds start c.loop-why.steps c.loop-why.laps t way c.known-in-loop-why.ensures.tracer marks) ∙ sym c.bound_met.ensures ∙ c.in_default.is)
@@ -75,7 +75,7 @@ loop-why-preserved g c =
     let later = c.attempt.new.tracer in
     let way = c.loop-why.invariant.way in
     let marks = c.known-in-loop-why.ensures.marks in
-    let pc : (view_of later.state).pc ≡ c.args.stop.now.pc → ⊥ = λ e. c.if-pc-stop.false (c.pc.ensures ∙ ap (λ s. (view_of s).pc) c.state.ensures ∙ e) in
+    let pc : (view_of later.state).pc ≡ c.args.stop.now.pc → ⊥ = λ e. c.if-pc-stop.false (c.pc.ensures ∙ e) in
     record {
       way = goes_on bounds start c.loop-why.steps c.loop-why.laps t later way c.known-in-loop-why.ensures.state marks
           (sym (met-bound bounds start c.loop-why.steps c.loop-why.laps t way c.known-in-loop-why.ensures.tracer marks) ∙ sym c.bound_met.ensures ∙ c.in_default.is)

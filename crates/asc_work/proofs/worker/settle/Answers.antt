@@ -8,9 +8,6 @@ use Rattle.asc_work.specs.Worker.{Missed}
 use Rattle.asc_work.proofs.Reaching.{stopped_later, start_of_none}
 use Rattle.asc_work.proofs.worker.settle.Goals as goal
 
-none_is_start : (t : Tracing) (n : ℕ) → n ≤ 0 → StandsFor n t → t.state ≡ origin_of t
-none_is_start t n l h = let e : n ≡ 0 = omega arith in start_of_none t (subst (λ m. StandsFor m t) e h)
-
 pub returns-then-traced-gt0-clause-missed : goal.returns-then-traced-gt0-clause-missed
 returns-then-traced-gt0-clause-missed c =
     let stopped : is_stopped c.args.traced.why ≡ true = sym c.is_stopped.ensures ∙ c.if-is_stopped.true in
@@ -21,15 +18,14 @@ unstarted-requires-clause-stopped c =
     let stopped : is_stopped c.args.traced.why ≡ true = sym c.is_stopped.ensures ∙ c.if-is_stopped.true in
     let bounds = bounds_of c.args.stop.now c.args.tracer.now.cap in
     let none : c.args.traced.steps ≡ 0 = omega arith in
-    subst (λ (s : State). MayStop bounds s 0) (sym (none_is_start c.args.tracer.now c.args.traced.steps c.if-traced-gt0.false c.requires.stands))
-    (subst (λ n. MayStop bounds (origin_of c.args.tracer.now) n) none (c.requires.stopped stopped))
+    subst (λ n. MayStop bounds (origin_of c.args.tracer.now) n) none (c.requires.stopped stopped)
 
 pub returns-then-is_stopped-clause-missed : goal.returns-then-is_stopped-clause-missed
 returns-then-is_stopped-clause-missed c =
     let stopped : is_stopped c.args.traced.why ≡ true = sym c.is_stopped.ensures ∙ c.if-is_stopped.true in
     let bounds = bounds_of c.args.stop.now c.args.tracer.now.cap in
     subst (λ (b : Bool). Missed c.unstarted.result b (reach_of bounds (origin_of c.args.tracer.now))) (sym stopped)
-    (subst (λ (s : State). Missed c.unstarted.result true (reach_of bounds s)) (none_is_start c.args.tracer.now c.args.traced.steps c.if-traced-gt0.false c.requires.stands) c.unstarted.ensures.missed)
+    c.unstarted.ensures.missed
 
 pub returns-then-traced-eq0-clause-missed : goal.returns-then-traced-eq0-clause-missed
 returns-then-traced-eq0-clause-missed c =

@@ -1,23 +1,28 @@
-use Rattle.std.proofs.Common.{◌≡◌, ◌<◌, ◌∙◌, ℕ, List, drop, length, sym, ap, subst, arith, length-take}
-use Rattle.std.specs.Prelude.{All}
-use Rattle.std.proofs.lemmas.List.{length-map}
-use Rattle.std.proofs.lemmas.List.Elements.{All-drop}
-use Rattle.asc_model.specs.Shape.{length_of}
-use Rattle.asc_depvec.specs.Inside.{status_of, statuses_of}
-use Rattle.asc_depvec.specs.Tracer.{untouch}
-use Rattle.asc_depvec.proofs.Undoing.{IsTracer-undone, touched-within}
+use Rattle.std.proofs.Common.{drop, refl, arith}
+use Rattle.std.specs.Vec.{with_items}
+use Rattle.asc_depvec.specs.Tracer.{places_of}
+use Rattle.asc_depvec.proofs.Insides.{IsTracer-later, Leaves-undone, back_items, count_told, given_items, marks_within, undone-view}
 use Rattle.asc_depvec.proofs.tracer.Tracer.undo.Goals as goal
 
-pub untouch_since-requires-clause-places : goal.untouch_since-requires-clause-places
-untouch_since-requires-clause-places c =
-    let t = c.self.inside in
-    let all = touched-within _ (statuses_of t.marks.items) t.touched.items c.self.invariant.places in
-    let size : length c.deref_mut.result.now ≡ _ = ap (λ (list : List ℕ). length list) c.deref_mut.ensures.value ∙ sym (length-map t.marks.items status_of) ∙ c.self.invariant.places.0 in
-    subst (λ (n : ℕ). All (λ cell. cell.0 < n) (drop c.args.mark t.touched.items)) (sym size) (All-drop (λ cell. cell.0 < length_of t.shape) c.args.mark t.touched.items all)
+pub take_back-requires-clause-mark : goal.take_back-requires-clause-mark
+take_back-requires-clause-mark c = omega (arith, c.requires, count_told c.self.inside _ c.self.view_is)
+
+pub take_back-requires-clause-places : goal.take_back-requires-clause-places
+take_back-requires-clause-places c = marks_within c.self.inside c.deref_mut-2.result.now c.self.inside.touched.items c.self.invariant c.deref_mut-2.ensures.value refl
 
 pub invariant_of-self : goal.invariant_of-self
 invariant_of-self c =
     let t = c.self.inside in
-    IsTracer-undone t c.args.mark c.untouch_since.new.marks c.truncate.new.self c.self.invariant (c.untouch_since.auto.marks ∙ ap (λ (list : List ℕ). length list) c.deref_mut.ensures.value)
-    (c.untouch_since.ensures ∙ ap (λ (list : List ℕ). untouch (statuses_of list) (drop c.args.mark t.touched.items)) c.deref_mut.ensures.value)
-    c.truncate.ensures.items (omega (arith, ap (λ (list : List (ℕ × ℕ)). length list) c.truncate.ensures.items, length-take c.args.mark t.touched.items)) c.truncate.ensures.cap
+    let last = drop c.args.mark (places_of t.touched.items) in
+    let put = given_items t c.deref_mut.result.now c.take_back.new.bytes last c.deref_mut.ensures.value c.take_back.auto.bytes c.take_back.ensures.bytes in
+    let back = back_items t c.deref_mut-2.result.now c.take_back.new.marks last c.deref_mut-2.ensures.value c.take_back.auto.marks c.take_back.ensures.statuses in
+    IsTracer-later t (with_items t.bytes c.take_back.new.bytes) (with_items t.marks c.take_back.new.marks) c.take_back.new.touched _ _ c.self.invariant
+    (Leaves-undone t (with_items t.bytes c.take_back.new.bytes) (with_items t.marks c.take_back.new.marks) c.take_back.new.touched c.args.mark c.self.invariant put back c.take_back.ensures.places c.take_back.ensures.cap)
+
+pub returns : goal.returns
+returns c =
+    let t = c.self.inside in
+    let last = drop c.args.mark (places_of t.touched.items) in
+    let put = given_items t c.deref_mut.result.now c.take_back.new.bytes last c.deref_mut.ensures.value c.take_back.auto.bytes c.take_back.ensures.bytes in
+    let back = back_items t c.deref_mut-2.result.now c.take_back.new.marks last c.deref_mut-2.ensures.value c.take_back.auto.marks c.take_back.ensures.statuses in
+    undone-view t _ (with_items t.bytes c.take_back.new.bytes) (with_items t.marks c.take_back.new.marks) c.take_back.new.touched c.args.mark c.self.view_is put back c.take_back.ensures.places

@@ -1,42 +1,32 @@
-use Rattle.std.proofs.Common.{ap, ◌∙◌}
-use Rattle.asc_model.specs.State.{State}
-use Rattle.asc_shape.specs.Face.{is_untouched}
-use Rattle.asc_depvec.proofs.Marking.{touched-after_write}
-use Rattle.asc_depvec.proofs.Insides.{HasRoom-from, Touches-from, IsPlace-from, IsTracer-after_touch, face-put}
+use Rattle.std.proofs.Common.{arith, refl}
+use Rattle.std.specs.Vec.{with_item}
+use Rattle.asc_depvec.proofs.Insides.{IsPlace-from, IsTracer-later, Leaves-put_by, face-put, of_bytes, of_marks, room_for}
 use Rattle.asc_depvec.proofs.tracer.TracerBytes.put.Goals as goal
 
-pub get-before-requires : goal.get-before-requires
-get-before-requires c =
-    let has = HasRoom-from c.self.inside _ c.self.view_is c.requires.room in
-    (IsPlace-from c.self.inside _ c.args.place c.self.view_is c.shape.ensures.state c.self.invariant has.own c.requires.place).of_state
-
 pub index-requires : goal.index-requires
-index-requires c =
-    let has = HasRoom-from c.self.inside _ c.self.view_is c.requires.room in
-    (IsPlace-from c.self.inside _ c.args.place c.self.view_is c.shape.ensures.state c.self.invariant has.own c.requires.place).of_marks
+index-requires c = of_marks c.self.inside c.args.place c.self.invariant (IsPlace-from c.self.inside _ c.args.place c.self.view_is c.self.invariant c.requires.place)
 
 pub index_mut-requires : goal.index_mut-requires
-index_mut-requires c =
-    let has = HasRoom-from c.self.inside _ c.self.view_is c.requires.room in
-    (IsPlace-from c.self.inside _ c.args.place c.self.view_is c.shape.ensures.state c.self.invariant has.own c.requires.place).of_marks
+index_mut-requires c = of_marks c.self.inside c.args.place c.self.invariant (IsPlace-from c.self.inside _ c.args.place c.self.view_is c.self.invariant c.requires.place)
 
-pub set-requires : goal.set-requires
-set-requires c =
-    let has = HasRoom-from c.self.inside _ c.self.view_is c.requires.room in
-    (IsPlace-from c.self.inside _ c.args.place c.self.view_is c.shape.ensures.state c.self.invariant has.own c.requires.place).of_state
+pub index_mut-requires-2 : goal.index_mut-requires-2
+index_mut-requires-2 c = of_bytes c.self.inside c.args.place c.self.invariant (IsPlace-from c.self.inside _ c.args.place c.self.view_is c.self.invariant c.requires.place)
 
 pub invariant_of-self : goal.invariant_of-self
 invariant_of-self c =
     let t = c.self.inside in
-    let has = HasRoom-from t _ c.self.view_is c.requires.room in
-    let did = Touches-from t _ c.set.new.self c.args.place c.get-before.result c.index.result.now c.status_of-status.result c.mark_of.result c.note.new.touched c.self.view_is c.shape.ensures.state
-    c.self.invariant has c.requires.place (ap (λ (s : State). s.shape) c.set.ensures) c.index.ensures c.status_of-status.ensures (ap is_untouched (c.mark_of.ensures ∙ c.after_write.ensures) ∙ touched-after_write _) c.note.ensures.touched c.note.ensures.cap in
-    IsTracer-after_touch t c.set.new.self c.args.place _ _ c.mark_of.result c.note.new.touched c.self.invariant has did
+    let did = Leaves-put_by t _ (with_item t.bytes c.args.place c.args.byte) (with_item t.marks c.args.place c.mark_of.result) c.note.new.touched c.args.place c.args.byte
+    c.index.result.now c.mark_of.result c.status_of-status.result c.after_write.result c.self.view_is c.self.invariant c.requires.place c.requires.room
+    c.index.ensures c.status_of-status.ensures c.mark_of.ensures c.after_write.ensures refl refl c.note.ensures.touched c.note.ensures.cap in
+    IsTracer-later t (with_item t.bytes c.args.place c.args.byte) (with_item t.marks c.args.place c.mark_of.result) c.note.new.touched _ _ c.self.invariant did
 
 pub returns : goal.returns
 returns c =
     let t = c.self.inside in
-    let has = HasRoom-from t _ c.self.view_is c.requires.room in
-    let did = Touches-from t _ c.set.new.self c.args.place c.get-before.result c.index.result.now c.status_of-status.result c.mark_of.result c.note.new.touched c.self.view_is c.shape.ensures.state
-    c.self.invariant has c.requires.place (ap (λ (s : State). s.shape) c.set.ensures) c.index.ensures c.status_of-status.ensures (ap is_untouched (c.mark_of.ensures ∙ c.after_write.ensures) ∙ touched-after_write _) c.note.ensures.touched c.note.ensures.cap in
-    record { face = face-put t _ c.set.new.self c.args.place c.args.byte _ _ c.mark_of.result c.note.new.touched c.self.view_is has did (c.mark_of.ensures ∙ c.after_write.ensures) c.get-before.ensures c.set.ensures }
+    let did = Leaves-put_by t _ (with_item t.bytes c.args.place c.args.byte) (with_item t.marks c.args.place c.mark_of.result) c.note.new.touched c.args.place c.args.byte
+    c.index.result.now c.mark_of.result c.status_of-status.result c.after_write.result c.self.view_is c.self.invariant c.requires.place c.requires.room
+    c.index.ensures c.status_of-status.ensures c.mark_of.ensures c.after_write.ensures refl refl c.note.ensures.touched c.note.ensures.cap in
+    record { face = face-put t _ (with_item t.bytes c.args.place c.args.byte) (with_item t.marks c.args.place c.mark_of.result) c.note.new.touched c.args.place c.args.byte c.self.view_is c.self.invariant refl did }
+
+pub note-requires-clause-room : goal.note-requires-clause-room
+note-requires-clause-room c = omega (arith, room_for c.self.inside _ 1 c.self.view_is (omega arith) c.requires.room, c.self.invariant.filled)

@@ -1,10 +1,11 @@
-use Rattle.std.proofs.Common.{sym, ◌∙◌}
-use Rattle.std.proofs.lemmas.Bool.{eqb-true}
-use Rattle.asc_shape.proofs.Snapshots.{pc_read, pc_blank}
+use Rattle.std.proofs.Common.{sym, ◌∙◌, arith}
+use Rattle.asc_model.proofs.Views.{view_of-pc}
+use Rattle.asc_shape.proofs.Snapshots.{front_tells, word_front}
 use Rattle.asc_shape.proofs.snapshot.Snapshot.pc.Goals as goal
 
-pub returns-then-is_empty : goal.returns-then-is_empty
-returns-then-is_empty c = pc_blank _ c.args.self.now c.page-first.result.now c.page-first.ensures (eqb-true _ _ (sym c.is_empty.ensures ∙ c.if-is_empty.true))
-
-pub returns-else-is_empty : goal.returns-else-is_empty
-returns-else-is_empty c = c.word_in.ensures ∙ pc_read _ c.args.self.now c.page-first.result.now c.page-first.ensures
+pub returns : goal.returns
+returns c =
+    let inside = c.self.inside in
+    c.word_in.ensures
+    ∙ word_front c.args.self.now inside.front 0 (λ i below. front_tells c.args.self.now inside.shape inside.front inside.pages c.self.view_is i (omega (arith, below, c.self.invariant.shape.size.least)) below) (omega arith)
+    ∙ sym (view_of-pc c.args.self.now)

@@ -1,21 +1,18 @@
-use Rattle.std.proofs.Common.{◌≡◌, ◌<◌, ℕ, List, [], ◌∷◌, length, take, get_or, slice_set, sym, ap, subst, ◌∙◌}
-use Rattle.std.proofs.lemmas.List.{take_more}
-use Rattle.asc_model.specs.State.{State}
-use Rattle.asc_model.specs.Places.{bytes_after}
-use Rattle.asc_model.proofs.Numbers.{bytes_after-append}
+use Rattle.std.proofs.Common.{◌≡◌, ◌+◌, ◌≤◌, List, sym, ap, subst, ◌∙◌}
+use Rattle.std.specs.Prelude.{All}
+use Rattle.asc_model.specs.Entry.{Entry}
+use Rattle.asc_model.specs.Shape.{Shape, length_of}
+use Rattle.asc_traj.specs.declared.part.Part.{Part}
+use Rattle.asc_traj.specs.Parts.{word_place}
+use Rattle.asc_traj.proofs.Matching.{length_whole}
+use Rattle.asc_traj.proofs.Parts.{parts-within}
 use Rattle.asc_traj.proofs.entry.Entry.put.Goals as goal
 
-pub loop-place-preserved : goal.loop-place-preserved
-loop-place-preserved c =
-    let before = c.args.state.now in
-    let now = c.loop-place.state in
-    let cells = c.args.self.now.writes in
-    let i = c.loop-place.place-index in
-    let cell = get_or cells i (0, 0) in
-    let listed : c.writes-place-items.result.now ≡ cells = c.writes-place-items.ensures ∙ ap (λ e. e.writes) c.self.view_is in
-    let within : i < length cells = subst (λ (list : List (ℕ × ℕ)). i < length list) listed c.loop-place-test.true in
-    c.set.ensures
-    ∙ ap (λ (list : List (ℕ × ℕ)). record now { bytes = slice_set now.bytes (get_or list i (0, 0)).0 (get_or list i (0, 0)).1 }) listed
-    ∙ ap (λ (s : State). record s { bytes = slice_set s.bytes cell.0 cell.1 }) c.loop-place.invariant
-    ∙ ap (λ bytes. record before { bytes = bytes }) (sym (bytes_after-append before.bytes (take i cells) (cell ∷ [])))
-    ∙ ap (λ list. record before { bytes = bytes_after before.bytes list }) (sym (take_more cells i (0, 0) within))
+pub put_parts-requires : goal.put_parts-requires
+put_parts-requires c =
+    let e = c.self.inside in
+    let shape : e.shape ≡ c.args.state.now.shape = sym (c.requires ∙ sym (ap (λ (entry : Entry). entry.shape) c.self.view_is)) in
+    let within = λ (shape : Shape) (parts : List Part). All (λ p. word_place p + 4 ≤ length_of shape) parts in
+    subst (λ (shape : Shape). within shape c.deref.result.now) shape
+    (subst (within e.shape) (sym c.deref.ensures.value)
+    (parts-within (length_of e.shape) e.halves.writes.items (length_whole e.shape c.self.invariant.0.entry.shape) c.self.invariant.2 c.self.invariant.0.entry.writes.places))

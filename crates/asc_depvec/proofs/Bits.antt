@@ -1,0 +1,423 @@
+-- Lemmas on the bits of words.
+use Rattle.std.proofs.Common.{◌≡◌, ℕ, zero, suc, ◌+◌, ◌-◌, ◌*◌, ◌/◌, ◌%◌, ◌^◌, ◌<◌, ◌≤◌, ◌==◌, ◌||◌, Bool, true, false, not, cond, List, [], ◌∷◌, ◌++◌, length, drop, refl, sym, ap, subst, ◌∙◌, ◌⊎◌, inl, inr, slice_index, slice_index_or, slice_set, bit_or, max, arith, append_assoc, append-nil, if◌then◌else◌}
+use Rattle.std.specs.Prelude.{filter, nat_lt}
+use Rattle.std.specs.Int.{bit_at, trailing_zeros, w64}
+use Rattle.std.specs.List.{list_any}
+use Rattle.std.specs.List.Sorted.{IsNonDecreasingBy, IsPermutation}
+use Rattle.std.proofs.lemmas.Bool.{cases_Bool, cases_eq, cases_lt, cond-false, cond-true, eq-eqb, false≢true, lt-ltb, ne_eqb}
+use Rattle.std.proofs.lemmas.List.Sorted.{list_any-IsPermutation}
+use Rattle.std.proofs.lemmas.List.{drop_more, get_or_past, get_or-set_other, get_or-set_same}
+use Rattle.std.proofs.lemmas.List.Elements.{filter-append}
+use Rattle.std.proofs.lemmas.List.Sums.{sum_by-cons}
+use Rattle.std.proofs.Math.Nat.{div-div-eq-div-mul, max-zero}
+use Rattle.std.proofs.Math.Pow.{pow-lt}
+use Rattle.std.proofs.lemmas.Nat.{pow-add}
+use Rattle.std.proofs.lemmas.Nat.Bits.{bit_at_above, bit_at-lt, bit_at-pow_other, bit_at-pow_same, bit_at-trailing_zeros, bit_at-zero, bit_at_or}
+use Rattle.asc_model.specs.Places.{places_from}
+use Rattle.asc_model.specs.DependencyVector.{is_among}
+use Rattle.asc_model.specs.declared.status.Status.{Status}
+use Rattle.asc_model.specs.declared.status.Status.TheVariants.{Untouched}
+use Rattle.asc_shape.specs.Face.{status_at, is_untouched}
+use Rattle.asc_depvec.specs.Bits.{AreListed, has_bit, has_word}
+use Rattle.asc_depvec.specs.Inside.{noted}
+use Rattle.asc_depvec.specs.Tracer.{is_touched_word, places_of_item}
+use Rattle.asc_depvec.proofs.Items.{item_place, item_word}
+use Rattle.asc_depvec.proofs.Marking.{Fits, times}
+
+-- ---- filters of places in a row
+
+pub places_from-append : (m n place : ℕ) → places_from place (m + n) ≡ places_from place m ++ places_from (place + m) n
+places_from-append zero n place =
+    let none : 0 + n ≡ n = omega arith in
+    let same : place ≡ place + 0 = omega arith in
+    ap (places_from place) none ∙ ap (λ (k : ℕ). places_from k n) same
+places_from-append (suc m) n place =
+    let next : suc m + n ≡ suc (m + n) = omega arith in
+    let same : place + 1 + m ≡ place + suc m = omega arith in
+    ap (places_from place) next ∙ ap (λ (list : List ℕ). place ∷ list) (places_from-append m n (place + 1) ∙ ap (λ (k : ℕ). places_from (place + 1) m ++ places_from k n) same)
+
+-- tests that are the same at each of places in a row pass the same of them
+pub filter-alike : (g h : ℕ → Bool) (place n : ℕ) → ((p : ℕ) → place ≤ p → p < place + n → g p ≡ h p) → filter g (places_from place n) ≡ filter h (places_from place n)
+filter-alike g h place zero same = refl
+filter-alike g h place (suc n) same =
+    let rest = filter-alike g h (place + 1) n (λ p least most. same p (omega arith) (omega arith)) in
+    ap (λ list. cond (g place) (place ∷ list) list) rest
+    ∙ ap (λ (t : Bool). cond t (place ∷ filter h (places_from (place + 1) n)) (filter h (places_from (place + 1) n))) (same place (omega arith) (omega arith))
+
+-- a test that fails at each passes none
+pub filter-none : (g : ℕ → Bool) (place n : ℕ) → ((p : ℕ) → place ≤ p → p < place + n → g p ≡ false) → filter g (places_from place n) ≡ []
+filter-none g place zero none = refl
+filter-none g place (suc n) none =
+    cond-false (g place) (place ∷ filter g (places_from (place + 1) n)) (filter g (places_from (place + 1) n)) (none place (omega arith) (omega arith))
+    ∙ filter-none g (place + 1) n (λ p least most. none p (omega arith) (omega arith))
+
+pub filter-parts : (g : ℕ → Bool) (m n place : ℕ) → filter g (places_from place (m + n)) ≡ filter g (places_from place m) ++ filter g (places_from (place + m) n)
+filter-parts g m n place = ap (filter g) (places_from-append m n place) ∙ filter-append g (places_from place m) (places_from (place + m) n)
+
+-- so many more, of which none passes
+pub filter-same : (g : ℕ → Bool) (m n place : ℕ) → ((p : ℕ) → place + m ≤ p → p < place + m + n → g p ≡ false) → filter g (places_from place (m + n)) ≡ filter g (places_from place m)
+filter-same g m n place none =
+    filter-parts g m n place ∙ ap (λ (list : List ℕ). filter g (places_from place m) ++ list) (filter-none g (place + m) n none) ∙ append-nil (filter g (places_from place m))
+
+-- and one that does
+pub filter-next : (g : ℕ → Bool) (m place : ℕ) → g (place + m) ≡ true → filter g (places_from place (m + 1)) ≡ filter g (places_from place m) ++ (place + m) ∷ []
+filter-next g m place pass =
+    filter-parts g m 1 place ∙ ap (λ (list : List ℕ). filter g (places_from place m) ++ list) (cond-true (g (place + m)) ((place + m) ∷ []) [] pass)
+
+-- ---- bits
+
+bit_shift : (n k i : ℕ) → bit_at (n / 2 ^ k) i ≡ bit_at n (k + i)
+bit_shift n k i = ap (λ (m : ℕ). m % 2) (div-div-eq-div-mul n (2 ^ k) (2 ^ i) ∙ ap (λ (d : ℕ). n / d) (sym (pow-add 2 k i)))
+
+bit_false : (b : ℕ) → b ≡ 0 → (b == 1) ≡ false
+bit_false b e = ap (λ (k : ℕ). k == 1) e
+
+bit_true : (b : ℕ) → b ≡ 1 → (b == 1) ≡ true
+bit_true b e = ap (λ (k : ℕ). k == 1) e
+
+or_true : (b : Bool) → (b || true) ≡ true
+or_true true = refl
+or_true false = refl
+
+or_false : (b : Bool) → (b || false) ≡ b
+or_false true = refl
+or_false false = refl
+
+max_one : (b : ℕ) → b < 2 → max b 1 ≡ 1
+max_one zero lt = refl
+max_one (suc zero) lt = refl
+max_one (suc (suc b)) lt = absurd (omega (arith, lt))
+
+-- the power of a bit
+pub bit_power : (k : ℕ) → k < 64 → 1 * 2 ^ k % 2 ^ 64 ≡ 2 ^ k
+bit_power k lt = let small : 2 ^ k < 2 ^ 64 = pow-lt lt in omega (arith, small)
+
+-- one bit more
+pub has-added : (blocks : List ℕ) (word power other : ℕ) → word / 64 < length blocks → power ≡ 2 ^ (word % 64)
+    → has_word (slice_set blocks (word / 64) (bit_or (slice_index blocks (word / 64)) power)) other ≡ (has_word blocks other || word == other)
+has-added blocks word power other within is =
+    let old = slice_index blocks (word / 64) in
+    let new = bit_or old power in
+    let k = word % 64 in
+    let j = other % 64 in
+    elim (cases_eq (other / 64) (word / 64)) [
+      | inl same ↦
+          let stored : slice_index (slice_set blocks (word / 64) new) (other / 64) ≡ new =
+          ap (slice_index (slice_set blocks (word / 64) new)) same ∙ get_or-set_same blocks (word / 64) new 0 within in
+          let before : has_word blocks other ≡ (bit_at old j == 1) = ap (λ (b : ℕ). bit_at (slice_index blocks b) j == 1) same in
+          let set : (bit_at (slice_index (slice_set blocks (word / 64) new) (other / 64)) j == 1) ≡ (max (bit_at old j) (bit_at (2 ^ k) j) == 1) =
+          ap (λ (b : ℕ). bit_at b j == 1) (stored ∙ ap (bit_or old) is) ∙ ap (λ (b : ℕ). b == 1) (bit_at_or old (2 ^ k) j) in
+          elim (cases_eq j k) [
+            | inl here ↦
+                let both : word ≡ other = omega (arith, same, here) in
+                set ∙ ap (λ (b : ℕ). max (bit_at old j) b == 1) (ap (bit_at (2 ^ k)) here ∙ bit_at-pow_same k) ∙ ap (λ (b : ℕ). b == 1) (max_one (bit_at old j) (bit_at-lt old j))
+                ∙ sym (ap (λ (b : Bool). has_word blocks other || b) (eq-eqb word other both) ∙ or_true (has_word blocks other))
+            | inr there ↦
+                set ∙ ap (λ (b : ℕ). max (bit_at old j) b == 1) (bit_at-pow_other k j there) ∙ ap (λ (b : ℕ). b == 1) (max-zero (bit_at old j)) ∙ sym before
+                ∙ sym (ap (λ (b : Bool). has_word blocks other || b) (ne_eqb word other (λ e. there (ap (λ (n : ℕ). n % 64) (sym e)))) ∙ or_false (has_word blocks other))
+          ]
+      | inr apart ↦
+          ap (λ (b : ℕ). bit_at b j == 1) (get_or-set_other blocks (word / 64) (other / 64) new 0 apart)
+          ∙ sym (ap (λ (b : Bool). has_word blocks other || b) (ne_eqb word other (λ e. apart (ap (λ (n : ℕ). n / 64) (sym e)))) ∙ or_false (has_word blocks other))
+    ]
+
+-- no bit of blocks that are 0
+pub has-none : (blocks : List ℕ) (word : ℕ) → slice_index blocks (word / 64) ≡ 0 → has_word blocks word ≡ false
+has-none blocks word none = bit_false (bit_at (slice_index blocks (word / 64)) (word % 64)) (ap (λ (b : ℕ). bit_at b (word % 64)) none ∙ bit_at-zero (word % 64))
+
+-- ---- the words of places
+
+or_row : (a b c d : Bool) → (b ≡ a) ⊎ (b ≡ d) → (c ≡ a) ⊎ (c ≡ d) → (a || (b || (c || (d || false)))) ≡ (a || d)
+or_row true b c d x y = refl
+or_row false true c true x y = refl
+or_row false false true true x y = refl
+or_row false false false true x y = refl
+or_row false b c false x y =
+    let e : b ≡ false = elim x [ inl h ↦ h | inr h ↦ h ] in
+    let f : c ≡ false = elim y [ inl h ↦ h | inr h ↦ h ] in
+    ap (λ (t : Bool). t || (c || false)) e ∙ ap (λ (t : Bool). t || false) f
+
+-- four places in a row stand in the words of the first and the last one
+row_words : (place word : ℕ) → list_any (λ p. p / 4 == word) (places_from place 4) ≡ (place / 4 == word || (place + 3) / 4 == word)
+row_words place word =
+    let last : place + 1 + 1 + 1 ≡ place + 3 = omega arith in
+    let test = λ (n : ℕ). n == word in
+    ap (λ (k : ℕ). (place / 4 == word) || (((place + 1) / 4 == word) || (((place + 1 + 1) / 4 == word) || ((k / 4 == word) || false)))) last
+    ∙ or_row (place / 4 == word) ((place + 1) / 4 == word) ((place + 1 + 1) / 4 == word) ((place + 3) / 4 == word)
+    (elim (cases_lt (place % 4) 3) [
+      | inl lt ↦ inl (ap test (let e : (place + 1) / 4 ≡ place / 4 = omega (arith, lt) in e))
+      | inr ge ↦ inr (ap test (let e : (place + 1) / 4 ≡ (place + 3) / 4 = omega (arith, ge) in e))
+    ])
+    (elim (cases_lt (place % 4) 2) [
+      | inl lt ↦ inl (ap test (let e : (place + 1 + 1) / 4 ≡ place / 4 = omega (arith, lt) in e))
+      | inr ge ↦ inr (ap test (let e : (place + 1 + 1) / 4 ≡ (place + 3) / 4 = omega (arith, ge) in e))
+    ])
+
+or_again : (a b : Bool) → (a || b) ≡ (a || (b || b))
+or_again true b = refl
+or_again false true = refl
+or_again false false = refl
+
+or_assoc : (a b c : Bool) → ((a || b) || c) ≡ (a || (b || c))
+or_assoc true b c = refl
+or_assoc false b c = refl
+
+-- the words of one place, of a word's places, and of those of a word that is not aligned
+pub one_place : (had : Bool) (item word : ℕ) → item % 2 ≡ 0 → (had || item / 2 / 4 == word) ≡ (had || list_any (λ p. p / 4 == word) (places_of_item item))
+one_place had item word even =
+    sym (ap (λ (list : List ℕ). had || list_any (λ p. p / 4 == word) list) (item_place item even) ∙ ap (λ (b : Bool). had || b) (or_false (item / 2 / 4 == word)))
+
+pub one_word : (had : Bool) (item word : ℕ) → item % 2 ≡ 1 → item / 2 % 4 ≡ 0 → (had || item / 2 / 4 == word) ≡ (had || list_any (λ p. p / 4 == word) (places_of_item item))
+one_word had item word odd whole =
+    let same : item / 2 / 4 ≡ (item / 2 + 3) / 4 = omega (arith, whole) in
+    or_again had (item / 2 / 4 == word) ∙ ap (λ (n : ℕ). had || (item / 2 / 4 == word || n == word)) same
+    ∙ sym (ap (λ (list : List ℕ). had || list_any (λ p. p / 4 == word) list) (item_word item odd) ∙ ap (λ (b : Bool). had || b) (row_words (item / 2) word))
+
+pub two_words : (had : Bool) (item word : ℕ) → item % 2 ≡ 1 → (item / 2 % 4 ≡ 0 → ⊥)
+    → ((had || item / 2 / 4 == word) || item / 2 / 4 + 1 == word) ≡ (had || list_any (λ p. p / 4 == word) (places_of_item item))
+two_words had item word odd part =
+    let next : item / 2 / 4 + 1 ≡ (item / 2 + 3) / 4 = omega (arith, part) in
+    or_assoc had (item / 2 / 4 == word) (item / 2 / 4 + 1 == word) ∙ ap (λ (n : ℕ). had || (item / 2 / 4 == word || n == word)) next
+    ∙ sym (ap (λ (list : List ℕ). had || list_any (λ p. p / 4 == word) list) (item_word item odd) ∙ ap (λ (b : Bool). had || b) (row_words (item / 2) word))
+
+-- ---- touched words
+
+-- a place is listed where it is counted
+among-times : (p : ℕ) (bytes places : List ℕ) → is_among p places ≡ nat_lt 0 (times p (noted bytes places))
+among-times p bytes [] = refl
+among-times p bytes (place ∷ places) =
+    let counted = sum_by-cons (λ (c : ℕ × ℕ). cond (c.0 == p) 1 0) (place, slice_index bytes place) (noted bytes places) in
+    elim (cases_Bool (place == p)) [
+      | inl e ↦
+          let one = ap (λ (t : Bool). cond {A = ℕ} t 1 0) e in
+          ap (λ b. b || is_among p places) e ∙ sym (lt-ltb 0 (times p (noted bytes (place ∷ places))) (omega (arith, counted, one)))
+      | inr e ↦
+          let none = ap (λ (t : Bool). cond {A = ℕ} t 1 0) e in
+          let same : times p (noted bytes places) ≡ times p (noted bytes (place ∷ places)) = omega (arith, counted, none) in
+          ap (λ b. b || is_among p places) e ∙ among-times p bytes places ∙ ap (nat_lt 0) same
+    ]
+
+touched-among : (n : ℕ) (statuses : List Status) (bytes places : List ℕ) (p : ℕ) → Fits n statuses (noted bytes places) → is_among p places ≡ not (is_untouched (status_at statuses p))
+touched-among n statuses bytes places p fits = among-times p bytes places ∙ ap (nat_lt 0) (fits.1 p) ∙ by_status (is_untouched (status_at statuses p))
+  where
+    by_status : (b : Bool) → nat_lt 0 (if b then 0 else 1) ≡ not b
+    by_status true = refl
+    by_status false = refl
+
+or_swap : (a b c d : Bool) → ((a || b) || (c || d)) ≡ ((a || c) || (b || d))
+or_swap true b c d = refl
+or_swap false true true d = refl
+or_swap false true false d = refl
+or_swap false false c d = refl
+
+any_either : (f g : ℕ → Bool) (xs : List ℕ) → list_any (λ x. f x || g x) xs ≡ (list_any f xs || list_any g xs)
+any_either f g [] = refl
+any_either f g (x ∷ xs) = ap (λ (b : Bool). (f x || g x) || b) (any_either f g xs) ∙ or_swap (f x) (g x) (list_any f xs) (list_any g xs)
+
+or_second : (a b : Bool) → b ≡ true → (a || b) ≡ true
+or_second a b e = ap (λ (t : Bool). a || t) e ∙ or_true a
+
+or_first : (a b : Bool) → a ≡ true → (a || b) ≡ true
+or_first a b e = ap (λ (t : Bool). t || b) e
+
+or_neither : (a b : Bool) → a ≡ false → b ≡ false → (a || b) ≡ false
+or_neither a b e f = ap (λ (t : Bool). t || b) e ∙ f
+
+-- a place is one of a word's where it stands in it
+word_has : (x word : ℕ) → list_any (λ p. x == p) (places_from (4 * word) 4) ≡ (x / 4 == word)
+word_has x word =
+    let a = 4 * word in
+    elim (cases_eq (x / 4) word) [
+      | inl e ↦ found a (elim (cases_eq x a) [
+        | inl h ↦ inl h
+        | inr n0 ↦ inr (elim (cases_eq x (a + 1)) [
+          | inl h ↦ inl h
+          | inr n1 ↦ inr (elim (cases_eq x (a + 1 + 1)) [
+            | inl h ↦ inl h
+            | inr n2 ↦ inr (omega (arith, e, n0, n1, n2))
+          ])
+        ])
+      ]) ∙ sym (eq-eqb (x / 4) word e)
+      | inr ne ↦
+          or_neither (x == a) ((x == a + 1) || ((x == a + 1 + 1) || ((x == a + 1 + 1 + 1) || false))) (ne_eqb x a (λ h. ne (omega (arith, h))))
+          (or_neither (x == a + 1) ((x == a + 1 + 1) || ((x == a + 1 + 1 + 1) || false)) (ne_eqb x (a + 1) (λ h. ne (omega (arith, h))))
+          (or_neither (x == a + 1 + 1) ((x == a + 1 + 1 + 1) || false) (ne_eqb x (a + 1 + 1) (λ h. ne (omega (arith, h))))
+          (or_neither (x == a + 1 + 1 + 1) false (ne_eqb x (a + 1 + 1 + 1) (λ h. ne (omega (arith, h)))) refl)))
+          ∙ sym (ne_eqb (x / 4) word ne)
+    ]
+  where
+    found : (a : ℕ) → (x ≡ a) ⊎ ((x ≡ a + 1) ⊎ ((x ≡ a + 1 + 1) ⊎ (x ≡ a + 1 + 1 + 1))) → list_any (λ p. x == p) (places_from a 4) ≡ true
+    found a (inl h) = or_first (x == a) ((x == a + 1) || ((x == a + 1 + 1) || ((x == a + 1 + 1 + 1) || false))) (eq-eqb x a h)
+    found a (inr (inl h)) = or_second (x == a) ((x == a + 1) || ((x == a + 1 + 1) || ((x == a + 1 + 1 + 1) || false))) (or_first (x == a + 1) ((x == a + 1 + 1) || ((x == a + 1 + 1 + 1) || false)) (eq-eqb x (a + 1) h))
+    found a (inr (inr (inl h))) =
+        or_second (x == a) ((x == a + 1) || ((x == a + 1 + 1) || ((x == a + 1 + 1 + 1) || false)))
+        (or_second (x == a + 1) ((x == a + 1 + 1) || ((x == a + 1 + 1 + 1) || false)) (or_first (x == a + 1 + 1) ((x == a + 1 + 1 + 1) || false) (eq-eqb x (a + 1 + 1) h)))
+    found a (inr (inr (inr h))) =
+        or_second (x == a) ((x == a + 1) || ((x == a + 1 + 1) || ((x == a + 1 + 1 + 1) || false)))
+        (or_second (x == a + 1) ((x == a + 1 + 1) || ((x == a + 1 + 1 + 1) || false))
+        (or_second (x == a + 1 + 1) ((x == a + 1 + 1 + 1) || false) (or_first (x == a + 1 + 1 + 1) false (eq-eqb x (a + 1 + 1 + 1) h))))
+
+any_word : (places : List ℕ) (word : ℕ) → list_any (λ p. p / 4 == word) places ≡ list_any (λ p. is_among p places) (places_from (4 * word) 4)
+any_word [] word = refl
+any_word (x ∷ places) word =
+    ap (λ (b : Bool). (x / 4 == word) || b) (any_word places word)
+    ∙ ap (λ (b : Bool). b || list_any (λ p. is_among p places) (places_from (4 * word) 4)) (sym (word_has x word))
+    ∙ sym (any_either (λ p. x == p) (λ p. is_among p places) (places_from (4 * word) 4))
+
+any_alike : (f g : ℕ → Bool) → ((p : ℕ) → f p ≡ g p) → (xs : List ℕ) → list_any f xs ≡ list_any g xs
+any_alike f g same [] = refl
+any_alike f g same (x ∷ xs) = ap (λ (b : Bool). b || list_any f xs) (same x) ∙ ap (λ (b : Bool). g x || b) (any_alike f g same xs)
+
+-- the words of all touched places are the touched words
+pub words_touched : (n : ℕ) (statuses : List Status) (bytes places : List ℕ) (word : ℕ) → Fits n statuses (noted bytes places)
+    → list_any (λ p. p / 4 == word) places ≡ is_touched_word statuses word
+words_touched n statuses bytes places word fits =
+    any_word places word
+    ∙ any_alike (λ p. is_among p places) (λ p. not (is_untouched (status_at statuses p))) (λ p. touched-among n statuses bytes places p fits) (places_from (4 * word) 4)
+
+-- ---- blocks
+
+-- what is among a list from an element on, and is another, is among the rest
+pub among-rest : (b d : ℕ) (xs : List ℕ) (i : ℕ) → i < length xs → (slice_index_or xs i d ≡ b → ⊥) → is_among b (drop i xs) ≡ true → is_among b (drop (i + 1) xs) ≡ true
+among-rest b d xs i within other among =
+    sym (ap (λ (t : Bool). t || is_among b (drop (i + 1) xs)) (ne_eqb (slice_index_or xs i d) b other)) ∙ sym (ap (is_among b) (drop_more xs i d within)) ∙ among
+
+among-end : (b : ℕ) (xs : List ℕ) (i : ℕ) → length xs ≤ i → is_among b (drop i xs) ≡ true → ⊥
+among-end b [] zero past among = false≢true among
+among-end b [] (suc i) past among = false≢true among
+among-end b (x ∷ xs) zero past among = omega (arith, past)
+among-end b (x ∷ xs) (suc i) past among = among-end b xs i (omega (arith, past)) among
+
+-- a number below each of a list is not among it
+among-below : (b : ℕ) (xs : List ℕ) → ((i d : ℕ) → i < length xs → b < slice_index_or xs i d) → is_among b xs ≡ true → ⊥
+among-below b [] below among = false≢true among
+among-below b (x ∷ xs) below among =
+    among-below b xs (λ i d lt. below (suc i) d (omega (arith, lt)))
+    (sym (ap (λ (t : Bool). t || is_among b xs) (ne_eqb x b (λ e. absurd (omega (arith, e, below 0 0 (omega arith)))))) ∙ among)
+
+-- nor is one below the first of them that rise
+among-rising : (b d : ℕ) (xs : List ℕ) (i : ℕ) → IsNonDecreasingBy (λ k. k) xs → i < length xs → b < slice_index_or xs i d → is_among b (drop i xs) ≡ true → ⊥
+among-rising b d [] i rising within lt among = omega (arith, within)
+among-rising b d (x ∷ xs) zero rising within lt among =
+    among-below b (x ∷ xs) (λ k e inside. omega (arith, lt, rising 0 k e (omega arith) inside)) among
+among-rising b d (x ∷ xs) (suc i) rising within lt among =
+    among-rising b d xs i (λ j k e le inside. rising (suc j) (suc k) e (omega (arith, le)) (omega (arith, inside))) (omega (arith, within)) lt among
+
+-- blocks that are not 0 from one on are still to come
+abbrev pub AreLeft : (blocks used : List ℕ) (next i : ℕ) → Type 0
+AreLeft blocks used next i = (b : ℕ) → next ≤ b → (slice_index blocks b ≡ 0 → ⊥) → is_among b (drop i used) ≡ true
+
+zero_by : (n : ℕ) → ((n ≡ 0 → ⊥) → ⊥) → n ≡ 0
+zero_by zero h = refl
+zero_by (suc n) h = absurd (h (λ e. absurd (omega (arith, e))))
+
+-- the words up to behind the next block
+pub words-more : (blocks used : List ℕ) (next i d : ℕ) → AreLeft blocks used next i → IsNonDecreasingBy (λ k. k) used → i < length used → next ≤ slice_index_or used i d
+    → filter (has_word blocks) (places_from 0 (64 * next)) ++ filter (has_bit (slice_index blocks (slice_index_or used i d)) (64 * slice_index_or used i d)) (places_from (64 * slice_index_or used i d) 64)
+    ≡ filter (has_word blocks) (places_from 0 (64 * (slice_index_or used i d + 1)))
+words-more blocks used next i d left rising within le =
+    let block = slice_index_or used i d in
+    let has = has_word blocks in
+    let gap : 64 * next + 64 * (block - next) ≡ 64 * block = omega (arith, le) in
+    let whole : 64 * block + 64 ≡ 64 * (block + 1) = omega arith in
+    let none : (w : ℕ) → 0 + 64 * next ≤ w → w < 0 + 64 * next + 64 * (block - next) → has w ≡ false =
+    λ w least most. has-none blocks w (zero_by (slice_index blocks (w / 64)) (λ some.
+    among-rising (w / 64) d used i rising within (omega (arith, least, most, gap)) (left (w / 64) (omega (arith, least)) some))) in
+    ap (λ (list : List ℕ). list ++ filter (has_bit (slice_index blocks block) (64 * block)) (places_from (64 * block) 64))
+    (sym (filter-same has (64 * next) (64 * (block - next)) 0 none) ∙ ap (λ (n : ℕ). filter has (places_from 0 n)) gap)
+    ∙ ap (λ (list : List ℕ). filter has (places_from 0 (64 * block)) ++ list)
+    (filter-alike (has_bit (slice_index blocks block) (64 * block)) has (64 * block) 64 (λ w least most.
+    let there : w / 64 ≡ block = omega (arith, least, most) in
+    let bit : w - 64 * block ≡ w % 64 = omega (arith, least, most) in
+    ap (λ (n : ℕ). bit_at (slice_index blocks block) n == 1) bit ∙ ap (λ (b : ℕ). bit_at (slice_index blocks b) (w % 64) == 1) (sym there)))
+    ∙ ap (λ (k : ℕ). filter has (places_from 0 (64 * block)) ++ filter has (places_from k 64)) (let base : 64 * block ≡ 0 + 64 * block = omega arith in base)
+    ∙ sym (filter-parts has (64 * block) 64 0) ∙ ap (λ (n : ℕ). filter has (places_from 0 n)) whole
+
+pub left-more : (blocks used : List ℕ) (next i d now : ℕ) → AreLeft blocks used next i → i < length used → next ≤ now → slice_index_or used i d < now → AreLeft blocks used now (i + 1)
+left-more blocks used next i d now left within le behind =
+    λ b least some. among-rest b d used i within (λ e. omega (arith, e, behind, least)) (left b (omega (arith, le, least)) some)
+
+-- all words
+pub words-all : (blocks used : List ℕ) (next i : ℕ) → AreLeft blocks used next i → length used ≤ i → next ≤ length blocks
+    → filter (has_word blocks) (places_from 0 (64 * next)) ≡ filter (has_word blocks) (places_from 0 (64 * length blocks))
+words-all blocks used next i left past le =
+    let has = has_word blocks in
+    let m = length blocks in
+    let whole : 64 * next + 64 * (m - next) ≡ 64 * m = omega (arith, le) in
+    sym (filter-same has (64 * next) (64 * (m - next)) 0 (λ w least most.
+    has-none blocks w (zero_by (slice_index blocks (w / 64)) (λ some. among-end (w / 64) used i past (left (w / 64) (omega (arith, least)) some)))))
+    ∙ ap (λ (n : ℕ). filter has (places_from 0 n)) whole
+
+-- ---- the bits of a block
+
+pub tail-words : (block from at : ℕ) → at ≤ 64 → block / 2 ^ at ≡ 0 → filter (has_bit block from) (places_from from at) ≡ filter (has_bit block from) (places_from from 64)
+tail-words block from at le none =
+    let whole : at + (64 - at) ≡ 64 = omega (arith, le) in
+    sym (filter-same (has_bit block from) at (64 - at) from (λ w least most.
+    let bit : w - from ≡ at + (w - from - at) = omega (arith, least) in
+    bit_false (bit_at block (w - from))
+    (ap (bit_at block) bit ∙ sym (bit_shift block at (w - from - at)) ∙ ap (λ (n : ℕ). bit_at n (w - from - at)) none ∙ bit_at-zero (w - from - at))))
+    ∙ ap (λ (n : ℕ). filter (has_bit block from) (places_from from n)) whole
+
+-- the next bit that is set
+pub record IsNext (block at skip : ℕ) : Type 0 where
+  pub within : at + skip < 64
+  pub set : bit_at block (at + skip) ≡ 1
+  pub none : (i : ℕ) → i < skip → bit_at block (at + i) ≡ 0
+
+pub next_bit : (block rest at skip : ℕ) → block < 2 ^ 64 → rest ≡ block / 2 ^ at → rest < 2 ^ 64 → (rest ≡ 0 → ⊥) → skip ≡ trailing_zeros w64 rest → IsNext block at skip
+next_bit block rest at skip low is small some tz =
+    let found = bit_at-trailing_zeros w64 rest (omega (arith, some)) small in
+    let bit : bit_at block (at + skip) ≡ 1 =
+    sym (bit_shift block at skip) ∙ ap (λ (n : ℕ). bit_at n skip) (sym is) ∙ ap (bit_at rest) tz ∙ found.1 in
+    record {
+      within = elim (cases_lt (at + skip) 64) [
+        | inl lt ↦ lt
+        | inr ge ↦ absurd (let zero_there = bit_at_above block 64 (at + skip) low ge in omega (arith, bit, zero_there))
+      ];
+      set = bit;
+      none = λ i lt. sym (bit_shift block at i) ∙ ap (λ (n : ℕ). bit_at n i) (sym is) ∙ found.2 i (subst (λ (n : ℕ). i < n) tz lt);
+    }
+
+pub word-more : (block from at skip : ℕ) (old words : List ℕ) → IsNext block at skip → words ≡ old ++ filter (has_bit block from) (places_from from at)
+    → words ++ (from + (at + skip)) ∷ [] ≡ old ++ filter (has_bit block from) (places_from from (at + skip + 1))
+word-more block from at skip old words next is =
+    let has = has_bit block from in
+    let here : from + (at + skip) - from ≡ at + skip = omega arith in
+    ap (λ (list : List ℕ). list ++ (from + (at + skip)) ∷ []) (is ∙ ap (λ (list : List ℕ). old ++ list) (sym (filter-same has at skip from (λ w least most.
+    let bit : w - from ≡ at + (w - from - at) = omega (arith, least) in
+    bit_false (bit_at block (w - from)) (ap (bit_at block) bit ∙ next.none (w - from - at) (omega (arith, least, most)))))))
+    ∙ append_assoc old (filter has (places_from from (at + skip))) ((from + (at + skip)) ∷ [])
+    ∙ ap (λ (list : List ℕ). old ++ list) (sym (filter-next has (at + skip) from (bit_true (bit_at block (from + (at + skip) - from)) (ap (bit_at block) here ∙ next.set))))
+
+pub rest-more : (block rest at skip : ℕ) → rest ≡ block / 2 ^ at → rest / 2 ^ skip / 2 ≡ block / 2 ^ (at + skip + 1)
+rest-more block rest at skip is =
+    ap (λ (n : ℕ). n / 2 ^ skip / 2) is ∙ ap (λ (n : ℕ). n / 2) (div-div-eq-div-mul block (2 ^ at) (2 ^ skip) ∙ ap (λ (d : ℕ). block / d) (sym (pow-add 2 at skip)))
+    ∙ div-div-eq-div-mul block (2 ^ (at + skip)) (2 ^ 1) ∙ ap (λ (d : ℕ). block / d) (sym (pow-add 2 (at + skip) 1))
+
+-- ---- all of it
+
+pub AreListed-moved : (blocks used moved : List ℕ) → IsPermutation used moved → AreListed blocks used → AreListed blocks moved
+AreListed-moved blocks used moved by listed = λ block some. sym (list_any-IsPermutation (λ other. other == block) used moved by) ∙ listed block some
+
+-- a word behind the last one has no touched place
+past_word : (statuses : List Status) (word : ℕ) → length statuses ≤ 4 * word → is_touched_word statuses word ≡ false
+past_word statuses word past =
+    let a = 4 * word in
+    let f : ℕ → Bool = λ place. not (is_untouched (status_at statuses place)) in
+    let none : (p : ℕ) → a ≤ p → f p ≡ false = λ p le. ap (λ (s : Status). not (is_untouched s)) (get_or_past statuses p Untouched (omega (arith, past, le))) in
+    or_neither (f a) (f (a + 1) || (f (a + 1 + 1) || (f (a + 1 + 1 + 1) || false))) (none a (omega arith))
+    (or_neither (f (a + 1)) (f (a + 1 + 1) || (f (a + 1 + 1 + 1) || false)) (none (a + 1) (omega arith))
+    (or_neither (f (a + 1 + 1)) (f (a + 1 + 1 + 1) || false) (none (a + 1 + 1) (omega arith)) (or_neither (f (a + 1 + 1 + 1)) false (none (a + 1 + 1 + 1) (omega arith)) refl)))
+
+-- the words whose bits are set are the touched ones
+pub words_are : (n : ℕ) (statuses : List Status) (bytes places blocks : List ℕ) → Fits n statuses (noted bytes places) → ((word : ℕ) → has_word blocks word ≡ list_any (λ p. p / 4 == word) places)
+    → n ≤ 256 * length blocks → n % 4 ≡ 0 → filter (has_word blocks) (places_from 0 (64 * length blocks)) ≡ filter (is_touched_word statuses) (places_from 0 (n / 4))
+words_are n statuses bytes places blocks fits bits most whole =
+    let has = has_word blocks in
+    let more = 64 * length blocks - n / 4 in
+    let all : n / 4 + more ≡ 64 * length blocks = omega (arith, most, whole) in
+    let same : (word : ℕ) → has word ≡ is_touched_word statuses word = λ word. bits word ∙ words_touched n statuses bytes places word fits in
+    ap (λ (k : ℕ). filter has (places_from 0 k)) (sym all)
+    ∙ filter-same has (n / 4) more 0 (λ word least lt. same word ∙ past_word statuses word (omega (arith, fits.0, least, whole)))
+    ∙ filter-alike has (is_touched_word statuses) 0 (n / 4) (λ word least lt. same word)

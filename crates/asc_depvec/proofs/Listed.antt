@@ -1,0 +1,160 @@
+-- Lemmas on the memory that holds the list of touched places.
+use Rattle.std.proofs.Common.{◌≡◌, ℕ, zero, suc, ◌+◌, ◌-◌, ◌*◌, ◌/◌, ◌%◌, ◌<◌, ◌≤◌, List, [], ◌∷◌, ◌++◌, length, take, refl, sym, ap, subst, ◌∙◌, inl, inr, slice_index_or, slice_set, arith, append_assoc, length-append}
+use Rattle.std.specs.Prelude.{All}
+use Rattle.std.specs.Vec.{with_items}
+use Rattle.std.proofs.lemmas.Bool.{cases_eq}
+use Rattle.std.proofs.lemmas.List.{length-set, length-take-le, take_more, with_items_is}
+use Rattle.std.proofs.lemmas.List.Elements.{All-head}
+use Rattle.std.proofs.lemmas.Grind.{take-set_at}
+use Rattle.asc_model.specs.Places.{places_from}
+use Rattle.asc_depvec.specs.declared.touched.Touched.TheInside.{Inside}
+use Rattle.asc_depvec.specs.Touched.{IsTouched, Listing}
+use Rattle.asc_depvec.specs.Tracer.{places_of, places_of_item}
+use Rattle.asc_depvec.proofs.Items.{All-behind, All-first, fewer_items, item_place, item_word, places_of-append, places_of-more, word_cut}
+
+-- the list that fields stand for
+abbrev pub listing_of : Inside → Listing
+listing_of t = record { items = take t.count t.items.items; cap = length t.items.items }
+
+-- there is room for an item where there is for places
+pub room_left : (t : Inside) (now : Listing) (more : ℕ) → listing_of t ≡ now → IsTouched t → length (places_of now.items) + more ≤ now.cap → t.count + more ≤ length t.items.items
+room_left t now more is inv room =
+    let used : length (places_of (take t.count t.items.items)) + more ≤ length t.items.items = subst (λ (l : Listing). length (places_of l.items) + more ≤ l.cap) (sym is) room in
+    omega (arith, used, fewer_items (take t.count t.items.items), length-take-le t.count t.items.items inv.count)
+
+-- an item more
+pub IsTouched-push : (t : Inside) (now : Listing) (changed new places : List ℕ) (item : ℕ) → listing_of t ≡ now → IsTouched t → length (places_of now.items) + length places ≤ now.cap → 1 ≤ length places
+    → changed ≡ t.items.items → length new ≡ length changed → take (t.count + 1) new ≡ take t.count changed ++ item ∷ [] → places_of_item item ≡ places
+    → IsTouched (record { items = with_items t.items new; count = t.count + 1; places = t.places + length places })
+IsTouched-push t now changed new places item is inv room some is_changed size put is_item =
+    let kept : (with_items t.items new).items ≡ new = with_items_is t.items new (size ∙ ap (λ (l : List ℕ). length l) is_changed ∙ sym t.items.ok.0) in
+    let items = t.items.items in
+    let listed : places_of (take (t.count + 1) (with_items t.items new).items) ≡ places_of (take t.count items) ++ places =
+    ap (λ (l : List ℕ). places_of (take (t.count + 1) l)) kept ∙ ap places_of (put ∙ ap (λ (l : List ℕ). take t.count l ++ item ∷ []) is_changed)
+    ∙ places_of-more (take t.count items) places item is_item in
+    let same : length (with_items t.items new).items ≡ length items = ap (λ (l : List ℕ). length l) kept ∙ size ∙ ap (λ (l : List ℕ). length l) is_changed in
+    let left = room_left t now (length places) is inv room in
+    let used : length (places_of (take t.count items)) + length places ≤ length items = subst (λ (l : Listing). length (places_of l.items) + length places ≤ l.cap) (sym is) room in
+    record {
+      count = omega (arith, same, left, some);
+      places = omega (arith, inv.places, ap (λ (l : List ℕ). length l) listed, length-append (places_of (take t.count items)) places);
+      room = omega (arith, inv.places, used, same);
+    }
+
+-- ---- the last place
+
+-- the items before the last one, and that
+last_item : (t : Inside) (item : ℕ) → IsTouched t → 1 ≤ t.count → item ≡ slice_index_or t.items.items (t.count - 1) item
+    → take t.count t.items.items ≡ take (t.count - 1) t.items.items ++ item ∷ []
+last_item t item inv some read =
+    let last = t.count - 1 in
+    let within : last < length t.items.items = omega (arith, some, inv.count) in
+    let next : t.count ≡ last + 1 = omega (arith, some) in
+    ap (λ (n : ℕ). take n t.items.items) next ∙ take_more t.items.items last item within ∙ ap (λ (k : ℕ). take last t.items.items ++ k ∷ []) (sym read)
+
+-- there is one where there is a place
+pub some_item : (t : Inside) (now : Listing) → listing_of t ≡ now → IsTouched t → 0 < length (places_of now.items) → 1 ≤ t.count
+some_item t now is inv some = by_count t.count (subst (λ (l : Listing). 0 < length (places_of l.items)) (sym is) some)
+  where
+    by_count : (n : ℕ) → 0 < length (places_of (take n t.items.items)) → 1 ≤ n
+    by_count zero h = absurd (omega (arith, h))
+    by_count (suc n) h = omega arith
+
+first_low : (P : ℕ → Type 0) (item : ℕ) → All P (places_of_item item) → P (item / 2)
+first_low P item all = elim (cases_eq (item % 2) 1) [
+  | inl odd ↦ All-head P (item / 2) ((item / 2 + 1) ∷ (item / 2 + 1 + 1) ∷ (item / 2 + 1 + 1 + 1) ∷ []) (subst (All P) (item_word item odd) all)
+  | inr even ↦ All-head P (item / 2) [] (subst (All P) (item_place item (omega (arith, even))) all)
+]
+
+-- its place is low where all are
+pub last_low : (t : Inside) (now : Listing) (item : ℕ) (P : ℕ → Type 0) → listing_of t ≡ now → IsTouched t → 0 < length (places_of now.items) → item ≡ slice_index_or t.items.items (t.count - 1) item
+    → All P (places_of now.items) → P (item / 2)
+last_low t now item P is inv some read all =
+    let items = t.items.items in
+    let split = last_item t item inv (some_item t now is inv some) read in
+    let here : All P (places_of (take (t.count - 1) items) ++ (places_of_item item ++ [])) =
+    subst (All P) (ap places_of split ∙ places_of-append (take (t.count - 1) items) (item ∷ [])) (subst (λ (l : Listing). All P (places_of l.items)) (sym is) all) in
+    first_low P item (All-first P (places_of_item item) [] (All-behind P (places_of (take (t.count - 1) items)) (places_of_item item ++ []) here))
+
+-- a list without its last item that has one place
+pub cut_place : (t : Inside) (now : Listing) (item : ℕ) → listing_of t ≡ now → IsTouched t → 0 < length (places_of now.items) → item ≡ slice_index_or t.items.items (t.count - 1) item
+    → item % 2 ≡ 0 → places_of now.items ≡ places_of (take (t.count - 1) t.items.items) ++ item / 2 ∷ []
+cut_place t now item is inv some read even =
+    sym (ap (λ (l : Listing). places_of l.items) is)
+    ∙ ap places_of (last_item t item inv (some_item t now is inv some) read)
+    ∙ places_of-more (take (t.count - 1) t.items.items) (item / 2 ∷ []) item (item_place item even)
+
+pub IsTouched-cut : (t : Inside) (now : Listing) (item : ℕ) → listing_of t ≡ now → IsTouched t → 0 < length (places_of now.items) → item ≡ slice_index_or t.items.items (t.count - 1) item
+    → item % 2 ≡ 0 → IsTouched (record { items = t.items; count = t.count - 1; places = t.places - 1 })
+IsTouched-cut t now item is inv some read even =
+    let cut = cut_place t now item is inv some read even in
+    let used : length (places_of now.items) ≡ t.places = sym (inv.places ∙ ap (λ (l : Listing). length (places_of l.items)) is) in
+    record {
+      count = omega (arith, inv.count);
+      places = omega (arith, used, ap (λ (l : List ℕ). length l) cut, length-append (places_of (take (t.count - 1) t.items.items)) (item / 2 ∷ []));
+      room = omega (arith, inv.room);
+    }
+
+-- a list in which the last item, a word, has become its first three places
+pub cut_word : (t : Inside) (now : Listing) (changed new : List ℕ) (item : ℕ) → listing_of t ≡ now → IsTouched t → 0 < length (places_of now.items)
+    → item ≡ slice_index_or t.items.items (t.count - 1) item → item % 2 ≡ 1 → changed ≡ t.items.items → length new ≡ length changed
+    → take (t.count - 1 + 3) new ≡ take (t.count - 1) changed ++ 2 * (item / 2) ∷ (2 * (item / 2 + 1)) ∷ (2 * (item / 2 + 2)) ∷ []
+    → places_of now.items ≡ places_of (take (t.count + 2) (with_items t.items new).items) ++ (item / 2 + 3) ∷ []
+cut_word t now changed new item is inv some read odd is_changed size put =
+    let kept : (with_items t.items new).items ≡ new = with_items_is t.items new (size ∙ ap (λ (l : List ℕ). length l) is_changed ∙ sym t.items.ok.0) in
+    let one = some_item t now is inv some in
+    let next : t.count - 1 + 3 ≡ t.count + 2 = omega (arith, one) in
+    sym (ap (λ (l : Listing). places_of l.items) is)
+    ∙ ap places_of (last_item t item inv one read)
+    ∙ word_cut (take (t.count - 1) t.items.items) item (item / 2) odd refl
+    ∙ ap (λ (l : List ℕ). places_of l ++ (item / 2 + 3) ∷ [])
+    (ap (λ (l : List ℕ). take (t.count - 1) l ++ 2 * (item / 2) ∷ (2 * (item / 2 + 1)) ∷ (2 * (item / 2 + 2)) ∷ []) (sym is_changed) ∙ sym put
+    ∙ ap (λ (n : ℕ). take n new) next ∙ ap (take (t.count + 2)) (sym kept))
+
+-- there is room for them
+pub room_three : (t : Inside) (now : Listing) (item : ℕ) → listing_of t ≡ now → IsTouched t → 0 < length (places_of now.items) → item ≡ slice_index_or t.items.items (t.count - 1) item
+    → item % 2 ≡ 1 → t.count + 2 < length t.items.items
+room_three t now item is inv some read odd =
+    let items = t.items.items in
+    let one = some_item t now is inv some in
+    let parts : places_of (take t.count items) ≡ places_of (take (t.count - 1) items) ++ places_from (item / 2) 4 =
+    ap places_of (last_item t item inv one read) ∙ places_of-more (take (t.count - 1) items) (places_from (item / 2) 4) item (item_word item odd) in
+    omega (
+      arith,
+      one,
+      inv.places,
+      inv.room,
+      ap (λ (l : List ℕ). length l) parts,
+      length-append (places_of (take (t.count - 1) items)) (places_from (item / 2) 4),
+      fewer_items (take (t.count - 1) items),
+      length-take-le (t.count - 1) items (omega (arith, inv.count)),
+    )
+
+pub IsTouched-word : (t : Inside) (now : Listing) (changed new : List ℕ) (item : ℕ) → listing_of t ≡ now → IsTouched t → 0 < length (places_of now.items)
+    → item ≡ slice_index_or t.items.items (t.count - 1) item → item % 2 ≡ 1 → changed ≡ t.items.items → length new ≡ length changed
+    → take (t.count - 1 + 3) new ≡ take (t.count - 1) changed ++ 2 * (item / 2) ∷ (2 * (item / 2 + 1)) ∷ (2 * (item / 2 + 2)) ∷ []
+    → IsTouched (record { items = with_items t.items new; count = t.count + 2; places = t.places - 1 })
+IsTouched-word t now changed new item is inv some read odd is_changed size put =
+    let same : length (with_items t.items new).items ≡ length t.items.items =
+    ap (λ (l : List ℕ). length l) (with_items_is t.items new (size ∙ ap (λ (l : List ℕ). length l) is_changed ∙ sym t.items.ok.0)) ∙ size ∙ ap (λ (l : List ℕ). length l) is_changed in
+    let cut = cut_word t now changed new item is inv some read odd is_changed size put in
+    let used : length (places_of now.items) ≡ t.places = sym (inv.places ∙ ap (λ (l : Listing). length (places_of l.items)) is) in
+    record {
+      count = omega (arith, same, room_three t now item is inv some read odd);
+      places = omega (arith, used, ap (λ (l : List ℕ). length l) cut, length-append (places_of (take (t.count + 2) (with_items t.items new).items)) ((item / 2 + 3) ∷ []));
+      room = omega (arith, inv.room, same);
+    }
+
+-- three items put one after another
+pub put-three : (items : List ℕ) (at a b c : ℕ) → at + 3 ≤ length items
+    → take (at + 3) (slice_set (slice_set (slice_set items at a) (at + 1) b) (at + 2) c) ≡ take at items ++ a ∷ b ∷ c ∷ []
+put-three items at a b c room =
+    let one = slice_set items at a in
+    let two = slice_set one (at + 1) b in
+    let size_one = length-set items at a in
+    let size_two = length-set one (at + 1) b in
+    take-set_at two (at + 2) (at + 3) c (omega arith) (omega (arith, room, size_one, size_two))
+    ∙ ap (λ (list : List ℕ). list ++ c ∷ []) (take-set_at one (at + 1) (at + 2) b (omega arith) (omega (arith, room, size_one))
+    ∙ ap (λ (list : List ℕ). list ++ b ∷ []) (take-set_at items at (at + 1) a (omega arith) (omega (arith, room))))
+    ∙ append_assoc (take at items ++ a ∷ []) (b ∷ []) (c ∷ [])
+    ∙ append_assoc (take at items) (a ∷ []) (b ∷ c ∷ [])

@@ -1,0 +1,7 @@
+use Rattle.std.proofs.Common.{sym, ◌∙◌}
+use Rattle.asc_model.proofs.Views.{view_of-pc}
+use Rattle.asc_depvec.proofs.Insides.{pc_told}
+use Rattle.asc_depvec.proofs.tracer.Tracer.pc.Goals as goal
+
+pub returns : goal.returns
+returns c = pc_told c.self.inside _ c.deref.result.now c.word_of.result c.self.view_is c.self.invariant c.deref.ensures.value c.word_of.ensures ∙ sym (view_of-pc c.args.self.now.state)

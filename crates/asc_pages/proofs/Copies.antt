@@ -1,0 +1,160 @@
+-- Lemmas on pages.
+use Rattle.std.proofs.Common.{◌≡◌, inl, inr, ℕ, ◌+◌, ◌*◌, ◌-◌, ◌/◌, ◌%◌, ◌≤◌, ◌<◌, Bool, true, false, Option, None, Some, List, [], ◌∷◌, ◌++◌, length, take, drop, replicate, refl, sym, ap, ◌∙◌, arith, max, min, subst, slice_index, slice_index_or, length-append}
+use Rattle.std.proofs.lemmas.List.{get_or_past, get_or_append_left, get_or-append_right, get_or-replicate, get_or-drop, length-replicate}
+use Rattle.std.specs.Global.{Vec}
+use Rattle.std.proofs.lemmas.List.FromFn.{length-map-range_with_len, get_or-map-range_with_len}
+use Rattle.std.proofs.lemmas.Bool.{cases_lt}
+use Rattle.asc_model.specs.Number.{word_at}
+use Rattle.asc_model.proofs.Numbers.{word_at-from_le_bytes}
+use Rattle.asc_pages.specs.Marks.{IsUnmarked}
+use Rattle.asc_pages.specs.Pages.{Page, Group, held, page_bytes, page_in, byte_in, bytes_in, IsPage, ArePages, KeptPages, Tells, Keeps, IsShared}
+
+-- ---- what is left out
+
+pub none_in : (k : ℕ) → page_in [] k ≡ []
+none_in k = ap (λ (page : Option Page). page_bytes page) (get_or_past [] k None (omega arith))
+
+pub past_in : (pages : List (Option Page)) (k : ℕ) → length pages ≤ k → page_in pages k ≡ []
+past_in pages k past = ap (λ (page : Option Page). page_bytes page) (get_or_past pages k None past)
+
+byte_past : (groups : List (Option Group)) (i : ℕ) → length groups ≤ i / 1024 / 32 → byte_in groups i ≡ 0
+byte_past groups i past =
+    ap (λ (group : Option Group). slice_index (page_in (held group) (i / 1024 % 32)) (i % 1024)) (get_or_past groups (i / 1024 / 32) None past)
+    ∙ ap (λ (l : List ℕ). slice_index l (i % 1024)) (none_in (i / 1024 % 32)) ∙ get_or_past [] (i % 1024) 0 (omega arith)
+
+-- the byte at a place, also behind the last group
+pub byte-bytes_in : (groups : List (Option Group)) (i : ℕ) → slice_index (bytes_in groups) i ≡ byte_in groups i
+unfolding bytes_in
+byte-bytes_in groups i = elim (cases_lt i (32768 * length groups)) [
+  | inl within ↦ get_or-map-range_with_len (byte_in groups) 0 (32768 * length groups) i i 0 within (omega arith)
+  | inr past ↦ get_or_past (bytes_in groups) i 0 (omega (arith, length-map-range_with_len (byte_in groups) 0 (32768 * length groups))) ∙ sym (byte_past groups i (omega arith))
+]
+
+-- a page as it is read
+pub page_read : (bytes : List ℕ) (groups : List (Option Group)) (pages : List (Option Page)) (page : List ℕ) (p : ℕ) → bytes_in groups ≡ bytes
+    → pages ≡ held (slice_index_or groups (p / 32) None) → page ≡ page_in pages (p % 32)
+    → (i : ℕ) → i / 1024 ≡ p → slice_index bytes i ≡ slice_index page (i % 1024)
+page_read bytes groups pages page p is group here i at =
+    ap (λ (l : List ℕ). slice_index l i) (sym is) ∙ byte-bytes_in groups i
+    ∙ ap (λ q. slice_index (page_in (held (slice_index_or groups (q / 32) None)) (q % 32)) (i % 1024)) at
+    ∙ ap (λ (l : List (Option Page)). slice_index (page_in l (p % 32)) (i % 1024)) (sym group)
+    ∙ ap (λ (l : List ℕ). slice_index l (i % 1024)) (sym here)
+
+-- ---- words
+
+-- words with the same bytes
+word_same : (xs ys : List ℕ) (i j : ℕ) → slice_index xs i ≡ slice_index ys j → slice_index xs (i + 1) ≡ slice_index ys (j + 1)
+    → slice_index xs (i + 2) ≡ slice_index ys (j + 2) → slice_index xs (i + 3) ≡ slice_index ys (j + 3) → word_at xs i ≡ word_at ys j
+word_same xs ys i j a b c d = word_at-from_le_bytes xs i ∙ cc (word_at-from_le_bytes ys j)
+
+-- a word in its page
+pub word_read : (bytes page : List ℕ) (place : ℕ) → ((i : ℕ) → i / 1024 ≡ place / 1024 → slice_index bytes i ≡ slice_index page (i % 1024)) → place % 4 ≡ 0
+    → word_at page (place % 1024) ≡ word_at bytes place
+word_read bytes page place is aligned =
+    let row : (k : ℕ) → k < 4 → slice_index bytes (place + k) ≡ slice_index page (place % 1024 + k) =
+    λ k within. is (place + k) (omega arith) ∙ ap (λ (j : ℕ). slice_index page j) (let e : (place + k) % 1024 ≡ place % 1024 + k = omega arith in e) in
+    sym (word_same bytes page place (place % 1024) (is place refl) (row 1 (omega arith)) (row 2 (omega arith)) (row 3 (omega arith)))
+
+-- and 0 where that page is left out
+pub word_blank : (bytes page : List ℕ) (place : ℕ) → ((i : ℕ) → i / 1024 ≡ place / 1024 → slice_index bytes i ≡ slice_index page (i % 1024)) → place % 4 ≡ 0 → length page ≡ 0
+    → 0 ≡ word_at bytes place
+word_blank bytes page place is aligned none =
+    sym (word_same page [] (place % 1024) 0 (get_or_past page (place % 1024) 0 (omega arith)) (get_or_past page (place % 1024 + 1) 0 (omega arith))
+    (get_or_past page (place % 1024 + 2) 0 (omega arith)) (get_or_past page (place % 1024 + 3) 0 (omega arith)))
+    ∙ word_read bytes page place is aligned
+
+-- ---- pages of bytes
+
+-- zeros
+pub zeros-at : (n k : ℕ) → slice_index (replicate n 0) k ≡ 0
+zeros-at n k = elim (cases_lt k n) [
+  | inl within ↦ get_or-replicate n k 0 0 within
+  | inr past ↦ get_or_past (replicate n 0) k 0 (omega (arith, length-replicate {A = ℕ} n 0))
+]
+
+-- no groups have no bytes
+pub bytes_of_none : bytes_in [] ≡ []
+unfolding bytes_in
+bytes_of_none = refl
+
+-- pages that are kept, as a group of them is read
+pub kept_pages : (marks : List Bool) (pages bytes : List ℕ) (groups : List (Option Group)) (g : ℕ) → bytes_in groups ≡ pages → Keeps marks pages bytes
+    → KeptPages marks bytes (32 * g) (held (slice_index_or groups g None))
+kept_pages marks pages bytes groups g is kept k within free i far inside here =
+    kept i far inside (ap (λ p. slice_index_or marks p true) here ∙ free)
+    ∙ page_read pages groups (held (slice_index_or groups g None)) (page_in (held (slice_index_or groups g None)) k) (32 * g + k) is
+    (ap (λ h. held (slice_index_or groups h None)) (let e : g ≡ (32 * g + k) / 32 = omega arith in e))
+    (ap (λ j. page_in (held (slice_index_or groups g None)) j) (let e : k ≡ (32 * g + k) % 32 = omega arith in e)) i here
+
+-- the pages of a group that is kept whole, or of which no page is marked
+pub kept_group : (marks : List Bool) (bytes : List ℕ) (g : ℕ) (kept pages : List (Option Page)) → length marks ≡ length bytes / 1024 + 1
+    → IsUnmarked marks (32 * g) 32 → KeptPages marks bytes (32 * g) kept → pages ≡ kept → ArePages bytes (32 * g) pages
+kept_group marks bytes g kept pages size free so same k within i far inside here =
+    so k within (free (32 * g + k) (omega arith) (omega arith) (omega arith)) i far inside here
+    ∙ ap (λ (l : List (Option Page)). slice_index (page_in l k) (i % 1024)) (sym same)
+
+-- a page behind those that are copied
+pub page_behind : (marks : List Bool) (bytes : List ℕ) (g used k : ℕ) (kept pages : List (Option Page)) → length marks ≡ length bytes / 1024 + 1
+    → IsUnmarked marks (32 * g + used) (32 - used) → KeptPages marks bytes (32 * g) kept → k < 32
+    → length pages ≤ k → length pages ≡ min (max used (length kept)) (min (32 * g + 32) (length marks) - 32 * g) → IsPage bytes (32 * g + k) (page_in pages k)
+page_behind marks bytes g used k kept pages size free so within past count i far inside here =
+    so k within (free (32 * g + k) (omega arith) (omega arith) (omega arith)) i far inside here
+    ∙ ap (λ (l : List ℕ). slice_index l (i % 1024)) (past_in kept k (omega arith) ∙ sym (past_in pages k past))
+
+-- the pages of a group
+pub group_made : (marks : List Bool) (bytes : List ℕ) (g used : ℕ) (kept pages : List (Option Page)) → length marks ≡ length bytes / 1024 + 1
+    → IsUnmarked marks (32 * g + used) (32 - used) → KeptPages marks bytes (32 * g) kept
+    → length pages ≡ min (max used (length kept)) (min (32 * g + 32) (length marks) - 32 * g)
+    → ((k : ℕ) → k < length pages → IsPage bytes (32 * g + k) (page_bytes (slice_index_or pages k None))) → ArePages bytes (32 * g) pages
+group_made marks bytes g used kept pages size free so count each k within = elim (cases_lt k (length pages)) [
+  | inl inside ↦ each k inside
+  | inr past ↦ page_behind marks bytes g used k kept pages size free so within past count
+]
+
+-- the pages of all groups
+pub groups_made : (marks : List Bool) (pages bytes : List ℕ) (before groups : List (Option Group)) (used : ℕ) → length marks ≡ length bytes / 1024 + 1
+    → bytes_in before ≡ pages → Keeps marks pages bytes → IsUnmarked marks (32 * used) (length marks)
+    → length groups ≡ min (max used (length before)) ((length marks - 1) / 32 + 1)
+    → ((k : ℕ) → k < length groups → ArePages bytes (32 * k) (held (slice_index_or groups k None))) → Tells (bytes_in groups) bytes
+groups_made marks pages bytes before groups used size is kept free count each i far inside = elim (cases_lt (i / 1024 / 32) (length groups)) [
+  | inl there ↦ each (i / 1024 / 32) there (i / 1024 % 32) (omega arith) i far inside (omega arith) ∙ sym (byte-bytes_in groups i)
+  | inr past ↦ kept i far inside (free (i / 1024) (omega arith) (omega arith) (omega arith))
+      ∙ ap (λ (l : List ℕ). slice_index l i) (sym is) ∙ byte-bytes_in before i ∙ byte_past before i (omega arith)
+      ∙ sym (byte-bytes_in groups i ∙ byte_past groups i past)
+]
+
+-- where no page is marked the pages are those that are kept
+pub all_kept : (marks : List Bool) (pages bytes same : List ℕ) → length marks ≡ length bytes / 1024 + 1 → IsUnmarked marks 0 (length marks) → Keeps marks pages bytes → same ≡ pages
+    → Tells same bytes
+all_kept marks pages bytes same size free kept is i far inside =
+    kept i far inside (free (i / 1024) (omega arith) (omega arith) (omega arith)) ∙ ap (λ (l : List ℕ). slice_index l i) (sym is)
+
+-- a part more of a list of parts
+pub each_more : {A : Type 0} (P : ℕ → Option A → Type 0) (list new : List (Option A)) (part : Option A) → new ≡ list ++ part ∷ []
+    → ((k : ℕ) → k < length list → P k (slice_index_or list k None)) → P (length list) part
+    → (length new ≡ length list + 1) × ((k : ℕ) → k < length new → P k (slice_index_or new k None))
+each_more {A} P list new part more each is =
+    let size : length new ≡ length list + 1 = ap (λ (l : List (Option A)). length l) more ∙ length-append list (part ∷ []) in (
+      size,
+      (λ k within. subst (λ (l : List (Option A)). P k (slice_index_or l k None)) (sym more)
+          (elim (cases_lt k (length list)) [
+            | inl below ↦ subst (λ (one : Option A). P k one) (sym (get_or_append_left list (part ∷ []) None k below)) (each k below)
+            | inr here ↦ let last : k ≡ length list = omega arith in
+                subst (λ (one : Option A). P k one)
+                (sym (get_or-append_right list (part ∷ []) (length list) k None refl here ∙ ap (λ j. slice_index_or (part ∷ []) j None) (let e : k - length list ≡ 0 = omega arith in e)))
+                (subst (λ j. P j part) (sym last) is)
+          ])),
+    )
+
+-- what a part shares
+pub shared_group : (share part : Option Group) → IsShared share part → held share ≡ held part
+shared_group None None is = refl
+shared_group None (Some part) is = absurd is
+shared_group (Some share) None is = absurd is
+shared_group (Some share) (Some part) is = ap (λ (v : Vec (Option Page)). v.items) is
+
+pub shared_page : (share part : Option Page) → IsShared share part → page_bytes share ≡ page_bytes part
+shared_page None None is = refl
+shared_page None (Some part) is = absurd is
+shared_page (Some share) None is = absurd is
+shared_page (Some share) (Some part) is = is

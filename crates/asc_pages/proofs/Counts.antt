@@ -1,0 +1,109 @@
+-- Lemmas on how many pages and groups may have marks.
+use Rattle.std.proofs.Common.{◌≡◌, ◌≢◌, inl, inr, ℕ, ◌+◌, ◌*◌, ◌-◌, ◌/◌, ◌%◌, ◌≤◌, ◌<◌, Bool, true, false, List, ◌++◌, length-append, length, replicate, take, drop, max, min, refl, sym, ap, ◌∙◌, arith, slice_index, slice_index_or, slice_set, length-take, length-drop}
+use Rattle.std.proofs.lemmas.List.{get_or_past, get_or-replicate, length-replicate, get_or-set_same, get_or-set_other, length-set, ext_get_or, get_or_append_left, get_or-append_right, get_or-drop, with_items_is}
+use Rattle.std.specs.Vec.{with_items}
+use Rattle.std.specs.Global.{Vec}
+use Rattle.std.proofs.lemmas.Bool.{cases_eq, cases_lt}
+use Rattle.asc_pages.specs.Marks.{AreCounted, IsUnmarked}
+
+-- where page p is marked
+pub counted_more : (used u : ℕ) (groups : List ℕ) (pages : List Bool) (p g many : ℕ) → AreCounted used groups pages → p < length pages → g ≡ p / 32
+    → many ≡ max (slice_index groups g) (p % 32 + 1) → u ≡ max used (g + 1) → AreCounted u (slice_set groups g many) (slice_set pages p true)
+counted_more used u groups pages p g many so within group far most =
+    let count : length (slice_set pages p true) ≡ length pages = length-set pages p true in
+    let size : length (slice_set groups g many) ≡ length groups = length-set groups g many in
+    let known : g < length groups = let h = so.least in omega arith in
+    record {
+      least = let h = so.least in omega arith;
+      most = let h = so.most in omega arith;
+      free = λ q inside behind. elim (cases_eq (q / 32) g) [
+        | inl one ↦
+            let read : slice_index (slice_set groups g many) (q / 32) ≡ many = ap (λ j. slice_index (slice_set groups g many) j) one ∙ get_or-set_same groups g many 0 known in
+            let was : slice_index groups (q / 32) ≡ slice_index groups g = ap (λ j. slice_index groups j) one in
+            get_or-set_other pages p q true true (omega arith) ∙ so.free q (omega arith) (omega arith)
+        | inr apart ↦
+            let read : slice_index (slice_set groups g many) (q / 32) ≡ slice_index groups (q / 32) = get_or-set_other groups g (q / 32) many 0 apart in
+            get_or-set_other pages p q true true (omega arith) ∙ so.free q (omega arith) (omega arith)
+      ];
+      within = let h = so.within in omega arith;
+      rest = λ k behind. get_or-set_other groups g k many 0 (omega arith) ∙ so.rest k (omega arith);
+    }
+
+-- where all count
+pub counted_all : (groups : List ℕ) (pages : List Bool) (used count : ℕ) → used ≡ length groups → length pages ≤ 32 * count → 32 * count < length pages + 32
+    → groups ≡ replicate count 32 → AreCounted used groups pages
+counted_all groups pages used count size first second each =
+    let inner : length groups ≡ count = ap (λ (l : List ℕ). length l) each ∙ length-replicate count 32 in
+    record {
+      least = omega arith;
+      most = omega arith;
+      free = λ p within behind.
+          let read : slice_index groups (p / 32) ≡ 32 = ap (λ (l : List ℕ). slice_index l (p / 32)) each ∙ get_or-replicate count (p / 32) 32 0 (omega arith) in
+          absurd (omega arith);
+      within = omega arith;
+      rest = λ g behind. get_or_past groups g 0 (omega arith);
+    }
+
+-- where none does
+pub counted_none : (groups : List ℕ) (pages : List Bool) (count : ℕ) → length pages ≤ 32 * count → 32 * count < length pages + 32
+    → groups ≡ replicate count 0 → pages ≡ replicate (length pages) false → AreCounted 0 groups pages
+counted_none groups pages count first second each free =
+    let inner : length groups ≡ count = ap (λ (l : List ℕ). length l) each ∙ length-replicate count 0 in
+    record {
+      least = omega arith;
+      most = omega arith;
+      free = λ p within behind. ap (λ (l : List Bool). slice_index_or l p true) free ∙ get_or-replicate (length pages) p false true within;
+      within = omega arith;
+      rest = λ g behind. elim (cases_lt g count) [
+        | inl inside ↦ ap (λ (l : List ℕ). slice_index l g) each ∙ get_or-replicate count g 0 0 inside
+        | inr past ↦ get_or_past groups g 0 (omega arith)
+      ];
+    }
+
+-- the pages of a group behind those that count are not marked
+pub unmarked_pages : (used : ℕ) (groups : List ℕ) (pages : List Bool) (g many : ℕ) → AreCounted used groups pages → slice_index groups g ≤ many → IsUnmarked pages (32 * g + many) (32 - many)
+unmarked_pages used groups pages g many so far p least most within =
+    let group : p / 32 ≡ g = omega arith in
+    let read : slice_index groups (p / 32) ≡ slice_index groups g = ap (λ k. slice_index groups k) group in
+    so.free p within (omega arith)
+
+-- nor are those behind the groups that count
+pub unmarked_groups : (used : ℕ) (groups : List ℕ) (pages : List Bool) → AreCounted used groups pages → IsUnmarked pages (32 * used) (length pages)
+unmarked_groups used groups pages so p least most within =
+    let none = so.rest (p / 32) (omega arith) in
+    so.free p within (omega arith)
+
+-- the first of a list filled, where those behind are so already
+pub filled : {A : Type 0} (list : List A) (item other : A) (count : ℕ) → count ≤ length list → ((k : ℕ) → count ≤ k → k < length list → slice_index_or list k other ≡ item)
+    → replicate count item ++ drop count list ≡ replicate (length list) item
+filled {A} list item other count within rest =
+    let front : length (replicate count item) ≡ count = length-replicate count item in
+    let size : length (replicate count item ++ drop count list) ≡ length list = omega (arith, front, length-append (replicate count item) (drop count list), length-drop count list) in
+    ext_get_or other (replicate count item ++ drop count list) (replicate (length list) item) (size ∙ sym (length-replicate (length list) item))
+    (λ k inside. elim (cases_lt k count) [
+      | inl first ↦ get_or_append_left (replicate count item) (drop count list) other k (omega arith) ∙ get_or-replicate count k item other first
+          ∙ sym (get_or-replicate (length list) k item other (omega arith))
+      | inr behind ↦ get_or-append_right (replicate count item) (drop count list) count k other front behind ∙ get_or-drop count list (k - count) other
+          ∙ ap (λ j. slice_index_or list j other) (let e : count + (k - count) ≡ k = omega arith in e)
+          ∙ rest k behind (omega arith) ∙ sym (get_or-replicate (length list) k item other (omega arith))
+    ])
+
+-- all marks taken away
+pub pages_cleared : (used count : ℕ) (groups : List ℕ) (pages : List Bool) → AreCounted used groups pages → count ≡ min (length pages) (32 * used)
+    → replicate count false ++ drop count pages ≡ replicate (length pages) false
+pages_cleared used count groups pages so size =
+    filled pages false true count (omega arith) (λ k behind within. let none = so.rest (k / 32) (omega arith) in so.free k within (omega arith))
+
+pub groups_cleared : (used : ℕ) (groups : List ℕ) (pages : List Bool) → AreCounted used groups pages → replicate used 0 ++ drop used groups ≡ replicate (length groups) 0
+groups_cleared used groups pages so = filled groups 0 0 used so.within (λ k behind within. so.rest k behind)
+
+-- what a `Vec` holds once all of it was written over
+pub items_over : {A : Type 0} (v : Vec A) (new : List A) → length new ≡ length v.items → (with_items v new).items ≡ new
+items_over v new same = with_items_is v new (same ∙ sym v.ok.0)
+
+-- a part of a list that was filled
+pub part_filled : {A : Type 0} (new list : List A) (item : A) (count part : ℕ) → count ≤ length list → part ≡ count → new ≡ replicate (length (take part list)) item
+    → new ++ drop part list ≡ replicate count item ++ drop count list
+part_filled {A} new list item count part within same is =
+    ap (λ (l : List A). l ++ drop part list) (is ∙ ap (λ n. replicate n item) (let e : length (take part list) ≡ count = omega (arith, length-take part list) in e))
+    ∙ ap (λ n. replicate count item ++ drop n list) same

@@ -1,0 +1,16 @@
+-- Marks of pages, 32 to a group.
+use Rattle.std.specs.Prelude.{◌≡◌, ℕ, ◌+◌, ◌*◌, ◌/◌, ◌%◌, ◌<◌, ◌≤◌, Bool, true, false, List, length, slice_index, slice_index_or}
+
+-- none of so many, from one on, is marked
+abbrev pub IsUnmarked : List Bool → ℕ → ℕ → Type 0
+IsUnmarked marks from count =
+    (p : ℕ) → from ≤ p → p < from + count → p < length marks → slice_index_or marks p true ≡ false
+
+-- Up to which of its pages one of each group may be marked, and up to which group one may have a mark. All pages behind
+-- those are free.
+pub record AreCounted (used : ℕ) (groups : List ℕ) (pages : List Bool) : Type 0 where
+  pub least : length pages ≤ 32 * length groups
+  pub most : 32 * length groups < length pages + 32
+  pub free : (p : ℕ) → p < length pages → slice_index groups (p / 32) ≤ p % 32 → slice_index_or pages p true ≡ false
+  pub within : used ≤ length groups
+  pub rest : (g : ℕ) → used ≤ g → slice_index groups g ≡ 0

@@ -1,0 +1,10 @@
+//! Bytes in pages: which pages were marked as changed, and copies of bytes that share the pages that were not.
+#![tactic(auto)]
+
+mod marks;
+mod pages;
+#[cfg(test)]
+mod tests;
+
+pub use marks::Marks;
+pub use pages::{FRONT, GROUP, PAGE, Pages, word_in};

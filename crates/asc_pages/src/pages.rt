@@ -1,0 +1,294 @@
+ghost use Rattle.std.specs.Prelude.{◌≡◌, ◌+◌, ◌*◌, ◌/◌, ◌%◌, ◌^◌, ◌<◌, ◌≤◌, ℕ, [], max, min, false, IfOk, None, length, slice_index, slice_index_or};
+ghost use Rattle.asc_model.specs.Number.{word_at};
+ghost use Rattle.asc_pages.specs.Pages.{IsPage, ArePages, KeptPages, Keeps, Tells, IsShared, base_bytes, held, page_bytes, page_in};
+
+use crate::Marks;
+use asc_outside::Memory;
+use std::alloc::Global;
+use std::marker::Model;
+use std::sync::Arc;
+
+/// How many places a page has.
+pub const PAGE: usize = 1024;
+
+/// How many pages a group has.
+pub const GROUP: usize = 32;
+
+/// So many places at the front are of no account here: who keeps pages keeps those himself.
+pub const FRONT: usize = 136;
+
+// A page that is left out is blank.
+type Page = Option<Arc<[u8; PAGE]>>;
+
+// A group of pages that is left out is blank.
+type Group = Option<Arc<Vec<Page>>>;
+
+/// Pages of bytes that do not change. They can be shared, also by threads, and share what they have in common with
+/// others.
+///
+/// Contracts see them as their bytes. Behind the last one all are 0.
+#[derive(Drop)]
+pub struct Pages {
+    groups: Arc<Vec<Group>>,
+}
+
+impl Model for Pages {
+    ghost use Rattle.asc_pages.specs.Pages.{bytes_in};
+    ghost use Rattle.std.specs.Prelude.{ℕ, List};
+
+    ghost Value = { List ℕ };
+
+    ghost view = { λ s. bytes_in s.groups.value.items };
+}
+
+impl Pages {
+    /// Pages of which all are blank.
+    pub fn none(alloc: Global) -> Result<Pages, Memory>
+        ensures { IfOk result (λ pages. pages ≡ []) }
+    {
+        let groups = Vec::with_capacity(alloc, 0)?;
+        Ok(Pages {
+            groups: Arc::new(alloc, groups)?,
+        })
+    }
+
+    /// The same pages, shared.
+    #[inline]
+    pub fn share(&self) -> Result<Pages, Memory>
+        ensures { IfOk result (λ pages. pages ≡ self.now) }
+    {
+        Ok(Pages {
+            groups: Arc::try_clone(&self.groups)?,
+        })
+    }
+
+    /// The pages of these bytes. Those that are not marked are shared with the base.
+    pub fn of(
+        alloc: Global,
+        bytes: &[u8],
+        changed: &Marks,
+        base: &Option<Pages>,
+    ) -> Result<Pages, Memory>
+        requires most { length bytes.now < 2 ^ 32 }
+        requires marks { length changed.now ≡ length bytes.now / 1024 + 1 }
+        requires kept { Keeps changed.now (base_bytes base.now) bytes.now }
+        ensures { IfOk result (λ pages. Tells pages bytes.now) }
+    {
+        match base {
+            None => Pages::none(alloc)?.after(alloc, bytes, changed),
+            Some(base) => base.after(alloc, bytes, changed),
+        }
+    }
+
+    // The pages of bytes that have these where they are not marked.
+    #[inline]
+    fn after(&self, alloc: Global, bytes: &[u8], changed: &Marks) -> Result<Pages, Memory>
+        requires most { length bytes.now < 2 ^ 32 }
+        requires marks { length changed.now ≡ length bytes.now / 1024 + 1 }
+        requires kept { Keeps changed.now self.now bytes.now }
+        ensures { IfOk result (λ pages. Tells pages bytes.now) }
+    {
+        if changed.is_clear() {
+            return self.share();
+        }
+        self.copied(alloc, bytes, changed)
+    }
+
+    // The same, group by group.
+    #[inline(never)]
+    fn copied(&self, alloc: Global, bytes: &[u8], changed: &Marks) -> Result<Pages, Memory>
+        requires most { length bytes.now < 2 ^ 32 }
+        requires marks { length changed.now ≡ length bytes.now / 1024 + 1 }
+        requires kept { Keeps changed.now self.now bytes.now }
+        ensures { IfOk result (λ pages. Tells pages bytes.now) }
+    {
+        let count = (changed.len() - 1) / GROUP + 1;
+        let used = used_of(changed.used_groups(), self.groups.len(), count);
+        let mut groups = Vec::with_capacity(alloc, used)?;
+        for g in 0..used {
+            groups.push_reserved(group_of(alloc, bytes, changed, &self.groups, g)?);
+        }
+        Ok(Pages {
+            groups: Arc::new(alloc, groups)?,
+        })
+    }
+
+    /// The word at a place that is a multiple of 4.
+    #[inline]
+    pub fn word(&self, place: usize) -> u32
+        requires { place % 4 ≡ 0 }
+        ensures { result ≡ word_at self.now place }
+    {
+        let page = self.page(place / PAGE);
+        if page.is_empty() {
+            return 0;
+        }
+        word_in(page, place % PAGE)
+    }
+
+    /// Page p, or nothing where it is blank and left out.
+    #[inline]
+    pub fn page(&self, p: usize) -> &[u8]
+        ensures page { (i : ℕ) → i / 1024 ≡ p → slice_index self.now i ≡ slice_index result.now (i % 1024) }
+        ensures size { 0 < length result.now → length result.now ≡ 1024 }
+    {
+        page_at(group_at(&self.groups, p / GROUP), p % GROUP)
+    }
+}
+
+/// The word in the four bytes from a place on.
+#[inline]
+pub fn word_in(bytes: &[u8], at: usize) -> u32
+    requires { at + 4 ≤ length bytes.now }
+    ensures { result ≡ word_at bytes.now at }
+{
+    let part = &bytes[at..at + 4];
+    u32::from_le_bytes([part[0], part[1], part[2], part[3]])
+}
+
+// The first page of a group and the page behind its last one, of so many pages.
+#[inline]
+fn part_ends(part: usize, count: usize) -> (usize, usize)
+    requires count { count < 2 ^ 32 }
+    requires part { 32 * part < count }
+    ensures from { result.0 ≡ 32 * part }
+    ensures to { result.1 ≡ min (32 * part + 32) count }
+{
+    let from = part * GROUP;
+    (from, count.min(from + GROUP))
+}
+
+// How many of `count` parts are used, where one list uses so many of them, and another one so many.
+#[inline]
+fn used_of(one: usize, other: usize, count: usize) -> usize
+    ensures { result ≡ min (max one other) count }
+{
+    one.max(other).min(count)
+}
+
+// The pages of group g, or none where it is left out.
+#[inline]
+fn group_at(groups: &[Group], g: usize) -> &[Page]
+    ensures { result.now ≡ held (slice_index_or groups.now g None) }
+{
+    match groups.get(g) {
+        Some(Some(group)) => &group[..],
+        _ => &[],
+    }
+}
+
+// The bytes of page k, or none where it is left out.
+#[inline]
+fn page_at(pages: &[Page], k: usize) -> &[u8]
+    ensures page { result.now ≡ page_in pages.now k }
+    ensures size { 0 < length result.now → length result.now ≡ 1024 }
+{
+    match pages.get(k) {
+        Some(Some(page)) => &page[..],
+        _ => &[],
+    }
+}
+
+// Part k of a list, shared.
+#[inline]
+fn share_part<T>(parts: &[Option<Arc<T>>], k: usize) -> Result<Option<Arc<T>>, Memory>
+    ensures { IfOk result (λ part. IsShared part (slice_index_or parts.now k None)) }
+{
+    match parts.get(k) {
+        Some(Some(part)) => Ok(Some(Arc::try_clone(part)?)),
+        _ => Ok(None),
+    }
+}
+
+// Group g of bytes: that of those that are kept, shared, where no page of it is changed.
+#[inline]
+fn group_of(
+    alloc: Global,
+    bytes: &[u8],
+    changed: &Marks,
+    kept: &[Group],
+    g: usize,
+) -> Result<Group, Memory>
+    requires most { length bytes.now < 2 ^ 32 }
+    requires marks { length changed.now ≡ length bytes.now / 1024 + 1 }
+    requires group { 32 * g < length changed.now }
+    requires kept { KeptPages changed.now bytes.now (32 * g) (held (slice_index_or kept.now g None)) }
+    ensures { IfOk result (λ group. ArePages bytes.now (32 * g) (held group)) }
+{
+    if changed.used_pages(g) == 0 {
+        return share_part(kept, g);
+    }
+    copied_group(alloc, bytes, changed, group_at(kept, g), g)
+}
+
+// Group g of bytes: copies of the pages that are changed, and the others of those that are kept, shared.
+#[inline(never)]
+fn copied_group(
+    alloc: Global,
+    bytes: &[u8],
+    changed: &Marks,
+    kept: &[Page],
+    g: usize,
+) -> Result<Group, Memory>
+    requires most { length bytes.now < 2 ^ 32 }
+    requires marks { length changed.now ≡ length bytes.now / 1024 + 1 }
+    requires group { 32 * g < length changed.now }
+    requires kept { KeptPages changed.now bytes.now (32 * g) kept.now }
+    ensures { IfOk result (λ group. ArePages bytes.now (32 * g) (held group)) }
+{
+    let (from, to) = part_ends(g, changed.len());
+    let used = used_of(changed.used_pages(g), kept.len(), to - from);
+    let mut pages = Vec::with_capacity(alloc, used)?;
+    for p in from..from + used {
+        pages.push_reserved(page_of(alloc, bytes, p, changed.is_marked(p), kept, p - from)?);
+    }
+    Ok(Some(Arc::new(alloc, pages)?))
+}
+
+// Page p of bytes: a copy where it is changed, and else page k of those that are kept, shared.
+#[inline]
+fn page_of(
+    alloc: Global,
+    bytes: &[u8],
+    p: usize,
+    changed: bool,
+    kept: &[Page],
+    k: usize,
+) -> Result<Page, Memory>
+    requires length { length bytes.now < 2 ^ 32 }
+    requires page { p < length bytes.now / 1024 + 1 }
+    requires kept { changed ≡ false → IsPage bytes.now p (page_in kept.now k) }
+    ensures { IfOk result (λ page. IsPage bytes.now p (page_bytes page)) }
+{
+    if changed {
+        return Ok(Some(copy_of(alloc, &bytes[p * PAGE..])?));
+    }
+    share_part(kept, k)
+}
+
+// A page of the first bytes of a list, and zeros behind those that there are.
+//
+// It stands out of the loop over a group's pages, which then has no page of its own to keep.
+#[inline(never)]
+fn copy_of(alloc: Global, bytes: &[u8]) -> Result<Arc<[u8; PAGE]>, Memory>
+    ensures { IfOk result (λ page. (i : ℕ) → i < 1024 → slice_index page.value i ≡ slice_index bytes.now i) }
+{
+    match bytes.first_chunk() {
+        Some(page) => Ok(Arc::new(alloc, *page)?),
+        None => Ok(Arc::new(alloc, padded(bytes))?),
+    }
+}
+
+// The same of fewer bytes than a page has.
+#[cold]
+#[inline(never)]
+fn padded(bytes: &[u8]) -> [u8; PAGE]
+    requires { length bytes.now < 1024 }
+    ensures { (i : ℕ) → slice_index result i ≡ slice_index bytes.now i }
+{
+    let mut page = [0; PAGE];
+    for i in 0..bytes.len() {
+        page[i] = bytes[i];
+    }
+    page
+}
