@@ -4,7 +4,7 @@ ghost use Rattle.asc_cache.specs.Cache.{ShardWriter as writer_model, AreLater, I
 
 use crate::{Cache, Insert, ListWriter, ShardReaders, ShardWriter};
 use asc_depvec::Tracer;
-use asc_shape::{Memory, Shape, State};
+use asc_shape::{Guess, Memory, Shape, Snapshot, State};
 use asc_shard::{Inserted, Shard};
 use asc_traj::{Entry, Finder, Never, Stop, trace};
 use std::alloc::Global;
@@ -37,7 +37,10 @@ fn traced(alloc: Global, from: &State) -> Result<(u64, Tracer), Memory>
     ensures { IfOk result (λ t. StandsFor t.0 t.1) }
 {
     let mut tracer = Tracer::new(alloc, from.shape(), 96)?;
-    tracer.start(from);
+    let guess = Guess::last(Snapshot::of(alloc, from)?);
+    // That it is a state, of the same shape.
+    let _ = guess.shape();
+    tracer.start(guess);
     let stop = Stop {
         pc: 0x10008,
         laps: 1,
@@ -49,11 +52,11 @@ fn traced(alloc: Global, from: &State) -> Result<(u64, Tracer), Memory>
 
 /// The entry of one lap.
 fn lap_from(alloc: Global, x5: u32) -> Result<Arc<Entry>, Memory> {
-    let (steps, tracer) = traced(alloc, &counting(alloc, x5)?)?;
+    let (steps, mut tracer) = traced(alloc, &counting(alloc, x5)?)?;
     if steps == 0 {
         return Err(Memory);
     }
-    Entry::of(alloc, &tracer, steps)
+    Entry::of(alloc, &mut tracer, steps)
 }
 
 /// What the readers find where x5 is such, and x5 then.

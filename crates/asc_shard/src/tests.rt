@@ -5,7 +5,7 @@ ghost use Rattle.asc_traj.specs.Trace.{StandsFor};
 use crate::find::Probes;
 use crate::{Inserted, MOST_CAPACITY, Shard};
 use asc_depvec::Tracer;
-use asc_shape::{Shape, State, Steps};
+use asc_shape::{Guess, Shape, Snapshot, State, Steps};
 use asc_traj::{Entry, Never, Stop, Traced, cells_of, trace};
 use std::alloc::Global;
 use std::marker::Brand;
@@ -68,7 +68,10 @@ fn traced<R: Abort>(rt: &R, alloc: Global, from: &State, laps: u64, span: u64) -
 {
     assert!(rt; laps >= 1 && span >= 1);
     let mut tracer = Tracer::new(alloc, from.shape(), 96).expect(rt, "memory");
-    tracer.start(from);
+    let guess = Guess::last(Snapshot::of(alloc, from).expect(rt, "memory"));
+    // That it is a state, of the same shape.
+    let _ = guess.shape();
+    tracer.start(guess);
     let stop = Stop {
         pc: 0x10008,
         laps,
@@ -80,9 +83,9 @@ fn traced<R: Abort>(rt: &R, alloc: Global, from: &State, laps: u64, span: u64) -
 
 /// The entry of such a trace.
 fn entry_of<R: Abort>(rt: &R, alloc: Global, from: &State, laps: u64, span: u64) -> Arc<Entry> {
-    let (traced, tracer) = traced(rt, alloc, from, laps, span);
+    let (traced, mut tracer) = traced(rt, alloc, from, laps, span);
     assert!(rt; traced.steps >= 1);
-    Entry::of(alloc, &tracer, traced.steps).expect(rt, "memory")
+    Entry::of(alloc, &mut tracer, traced.steps).expect(rt, "memory")
 }
 
 /// The entry of so many laps of the counting loop.
