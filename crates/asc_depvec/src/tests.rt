@@ -337,7 +337,7 @@ fn random_jobs(rt: HostRuntime) {
         for job in 0..jobs {
             let from = match job % 3 {
                 0 => 0,
-                1 => 4190,
+                1 => 4052,
                 _ => places(shape).wrapping_sub(ROW),
             };
             let bytes = random_bytes(&rt, alloc, &mut state, from, &mut seed);

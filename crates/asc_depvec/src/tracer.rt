@@ -31,7 +31,7 @@ pub const MOST_CAP: usize = 65_536;
 /// The bytes of untouched places are the start's, and stand there alone. So a start costs what was touched before it,
 /// however large the state is.
 ///
-/// Only `new` is handed an allocator. Contracts see a tracer as the `Tracing` of `specs/`.
+/// Only `new` and `touched_words` are handed an allocator. Contracts see a tracer as the `Tracing` of `specs/`.
 #[derive(Drop)]
 pub struct Tracer {
     shape: Shape,

@@ -17,7 +17,7 @@ pub enum Made {
     One(Arc<Entry>),
     /// No step of it could be traced.
     Empty,
-    /// Memory was wanting for the entry of its trace.
+    /// Memory was wanting for the entry of its trace, or for a share of a snapshot.
     Refused,
 }
 

@@ -155,7 +155,7 @@ fn print_for(head: &Head, state: &State, products: Option<&[u64; 32]>, entry: &E
     }
 }
 
-/// The longest match so far, after the slots of one mark, which the state has, if there are any.
+/// The longest match so far, after the entries of one mark, which the state has, if there are any.
 #[inline]
 fn search_some<P: Probes>(
     entries: &[Arc<Entry>],
@@ -226,7 +226,7 @@ fn search_one<P: Probes>(
     best
 }
 
-/// The longest match so far, after the slots of one mark, which the state has, group by group.
+/// The longest match so far, after the entries of one mark, which the state has, group by group.
 fn search_range<P: Probes>(
     entries: &[Arc<Entry>],
     index: &Index,
@@ -284,7 +284,7 @@ fn longer_of(best: Best, entries: &[Arc<Entry>], position: usize) -> Best
     best
 }
 
-/// Where the group ends of which the first slot is at `from`, among slots of one mark.
+/// Where the group ends of which the first entry is at `from`, among those of one mark.
 fn group_end(entries: &[Arc<Entry>], index: &Index, from: usize, high: usize) -> usize
     requires index { IsIndexed (map arc_value entries.now) index.now }
     requires some { from < high }
@@ -321,7 +321,7 @@ fn group_end(entries: &[Arc<Entry>], index: &Index, from: usize, high: usize) ->
     low
 }
 
-/// The last of the slots of a group whose entry matches a state and has at most `left` steps.
+/// The last entry of a group that matches a state and has at most `left` steps.
 fn last_match<P: Probes>(
     entries: &[Arc<Entry>],
     index: &Index,

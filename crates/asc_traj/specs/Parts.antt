@@ -37,7 +37,7 @@ all_cells parts = flat_map part_cells parts
 
 -- ---- cells, one after another
 
--- whether a part has its byte k, and this byte
+-- whether a part has its byte k
 abbrev pub has_byte : Part → (k : ℕ) → Bool
 has_byte p k = p.at % 16 / 2 ^ k % 2 == 1
 
