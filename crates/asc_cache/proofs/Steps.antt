@@ -1,5 +1,5 @@
 -- Each step keeps the rule of a shard.
-use Rattle.std.proofs.Common.{◌≡◌, ◌≢◌, ℕ, zero, suc, List, [], ◌∷◌, ◌++◌, fold, slice_set, sym, refl, ap, ◌∙◌, subst, ⊎_elim, arith}
+use Rattle.std.proofs.Common.{◌≡◌, ◌≢◌, ℕ, zero, suc, true, List, [], ◌∷◌, ◌++◌, fold, slice_set, sym, refl, ap, ◌∙◌, subst, ⊎_elim, arith}
 use Rattle.std.specs.Arc.{arc_value}
 use Rattle.std.proofs.Common.{Result, Ok, Err, MatchResult, OnOk}
 use mathlib.Core.Option.{some, some-ne-none, some-injective}
@@ -11,10 +11,12 @@ use Rattle.std.proofs.lemmas.List.Sums.{fold-append}
 use Rattle.asc_model.specs.Entry.{Entry}
 use Rattle.asc_shard.specs.Shard.{Shard}
 use Rattle.asc_cache.specs.declared.instance.Instance.{Instance}
-use Rattle.asc_cache.specs.declared.instance.Insertion.{Insertion}
+use Rattle.asc_cache.specs.declared.instance.Operation.{Operation}
+use Rattle.asc_cache.specs.declared.instance.Reached.{Reached}
+use Rattle.asc_cache.specs.declared.instance.Operation.TheVariants.{Inserts, Reaches}
 use Rattle.asc_cache.specs.declared.sight.Sight.{Sight}
 use Rattle.asc_shard.specs.Content.{add, content_of}
-use Rattle.asc_cache.specs.ShardRule.{sight, first_sight, IsFolded, IsSighted, ShardRule, Looks, IsNext, Published, IsAlike, Front}
+use Rattle.asc_cache.specs.ShardRule.{sight, first_sight, IsFolded, IsSighted, ShardRule, Looks, IsNext, Published, IsAlike, Front, state_of, absorbed, is_pending, IsAppended}
 use Rattle.asc_cache.proofs.Fronts.{prefix_self, prefix_trans}
 
 fresh : (h : Instance) → IsSighted h first_sight
@@ -35,21 +37,19 @@ content_more : (capacity : ℕ) (log : List Entry) (e : Entry) → content_of ca
 content_more capacity log e = fold-append (add capacity) [] log (e ∷ [])
 
 -- what is published goes on from what was
-later : (x y : Instance) (i : Insertion) (v : Sight) → IsNext x i → Published x i y → IsSighted x v → IsSighted y v
-later x y i v next p of looked =
+later : (x y : Instance) (e : Entry) (v : Sight) → Published x e y → IsSighted x v → IsSighted y v
+later x y e v p of looked =
     let o = of looked in
-    let more : y.front.log ≡ x.front.log ++ arc_value i.entry ∷ [] = p.3 ∙ next.1 in
-    (o.0 ∙ sym p.1, o.1 ∙ sym next.0 ∙ sym p.2, prefix_trans v.front.log x.front.log y.front.log o.2 (arc_value i.entry ∷ [], sym more))
+    (o.0 ∙ sym p.1, o.1 ∙ sym p.2, prefix_trans v.front.log x.front.log y.front.log o.2 (e ∷ [], sym p.3))
 
-pub kept_on : (x y : Instance) (i : Insertion) → IsFolded x → IsNext x i → Published x i y → IsFolded y
-kept_on x y i kept next p =
-    let e = arc_value i.entry in
-    p.0 ∙ ap (λ l. add x.shard.capacity l e) kept ∙ sym (content_more x.shard.capacity x.front.log e) ∙ ap (content_of x.shard.capacity) (sym (p.3 ∙ next.1)) ∙ ap (λ c. content_of c y.front.log) (sym p.1)
+pub kept_on : (x y : Instance) (e : Entry) → IsFolded x → Published x e y → IsFolded y
+kept_on x y e kept p =
+    p.0 ∙ ap (λ l. add x.shard.capacity l e) kept ∙ sym (content_more x.shard.capacity x.front.log e) ∙ ap (content_of x.shard.capacity) (sym p.3) ∙ ap (λ c. content_of c y.front.log) (sym p.1)
 
-pub publishes : (seat : ℕ) (v : Sight) (x y : Instance) (i : Insertion) → IsNext x i → Published x i y → TurnsAt ShardRule seat v x y (λ v x y w. w ≡ v)
-publishes seat v x y i next p views h at = (
+pub publishes : (seat : ℕ) (v : Sight) (x y : Instance) (e : Entry) → Published x e y → TurnsAt ShardRule seat v x y (λ v x y w. w ≡ v)
+publishes seat v x y e p views h at = (
   v,
-  (kept_on x y i h.0 next p, λ j u there. later x y i u next p (h.1 j u (ap (λ (l : List Sight). get_elem? l j) (sym (set_again views seat v at)) ∙ there))),
+  (kept_on x y e h.0 p, λ j u there. later x y e u p (h.1 j u (ap (λ (l : List Sight). get_elem? l j) (sym (set_again views seat v at)) ∙ there))),
   refl,
 )
 
@@ -89,21 +89,40 @@ learns seat v other w x views h at apart at' =
     let was : get_elem? views other ≡ some w = ⊎_elim (λ t. absurd (apart t.0)) (λ t. t.1) (at_set views seat other w w at') in
     (h.0, changed (IsSighted x) (slice_set views seat w) other first_sight (fresh x) (changed (IsSighted x) views seat w (h.1 other w was) h.1))
 
-abbrev Absorbed : Shard × Front → Insertion → Shard × Front
-Absorbed s i = (record { held = add s.0.capacity s.0.held (arc_value i.entry); capacity = s.0.capacity }, i.front)
-
-abbrev state : Instance → Shard × Front
-state h = (h.shard, h.front)
-
 -- what one absorbed insertion leaves
-pub published : (x y : Instance) (pending : List Insertion) (i : Insertion) → pending ≡ i ∷ [] → state y ≡ fold Absorbed (state x) pending → Published x i y
-published x y pending i one is =
-    let at : state y ≡ Absorbed (state x) i = subst (λ (l : List Insertion). state y ≡ fold Absorbed (state x) l) one is in
-    (ap (λ s. s.0.held) at, ap (λ s. s.0.capacity) at, ap (λ s. s.1.book) at, ap (λ s. s.1.log) at)
+pub published : (x y : Instance) (pending : List Operation) (e : Entry) → IsNext x e pending → state_of y ≡ fold absorbed (state_of x) pending → Published x e y
+published x y [] e next is = absurd next
+published x y (Inserts a ∷ []) e next is = absurd next
+published x y (Inserts a ∷ Inserts b ∷ rest) e next is = absurd next
+published x y (Inserts a ∷ Reaches r ∷ []) e next is = (
+  ap (λ s. s.0.held) is ∙ ap (add x.shard.capacity x.shard.held) next.0,
+  ap (λ s. s.0.capacity) is,
+  ap (λ s. s.1.book) is ∙ next.1,
+  ap (λ s. s.1.log) is ∙ next.2,
+)
+published x y (Inserts a ∷ Reaches r ∷ o ∷ rest) e next is = absurd next
+published x y (Reaches r ∷ rest) e next is = absurd next
 
-pub alike : (x y : Instance) (pending : List Insertion) → pending ≡ [] → state y ≡ fold Absorbed (state x) pending → IsAlike x y
+-- an entry that was appended, and then the list up to it
+pub next_of : (x : Instance) (e : Entry) (old new : List Operation) (r : Reached) → IsAppended e old → r.front.book ≡ x.front.book → r.front.log ≡ x.front.log ++ e ∷ []
+    → new ≡ old ++ Reaches r ∷ [] → IsNext x e new
+next_of x e [] new r one book log is = absurd one
+next_of x e (Inserts a ∷ []) new r one book log is = subst (IsNext x e) (sym is) (one, book, log)
+next_of x e (Inserts a ∷ o ∷ rest) new r one book log is = absurd one
+next_of x e (Reaches q ∷ rest) new r one book log is = absurd one
+
+-- an entry alone is pending
+pub appended_pends : (e : Entry) (old : List Operation) → IsAppended e old → is_pending old ≡ true
+appended_pends e [] one = absurd one
+appended_pends e (o ∷ rest) one = refl
+
+pub still_pending : (x : Instance) (e : Entry) (old : List Operation) → IsNext x e old → is_pending old ≡ true
+still_pending x e [] next = absurd next
+still_pending x e (o ∷ rest) next = refl
+
+pub alike : (x y : Instance) (pending : List Operation) → pending ≡ [] → state_of y ≡ fold absorbed (state_of x) pending → IsAlike x y
 alike x y pending none is =
-    let at : state y ≡ state x = subst (λ (l : List Insertion). state y ≡ fold Absorbed (state x) l) none is in
+    let at : state_of y ≡ state_of x = subst (λ (l : List Operation). state_of y ≡ fold absorbed (state_of x) l) none is in
     (ap (λ s. s.0) at, ap (λ s. s.1) at)
 
 pub if_ok : {X Y : Type 0} (r : Result X Y) (A B C : Type 0) → MatchResult r (λ _. A) (λ _. B) → (A → C) → OnOk r C

@@ -1,16 +1,19 @@
 -- The rule of a doubled shard: what is shown is what the list of insertions leaves, and each reader has seen a beginning
 -- of that list.
-use Rattle.std.specs.Prelude.{◌≡◌, ℕ, ◌<◌, List, [], ◌∷◌, ◌++◌, length}
+use Rattle.std.specs.Prelude.{◌≡◌, ℕ, ◌<◌, Bool, true, false, List, [], ◌∷◌, ◌++◌, length}
 use Rattle.std.specs.Arc.{arc_value}
 use mathlib.Core.Option.{some}
 use mathlib.Core.List.{IsPrefix}
 use lib.ListN.{get_elem?}
 use Rattle.logbook.specs.declared.tokens.Seen.{Seen}
 use Rattle.asc_model.specs.Entry.{Entry}
+use Rattle.asc_shard.specs.Shard.{Shard}
 use Rattle.asc_shard.specs.Content.{add, content_of, IsContent}
+use Rattle.asc_cache.specs.Insert.{shard_after}
 use Rattle.asc_cache.specs.declared.log.Counted.{Counted}
 use Rattle.asc_cache.specs.declared.instance.Instance.{Instance}
-use Rattle.asc_cache.specs.declared.instance.Insertion.{Insertion}
+use Rattle.asc_cache.specs.declared.instance.Operation.{Operation}
+use Rattle.asc_cache.specs.declared.instance.Operation.TheVariants.{Inserts, Reaches}
 use Rattle.asc_cache.specs.declared.sight.Sight.{Sight}
 
 -- a beginning of the list of insertions
@@ -52,14 +55,34 @@ pub record HasLooked (v w : Sight) (front : Front) (stored : ℕ) : Type 0 where
   pub counted : length front.log ≡ stored
   pub content : IsContent v.capacity (content_of v.capacity front.log)
 
--- an insertion that may come next to the shard x
-abbrev pub IsNext : Instance → Insertion → Type 0
-IsNext x i = (i.front.book ≡ x.front.book) × (i.front.log ≡ x.front.log ++ arc_value i.entry ∷ [])
+-- what an instance leaves of its operations: its shard, and the list of insertions that it has taken in
+abbrev pub state_of : Instance → Shard × Front
+state_of x = (x.shard, x.front)
+
+-- what an operation does to that
+abbrev pub absorbed : Shard × Front → Operation → Shard × Front
+absorbed s (Inserts e) = (shard_after s.0 (arc_value e), s.1)
+absorbed s (Reaches r) = (s.0, r.front)
+
+-- whether there is an operation
+abbrev pub is_pending : {X : Type 0} → List X → Bool
+is_pending [] = false
+is_pending (x ∷ xs) = true
+
+-- these operations are an entry alone
+abbrev pub IsAppended : Entry → List Operation → Type 0
+IsAppended e (Inserts a ∷ []) = arc_value a ≡ e
+IsAppended e _ = ⊥
+
+-- these operations are the insertion of an entry, which comes next to the shard x
+abbrev pub IsNext : Instance → Entry → List Operation → Type 0
+IsNext x e (Inserts a ∷ Reaches r ∷ []) = (arc_value a ≡ e) × (r.front.book ≡ x.front.book) × (r.front.log ≡ x.front.log ++ e ∷ [])
+IsNext x e _ = ⊥
 
 -- the shard y is x with an insertion more
-abbrev pub Published : Instance → Insertion → Instance → Type 0
-Published x i y = (y.shard.held ≡ add x.shard.capacity x.shard.held (arc_value i.entry)) × (y.shard.capacity ≡ x.shard.capacity)
-    × (y.front.book ≡ i.front.book) × (y.front.log ≡ i.front.log)
+abbrev pub Published : Instance → Entry → Instance → Type 0
+Published x e y = (y.shard.held ≡ add x.shard.capacity x.shard.held e) × (y.shard.capacity ≡ x.shard.capacity)
+    × (y.front.book ≡ x.front.book) × (y.front.log ≡ x.front.log ++ e ∷ [])
 
 -- two shards that readers cannot tell apart
 abbrev pub IsAlike : Instance → Instance → Type 0

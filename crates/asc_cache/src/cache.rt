@@ -35,14 +35,16 @@ impl<R: Wait + Copy> Cache<R> {
     {
         let mut writers = Vec::with_capacity(alloc, shards)?;
         let mut readers = Vec::with_capacity(alloc, shards)?;
+        let mut leaving = Vec::with_capacity(alloc, shards)?;
         for index in 0..shards {
-            let (writer, reader) = open_shard(alloc, rt, index, capacity)?;
+            let (writer, reader, left) = open_shard(alloc, rt, index, capacity)?;
             writers.push(writer)?;
             readers.push(reader)?;
+            leaving.push(left)?;
         }
         Ok(Cache {
             writers,
-            readers: ShardReaders::of(rt, readers),
+            readers: ShardReaders::of(rt, readers, leaving),
         })
     }
 

@@ -7,10 +7,19 @@ use left_right::Absorb;
 use std::alloc::{AllocError, Global};
 use std::sync::Arc;
 
-/// An insertion, with the list of insertions up to it and its length.
+/// What is done to an instance. An insertion is two of these, one after the other: so the first may be refused before
+/// the list of insertions has it.
 #[derive(Drop)]
-pub(crate) struct Insertion {
-    pub entry: Arc<Entry, Global>,
+pub(crate) enum Operation {
+    /// An entry is inserted.
+    Inserts(Arc<Entry, Global>),
+    /// The list of insertions comes this far.
+    Reaches(Reached),
+}
+
+/// The list of insertions up to one of them, with its length.
+#[derive(Drop)]
+pub(crate) struct Reached {
     pub stored: u64,
     pub front: Front,
     ghost counted: { length front.log ≡ stored },
@@ -25,21 +34,26 @@ pub(crate) struct Instance {
     ghost counted: { length front.log ≡ stored },
 }
 
-impl Absorb<Insertion> for Instance {
-    ghost use Rattle.std.specs.Arc.{arc_value};
-    ghost use Rattle.asc_cache.specs.Insert.{shard_after};
+impl Absorb<Operation> for Instance {
+    ghost use Rattle.asc_cache.specs.ShardRule.{state_of, absorbed};
 
     type State = (Shard, Front);
 
-    ghost state = { λ x. (x.shard, x.front) };
+    ghost state = { state_of };
 
-    ghost applied = { λ s i. (shard_after s.0 (arc_value i.entry), i.front) };
+    ghost applied = { absorbed };
 
-    fn absorb_first(&mut self, operation: &Insertion, _other: &Instance) -> Result<(), AllocError> {
-        let entry = Arc::try_clone(&operation.entry)?;
-        self.shard.insert(entry);
-        self.stored = operation.stored;
-        self.front = operation.front.again();
+    fn absorb_first(&mut self, operation: &Operation, _other: &Instance) -> Result<(), AllocError> {
+        match operation {
+            Operation::Inserts(entry) => {
+                let entry = Arc::try_clone(entry)?;
+                self.shard.insert(entry);
+            }
+            Operation::Reaches(reached) => {
+                self.stored = reached.stored;
+                self.front = reached.front.again();
+            }
+        }
         Ok(())
     }
 }

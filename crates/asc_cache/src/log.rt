@@ -3,6 +3,7 @@ ghost use Rattle.asc_cache.specs.LogRule.{AreOfOneList, head_of};
 
 use asc_traj::Entry;
 use logbook::{Gain, Offer, Plain, Play, Rule, Seen, Start, Word};
+use std::snapshot::Snapshot;
 
 // The rule of the list of insertions: its word is its length.
 pub(crate) struct Counted;
@@ -41,10 +42,10 @@ impl Play<Entry, ()> for Append {
     ghost then = { Appends };
 }
 
-impl Plain<Entry, Entry, ()> for Append {
+impl Plain<Snapshot<Entry>, Entry, ()> for Append {
     ghost use Rattle.std.specs.Prelude.{None};
 
-    ghost ask = { λ e. e };
+    ghost ask = { λ e. e.value };
 
     ghost state = { λ e. None };
 }
@@ -77,17 +78,19 @@ impl Log {
 
     /// Appends an entry, and answers whether that was done: it always is below 2^64 - 1 entries, since no one else
     /// appends.
-    pub fn append(&mut self, entry: &Entry) -> bool
+    pub fn append(&mut self, entry: &Snapshot<Entry>) -> bool
         ensures book { self.new.whole.book ≡ self.old.whole.book }
-        ensures appended { result ≡ true → self.new.whole.log ≡ self.old.whole.log ++ entry.now ∷ [] }
+        ensures appended { result ≡ true → self.new.whole.log ≡ self.old.whole.log ++ entry.now.value ∷ [] }
     {
         if self.count == u64::MAX {
             return false;
         }
         let mut whole = self.whole.again();
-        let mut offer: Offer<Entry, (), Counted, NoGain> = whole.plain::<NoGain, Entry, Append>(
-            entry,
-        );
+        let mut offer: Offer<Entry, (), Counted, NoGain> = whole.plain::<
+            NoGain,
+            Snapshot<Entry>,
+            Append,
+        >(entry);
         let mut pen = whole.no_pen();
         let count = self.count;
         let found = self

@@ -7,7 +7,7 @@ ghost use Rattle.asc_cache.specs.LogRule.{AreOfOneList};
 ghost use Rattle.asc_cache.specs.Cache.{ShardReader, AreLater, IsLater, IsOwnReader, content_seen, first_found, found_by};
 
 use crate::reader::{ShardReader, Told};
-use crate::writer::ShardWriter;
+use crate::writer::{Leaving, ShardWriter};
 use asc_shape::State;
 use asc_traj::Finder;
 use std::marker::Model;
@@ -15,11 +15,13 @@ use std::sync::Wait;
 
 /// The readers of all shards, as one finder.
 ///
-/// It keeps the runtime's handle, since a look-up tries again until it is let in. It waits for no writer at work, but
-/// for a writer that was dropped it would wait for ever: a run keeps all writers until it has ended.
+/// It keeps the runtime's handle, since a look-up tries again until it is let in. It waits for no writer at work, and goes
+/// on with the shard of a writer that was dropped.
 #[derive(Drop)]
 pub struct ShardReaders<R: Wait + Drop> {
     readers: Vec<ShardReader>,
+    // Where the writers leave their shards. They are freed with it.
+    leaving: Vec<Leaving<R>>,
     rt: R,
     asked: u64,
     given: u64,
@@ -94,11 +96,12 @@ fn jump_first<R: Wait>(
 
 impl<R: Wait + Drop> ShardReaders<R> {
     /// Readers that were not asked yet.
-    pub(crate) fn of(rt: R, readers: Vec<ShardReader>) -> ShardReaders<R>
+    pub(crate) fn of(rt: R, readers: Vec<ShardReader>, leaving: Vec<Leaving<R>>) -> ShardReaders<R>
         ensures { result ≡ record { readers = readers.items; tally = record { asked = 0; given = 0; hits = 0 } } }
     {
         ShardReaders {
             readers,
+            leaving,
             rt,
             asked: 0,
             given: 0,

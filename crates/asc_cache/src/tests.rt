@@ -1,4 +1,4 @@
-ghost use Rattle.std.specs.Prelude.{◌≡◌, IfOk};
+ghost use Rattle.std.specs.Prelude.{◌≡◌, ◌≤◌, IfOk};
 ghost use Rattle.asc_traj.specs.Trace.{StandsFor};
 ghost use Rattle.asc_cache.specs.Cache.{ShardWriter as writer_model, AreLater, IsOwnReader};
 
@@ -15,7 +15,12 @@ use std::thread::{Threads, join_mut};
 
 /// A loop from 0x10008 on that counts x5, two steps a lap.
 fn counting(alloc: Global, x5: u32) -> Result<State, Memory> {
-    let Ok(shape) = Shape::new(0x10000, 65_536) else {
+    counting_in(alloc, 65_536, x5)
+}
+
+/// The same in a memory of so many bytes.
+fn counting_in(alloc: Global, size: u32, x5: u32) -> Result<State, Memory> {
+    let Ok(shape) = Shape::new(0x10000, size) else {
         return Err(Memory);
     };
     let mut state = State::new(alloc, shape)?;
@@ -32,8 +37,9 @@ fn counting(alloc: Global, x5: u32) -> Result<State, Memory> {
     Ok(state)
 }
 
-/// A trace of one lap.
-fn traced(alloc: Global, from: &State) -> Result<(u64, Tracer), Memory>
+/// A trace of so many laps.
+fn traced(alloc: Global, from: &State, laps: u64) -> Result<(u64, Tracer), Memory>
+    requires { 1 ≤ laps }
     ensures { IfOk result (λ t. StandsFor t.0 t.1) }
 {
     let mut tracer = Tracer::new(alloc, from.shape(), 96)?;
@@ -43,7 +49,7 @@ fn traced(alloc: Global, from: &State) -> Result<(u64, Tracer), Memory>
     tracer.start(guess);
     let stop = Stop {
         pc: 0x10008,
-        laps: 1,
+        laps,
         span: 100,
     };
     let traced = trace(&mut tracer, &stop, &mut Never);
@@ -52,7 +58,14 @@ fn traced(alloc: Global, from: &State) -> Result<(u64, Tracer), Memory>
 
 /// The entry of one lap.
 fn lap_from(alloc: Global, x5: u32) -> Result<Arc<Entry>, Memory> {
-    let (steps, mut tracer) = traced(alloc, &counting(alloc, x5)?)?;
+    laps_from(alloc, x5, 1)
+}
+
+/// The entry of so many laps.
+fn laps_from(alloc: Global, x5: u32, laps: u64) -> Result<Arc<Entry>, Memory>
+    requires { 1 ≤ laps }
+{
+    let (steps, mut tracer) = traced(alloc, &counting(alloc, x5)?, laps)?;
     if steps == 0 {
         return Err(Memory);
     }
@@ -68,7 +81,20 @@ fn found<R: Wait + Drop>(
 ) -> Result<(Option<u64>, u32), Memory>
     ensures { AreLater readers.old.readers readers.new.readers }
 {
-    let mut state = counting(alloc, x5)?;
+    found_in(alloc, readers, 65_536, x5, left)
+}
+
+/// The same in a memory of so many bytes.
+fn found_in<R: Wait + Drop>(
+    alloc: Global,
+    readers: &mut ShardReaders<R>,
+    size: u32,
+    x5: u32,
+    left: u64,
+) -> Result<(Option<u64>, u32), Memory>
+    ensures { AreLater readers.old.readers readers.new.readers }
+{
+    let mut state = counting_in(alloc, size, x5)?;
     if left > 100 || readers.asked() > 1_000_000 || readers.given() > 1_000_000 {
         return Err(Memory);
     }
@@ -225,6 +251,81 @@ fn bounded(rt: HostRuntime) {
             counts
         );
     }
+}
+
+/// A look-up where x5 is 0: how many bytes memory has, how many steps are left, what is found, and x5 then.
+type Look = (u32, u64, Option<u64>, u32);
+
+/// With the entries of 2 and 4 steps, of which the reader was told nothing. In another shape none matches.
+static UNTOLD: [Look; 4] = [
+    (65_536, 4, Some(4), 2),
+    (65_536, 3, Some(2), 1),
+    (65_536, 1, None, 0),
+    (65_540, 4, None, 0),
+];
+
+/// With the entries of 4 and 6 steps, of which it was told.
+static TOLD: [Look; 3] = [
+    (65_536, 6, Some(6), 3),
+    (65_536, 5, Some(4), 2),
+    (65_536, 3, None, 0),
+];
+
+fn look_all<R: Wait + Drop, Q: Abort>(
+    rt: &Q,
+    alloc: Global,
+    readers: &mut ShardReaders<R>,
+    looks: &[Look],
+) -> Result<(), Memory>
+    ensures { (w : writer_model) → IsOwnReader w readers.old.readers → IsOwnReader w readers.new.readers }
+{
+    for &(size, left, found, x5) in looks {
+        assert_eq!(rt; found_in(alloc, readers, size, 0, left)?, (found, x5));
+    }
+    Ok(())
+}
+
+/// Inserts the entries of one, two and three laps in a shard of capacity 2, and tells the reader of the last alone.
+fn play_laps<R: Wait + Drop, Q: Abort>(
+    rt: &Q,
+    alloc: Global,
+    writer: &mut ShardWriter<R>,
+    readers: &mut ShardReaders<R>,
+) -> Result<(), Memory>
+    requires { IsOwnReader writer.old readers.old.readers }
+{
+    assert_eq!(rt; writer.insert(laps_from(alloc, 0, 1)?)?, Inserted::Stored);
+    assert_eq!(rt; writer.insert(laps_from(alloc, 0, 2)?)?, Inserted::Stored);
+    look_all(rt, alloc, readers, &UNTOLD)?;
+    assert_eq!(rt; writer.insert(laps_from(alloc, 0, 3)?)?, Inserted::Stored);
+    readers.meet(writer);
+    look_all(rt, alloc, readers, &TOLD)
+}
+
+fn play_one_shard<R: Wait + Copy, Q: Abort>(
+    rt: &Q,
+    handle: R,
+    alloc: Global,
+) -> Result<(), Memory> {
+    let (mut writers, mut readers) = Cache::open(alloc, handle, 1, 2)?.split();
+    play_laps(rt, alloc, &mut writers[0], &mut readers)
+}
+
+#[test]
+fn untold_and_told(rt: HostRuntime) -> Result<(), Fail> {
+    play_one_shard(&rt, &rt, rt.alloc())?;
+    Ok(())
+}
+
+/// A reader goes on with what is stored, once the writer is gone.
+#[test]
+fn writer_gone(rt: HostRuntime) -> Result<(), Fail> {
+    let alloc = rt.alloc();
+    let (mut writers, mut readers) = Cache::open(alloc, &rt, 1, 2)?.split();
+    assert_eq!(rt; writers[0].insert(lap_from(alloc, 0)?)?, Inserted::Stored);
+    drop(writers);
+    assert_eq!(rt; found(alloc, &mut readers, 0, 2)?, (Some(2), 1));
+    Ok(())
 }
 
 /// What becomes of the entries of the rows.

@@ -1,12 +1,12 @@
-ghost use Rattle.std.specs.Prelude.{◌≡◌, ◌<◌, ◌≤◌, true, false, [], ◌∷◌, length, drop, IfOk, OnOk, OnErr};
+ghost use Rattle.std.specs.Prelude.{◌≡◌, ◌<◌, ◌≤◌, ◌++◌, true, false, [], ◌∷◌, length, drop, IfOk, OnOk, OnErr};
 ghost use Rattle.std.specs.Arc.{arc_value};
 ghost use Rattle.left_right.specs.Sides.{view};
 ghost use Rattle.asc_shard.specs.Content.{outcome_of, IsContent};
-ghost use Rattle.asc_cache.specs.ShardRule.{sight, IsAlike, IsFolded, IsNext, Published};
+ghost use Rattle.asc_model.specs.Entry.{Entry};
+ghost use Rattle.asc_cache.specs.ShardRule.{sight, is_pending, IsAlike, IsAppended, IsFolded, IsNext, Published};
 ghost use Rattle.asc_cache.specs.Cache.{IsOpened, shard_of, told_by, writer_after};
-ghost use Rattle.asc_cache.specs.declared.instance.Insertion.{Insertion};
 
-use crate::instance::{Insertion, Instance};
+use crate::instance::{Instance, Operation, Reached};
 use crate::log::Log;
 use crate::reader::{ReadHandle, ShardReader, Told};
 use crate::sight::{Copies, Logged, Opens, Publishes, Sight};
@@ -17,26 +17,43 @@ use core::mem::replace_with;
 use left_right::writer::Writer;
 use std::alloc::{AllocError, Global};
 use std::marker::Model;
-use std::sync::{Arc, Wait};
+use std::snapshot::Snapshot;
+use std::sync::{Arc, Mutex, Wait};
 
-type WriteHandle = Writer<Instance, Insertion, Sight, Logged>;
+type WriteHandle = Writer<Instance, Operation, Sight, Logged>;
 
-/// The only writer of a shard.
+/// The doubled shard of a writer that has gone. Its reader still looks into it, and frees it in the end.
+pub(crate) struct Left<R: Wait + Drop> {
+    handle: WriteHandle,
+    rt: R,
+}
+
+impl<R: Wait + Drop> Drop for Left<R> {
+    fn drop(self) {
+        let Self { handle, rt } = self;
+        drop(handle.take(&rt));
+    }
+}
+
+/// Where a writer leaves its doubled shard when it goes. The shard's reader owns it too.
+pub(crate) type Leaving<R> = Arc<Mutex<Option<Left<R>>>, Global>;
+
+/// The only writer of a shard. Once it is dropped, its reader goes on with what is stored.
 ///
-/// It keeps the runtime's handle, since its end waits for a look-up that is under way.
+/// It keeps the runtime's handle twice: the second goes with what it leaves.
 pub struct ShardWriter<R: Wait + Drop> {
     handle: WriteHandle,
     // The number of its shard in the cache.
     index: usize,
     rt: R,
+    last: R,
     log: Log,
-    // Whether an insertion was refused.
-    refused: bool,
+    leaving: Leaving<R>,
 }
 
 impl<R: Wait + Drop> Model for ShardWriter<R> {
-    ghost use Rattle.std.specs.Prelude.{◌≡◌, false, [], drop};
-    ghost use Rattle.asc_cache.specs.ShardRule.{IsFolded};
+    ghost use Rattle.std.specs.Prelude.{◌≡◌, [], drop};
+    ghost use Rattle.asc_cache.specs.ShardRule.{IsFolded, is_pending};
     ghost use Rattle.asc_cache.specs.Cache as model;
 
     ghost Value = { model.ShardWriter };
@@ -46,69 +63,81 @@ impl<R: Wait + Drop> Model for ShardWriter<R> {
       index = w.index;
       capacity = w.handle.desk.shown.value.shard.capacity;
       stored = w.handle.desk.shown.value.front.log;
-      refused = w.refused;
+      refused = is_pending (drop w.handle.behind w.handle.log.items);
     } };
 
     ghost invariant = { λ w. IsFolded w.handle.desk.shown.value
         × (w.log.whole.book ≡ w.handle.desk.shown.value.front.book)
-        × (w.refused ≡ false → (w.log.whole.log ≡ w.handle.desk.shown.value.front.log)
-        × (drop w.handle.behind w.handle.log.items ≡ [])) };
+        × (drop w.handle.behind w.handle.log.items ≡ [] → w.log.whole.log ≡ w.handle.desk.shown.value.front.log) };
 }
 
 // Publishes one insertion, which was appended.
 fn publish<R: Wait>(handle: WriteHandle, rt: &R) -> (WriteHandle, Result<(), AllocError>)
     requires folded { IsFolded handle.desk.shown.value }
-    requires next { (i : Insertion) × (drop handle.behind handle.log.items ≡ i ∷ [])
-        × IsNext handle.desk.shown.value i }
+    requires next { (e : Entry) × IsNext handle.desk.shown.value e (drop handle.behind handle.log.items) }
     ensures ok { OnOk result.1 ((drop result.0.behind result.0.log.items ≡ [])
-        × ((i : Insertion) → drop handle.behind handle.log.items ≡ i ∷ []
-        → Published handle.desk.shown.value i result.0.desk.shown.value)) }
-    ensures err { OnErr result.1 (result.0.desk.shown.value ≡ handle.desk.shown.value) }
+        × ((e : Entry) → IsNext handle.desk.shown.value e (drop handle.behind handle.log.items)
+        → Published handle.desk.shown.value e result.0.desk.shown.value)) }
+    ensures err { OnErr result.1 ((result.0.desk.shown.value ≡ handle.desk.shown.value)
+        × (drop result.0.behind result.0.log.items ≡ drop handle.behind handle.log.items)) }
 {
     handle.publish_as::<Publishes, R>(rt)
 }
 
-// Appends an insertion, and publishes it. Where memory is wanting what is shown stays.
-fn store<R: Wait>(rt: &R, handle: &mut WriteHandle, insertion: Insertion) -> Result<(), AllocError>
+// Publishes an entry that was appended, with the list of insertions up to it. Where memory is wanting what is shown
+// stays, and the entry stays pending.
+fn store<R: Wait>(
+    rt: &R,
+    handle: &mut WriteHandle,
+    reached: Reached,
+    entry: &Snapshot<asc_traj::Entry>,
+) -> Result<(), AllocError>
     requires folded { IsFolded handle.old.desk.shown.value }
-    requires next { (drop handle.old.behind handle.old.log.items ≡ []) × IsNext handle.old.desk.shown.value insertion }
+    requires appended { IsAppended entry.now.value (drop handle.old.behind handle.old.log.items) }
+    requires book { reached.front.book ≡ handle.old.desk.shown.value.front.book }
+    requires log { reached.front.log ≡ handle.old.desk.shown.value.front.log ++ entry.now.value ∷ [] }
     ensures ok { OnOk result ((drop handle.new.behind handle.new.log.items ≡ [])
-        × Published handle.old.desk.shown.value insertion handle.new.desk.shown.value) }
-    ensures err { OnErr result (handle.new.desk.shown.value ≡ handle.old.desk.shown.value) }
+        × Published handle.old.desk.shown.value entry.now.value handle.new.desk.shown.value) }
+    ensures err { OnErr result ((handle.new.desk.shown.value ≡ handle.old.desk.shown.value)
+        × (is_pending (drop handle.new.behind handle.new.log.items) ≡ true)) }
 {
-    match handle.append(insertion) {
+    let _ = entry;
+    match handle.append(Operation::Reaches(reached)) {
         Ok(()) => replace_with(handle, rt, publish),
-        Err(_insertion) => Err(AllocError),
+        Err(_reached) => Err(AllocError),
     }
 }
 
 impl<R: Wait + Drop> ShardWriter<R> {
     /// Stores an entry, unless one that is the same is held, and publishes it. Where memory is wanting nothing is
-    /// stored, and this writer answers `Memory` from then on.
+    /// stored: if it was wanting before the entry was appended, all stands as before, and the next insertion is tried. If
+    /// the publication was refused, the entry is pending, and this writer answers `Memory` from then on.
     pub fn insert(&mut self, entry: Arc<Entry, Global>) -> Result<Inserted, Memory>
         ensures outcome { IfOk result (λ i. i ≡ outcome_of (shard_of self.old).held (arc_value entry)) }
         ensures stored { IfOk result (λ i. self.new ≡ writer_after self.old i (arc_value entry)) }
         ensures refused { IfOk result (λ _. self.old.refused ≡ false) }
-        ensures memory { OnErr result (self.new ≡ record self.old { refused = true }) }
+        ensures memory { OnErr result (self.new ≡ record self.old { refused = self.new.refused }) }
+        ensures ended { self.old.refused ≡ true → self.new ≡ self.old }
     {
-        if self.refused {
+        if self.handle.has_pending_operations() {
             return Err(Memory);
         }
         if self.handle.published().shard.holds(&entry) {
             return Ok(Inserted::Known);
         }
-        self.refused = true;
         let stored = self.handle.published().stored;
-        if stored == u64::MAX || !self.log.append(&entry) {
+        let value = Snapshot::of(&*entry);
+        if stored == u64::MAX || self.handle.append(Operation::Inserts(entry)).is_err() {
             return Err(Memory);
         }
-        let insertion = Insertion {
-            entry,
+        if !self.log.append(&value) {
+            return Err(Memory);
+        }
+        let reached = Reached {
             stored: stored + 1,
             front: self.log.whole.again(),
         };
-        store(&self.rt, &mut self.handle, insertion)?;
-        self.refused = false;
+        store(&self.rt, &mut self.handle, reached, &value)?;
         Ok(Inserted::Stored)
     }
 
@@ -140,7 +169,7 @@ impl<R: Wait + Drop> ShardWriter<R> {
         self.handle.published().shard.truth();
     }
 
-    /// Frees both instances of the shard. It waits for a look-up that is under way.
+    /// Ends the writer, as dropping it does. Both instances of the shard are freed once its reader is dropped too.
     pub fn end(self) {}
 }
 
@@ -150,10 +179,12 @@ impl<R: Wait + Drop> Drop for ShardWriter<R> {
             handle,
             index: _,
             rt,
+            last,
             log: _log,
-            refused: _,
+            leaving,
         } = self;
-        drop(handle.take(&rt));
+        let mut left = leaving.lock(&rt);
+        *left = Some(Left { handle, rt: last });
     }
 }
 
@@ -180,16 +211,18 @@ fn begin<R: Wait>(rt: &R, handle: WriteHandle) -> (WriteHandle, Result<(), Alloc
     handle.publish_as::<Opens, R>(rt)
 }
 
-/// An empty shard, as its writer and its reader.
-pub(crate) fn open_shard<R: Wait + Drop>(
+/// An empty shard, as its writer and its reader, and where the writer leaves it.
+pub(crate) fn open_shard<R: Wait + Copy>(
     alloc: Global,
     rt: R,
     index: usize,
     capacity: usize,
-) -> Result<(ShardWriter<R>, ShardReader), Memory>
+) -> Result<(ShardWriter<R>, ShardReader, Leaving<R>), Memory>
     requires { (0 < capacity) × (capacity ≤ 4096) }
     ensures { IfOk result (λ r. IsOpened capacity index r.0 r.1) }
 {
+    let leaving = Arc::new(alloc, Mutex::new(None))?;
+    let left = Arc::try_clone(&leaving)?;
     let log = Log::new();
     let first = empty(alloc, capacity, &log)?;
     let second = empty(alloc, capacity, &log)?;
@@ -203,12 +236,13 @@ pub(crate) fn open_shard<R: Wait + Drop>(
         handle,
         index,
         rt,
+        last: rt,
         log,
-        refused: false,
+        leaving,
     };
     let front = writer.log.whole.again();
     let mut handle: ReadHandle = writer.handle.factory().reader()?;
     handle.learn::<Copies>(writer.handle.tell::<Copies>());
     let reader = ShardReader::of(handle, front, capacity);
-    Ok((writer, reader))
+    Ok((writer, reader, left))
 }

@@ -1,5 +1,5 @@
 -- What serving a call has to show, for each request.
-use Rattle.std.proofs.Common.{◌≡◌, ℕ, ◌+◌, ◌-◌, ◌%◌, ◌^◌, ◌<◌, ◌≤◌, ◌⊎◌, Bool, false, cond, List, [], ◌++◌, length, take, drop, Option, Some, None, bit_and, refl, sym, ap, ◌∙◌, arith, subst, length-take}
+use Rattle.std.proofs.Common.{◌≡◌, ℕ, ◌+◌, ◌-◌, ◌%◌, ◌^◌, ◌<◌, ◌≤◌, ◌⊎◌, Bool, false, cond, List, [], ◌++◌, length, take, drop, Option, Some, None, bit_and, refl, sym, ap, ◌∙◌, arith, subst, length-take, length-drop}
 use Rattle.std.proofs.lemmas.Nat.{and_mask}
 use Rattle.std.proofs.lemmas.List.{take-append-drop}
 use Rattle.std.proofs.lemmas.Bool.{false≢true}
@@ -177,6 +177,7 @@ module _ (s : State) (calls : CallState) (left : Option (List ℕ)) (out err : G
           brk = calls.brk;
           call_is = read-taken calls.low calls.high s calls.brk (r.taken ++ rest) file is_file asked early
               ∙ ap (result_of_read s calls.brk (register (view_of s) 11)) (take-part r.taken rest (register (view_of s) 12) within);
+          not_all = λ other. absurd (other refl);
         };
         leaves = record {
           buffer = register (view_of s) 11;
@@ -222,8 +223,9 @@ module _ (s : State) (calls : CallState) (left : Option (List ℕ)) (out err : G
   -- what a write whose sink fails was to do
   Serves-part : (left_of : List ℕ) (count : ℕ) (serves : Bool) (device : Device) → register (view_of s) 17 ≡ 64 → serves ≡ ((file == 1) || (file == 2))
       → None ≡ early_answer s.shape serves (register (view_of s) 11) (register (view_of s) 12) → (cond (file == 1) Out Err) ≡ device
+      → count < length (memory_at s (register (view_of s) 11) (register (view_of s) 12))
       → IsCutShort device (io_of device (take count (memory_at s (register (view_of s) 11) (register (view_of s) 12)))) (guest_call calls.low calls.high s calls.brk left_of)
-  Serves-part left_of count serves device asked serves_is early is_device =
+  Serves-part left_of count serves device asked serves_is early is_device few =
       let bytes = memory_at s (register (view_of s) 11) (register (view_of s) 12) in
       record {
         first = take count bytes;
@@ -234,6 +236,7 @@ module _ (s : State) (calls : CallState) (left : Option (List ℕ)) (out err : G
         call_is = write-put calls.low calls.high s calls.brk left_of file is_file asked serves serves_is early
             ∙ ap (λ d. Went (state_after_answer s (register (view_of s) 12)) calls.brk (io_of d bytes)) is_device
             ∙ ap (λ b. Went (state_after_answer s (register (view_of s) 12)) calls.brk (io_of device b)) (sym (take-append-drop count bytes));
+        not_all = λ _. omega (arith, few, length-drop count bytes);
       }
 
   -- a write to out whose sink fails
@@ -245,7 +248,7 @@ module _ (s : State) (calls : CallState) (left : Option (List ℕ)) (out err : G
       record {
         io = io_of Out (take part.count bytes);
         does = DoesIo-out left out after err n n before later (take part.count piece) (take part.count bytes) (ap (λ l. take part.count l) is_piece) part.given;
-        call = λ rest _. Serves-part rest part.count serves Out asked serves_is early is_device;
+        call = λ rest _. Serves-part rest part.count serves Out asked serves_is early is_device (omega (arith, part.fewer, ap length is_piece));
         leaves = record {
           buffer = register (view_of s) 11;
           n = register (view_of s) 12;
@@ -272,7 +275,7 @@ module _ (s : State) (calls : CallState) (left : Option (List ℕ)) (out err : G
       record {
         io = io_of Err (take part.count bytes);
         does = DoesIo-err left out err after n n before later (take part.count piece) (take part.count bytes) (ap (λ l. take part.count l) is_piece) part.given;
-        call = λ rest _. Serves-part rest part.count serves Err asked serves_is early is_device;
+        call = λ rest _. Serves-part rest part.count serves Err asked serves_is early is_device (omega (arith, part.fewer, ap length is_piece));
         leaves = record {
           buffer = register (view_of s) 11;
           n = register (view_of s) 12;

@@ -1,5 +1,5 @@
 -- What serving a call does to the world.
-use Rattle.std.specs.Prelude.{◌≡◌, ℕ, ◌+◌, ◌<◌, IsTrue, List, [], ◌++◌, length, take, Option, Some, None}
+use Rattle.std.specs.Prelude.{◌≡◌, ◌≢◌, ℕ, ◌+◌, ◌<◌, IsTrue, List, [], ◌++◌, length, take, Option, Some, None}
 use Rattle.asc_model.specs.State.{State}
 use Rattle.asc_model.specs.Machine.{Memory}
 use Rattle.asc_shape.specs.State.{state_after}
@@ -13,7 +13,7 @@ abbrev pub call_of : World → List ℕ → CallResult
 call_of w left = guest_call w.calls.low w.calls.high w.state w.calls.brk left
 
 -- A device failed before a call was done: the call was to take bytes from that device or to put bytes to it, and did so
--- with the first of them alone.
+-- with the first of them alone. Of bytes that it was to put some were left.
 pub record IsCutShort (device : Device) (done : Io) (call : CallResult) : Type 0 where
   pub first : List ℕ
   pub rest : List ℕ
@@ -21,6 +21,7 @@ pub record IsCutShort (device : Device) (done : Io) (call : CallResult) : Type 0
   pub after : State
   pub brk : ℕ
   pub call_is : call ≡ Went after brk (io_of device (first ++ rest))
+  pub not_all : device ≢ Input → 0 < length rest
 
 -- what an answer says of the call, of the world after it, and of what was taken and put
 abbrev pub IsAnswer : Served → World → Io → CallResult → Type 0

@@ -1,47 +1,59 @@
 //! The program: the words of its command line are run over the files and the standard streams of the system.
 #![tactic(auto)]
 
-ghost use Rattle.std.specs.Prelude.{◌≡◌, ◌≢◌, ◌⊎◌, ◌<◌, map, IfErr};
+ghost use Rattle.std.specs.Prelude.{◌≡◌, ◌≢◌, ◌⊎◌, ◌<◌, map, IfOk, IfErr, IsOkAnd};
 ghost use Rattle.std.specs.Process.{exit_status};
 ghost use Rattle.std.specs.String.{string_bytes};
+ghost use Rattle.std.specs.Vec.Iter.{into_iter_items};
 ghost use Rattle.asc_calls.specs.World.{outside, faults};
-ghost use Rattle.asc_top.specs.Answer.{code_of, outcome_of};
+ghost use Rattle.asc_top.specs.Answer.{outcome_of};
 ghost use Rattle.asc_top.specs.Answered.{devices};
 ghost use Rattle.asc_top.specs.Reported.{report_with};
-ghost use Rattle.asc_cli.specs.Status.{IsStatus, IsStatusOf, IsStatusOver};
+ghost use Rattle.asc_cli.specs.Status.{IsRefusal, IsStatus, IsStatusFor, IsStatusOf, IsStatusOver};
 
 use asc_shape::{Gate, Open, Sink, Source, Steps, Store};
 use asc_streams::{FileStore, StreamSink, StreamSource};
 use asc_top::{Answer, Bad, Outcome, reported, top};
 use std::alloc::Global;
-use std::env;
+use std::env::Args;
 use std::io::ErrorKind;
 use std::marker::Brand;
 use std::process::ExitCode;
 use std::sync::Wait;
 use std::sync::ledger::{Blank, Ledger};
 use std::thread::Threads;
+use std::{env, io};
 
 fn main(rt: HostRuntime) -> ExitCode {
-    program(&rt, &rt)
+    program(&rt, &rt, env::args(&rt))
 }
 
-/// Runs the command line over the system, and gives the exit status. Its threads come from a handle of their own.
-fn program<T: Threads + Wait + Sync + Copy + Drop + Send>(rt: &HostRuntime, threads: &T) -> ExitCode
-    ensures { (answer : Answer) × (exit_status result ≡ code_of answer) }
+/// Runs the words that the system gave, or refuses them, and gives the exit status. Its threads come from a handle of
+/// their own.
+fn program<T: Threads + Wait + Sync + Copy + Drop + Send>(
+    rt: &HostRuntime,
+    threads: &T,
+    given: io::Result<Args>,
+) -> ExitCode
+    ensures { IsStatusFor given (exit_status result) }
 {
-    match words(rt) {
+    match words(rt.alloc(), given) {
         Ok(words) => run::<_, Brand>(rt, threads, &words, Blank::new(1)),
         Err(refusal) => refuse(refusal, &mut StreamSink::new(rt.stderr())),
     }
 }
 
-/// The words of the command line. Where they are not all text, they are no command's.
-fn words(rt: &HostRuntime) -> Result<Vec<String>, Answer>
-    ensures { IfErr result (λ answer. (answer ≡ Answer.Memory) ⊎ (answer ≡ Answer.Usage Bad.Words)) }
+/// The words of the command line, as the system gave them. Where they are not all text, they are no command's.
+fn words(alloc: Global, given: io::Result<Args>) -> Result<Vec<String>, Answer>
+    ensures given { IfOk result (λ words. IsOkAnd given (λ args. words.items ≡ into_iter_items args)) }
+    ensures refused { IfErr result (λ refusal. IsRefusal given refusal) }
+    ensures either { IfErr result (λ refusal. (refusal ≡ Answer.Memory) ⊎ (refusal ≡ Answer.Usage Bad.Words)) }
 {
-    match env::args(rt) {
-        Ok(words) => words.collect(rt.alloc()).map_err(|_| Answer::Memory),
+    match given {
+        Ok(words) => match words.collect(alloc) {
+            Ok(words) => Ok(words),
+            Err(_) => Err(Answer::Memory),
+        },
         Err(error) if error.kind() == ErrorKind::OutOfMemory => Err(Answer::Memory),
         Err(_) => Err(Answer::Usage(Bad::Words)),
     }
@@ -56,7 +68,8 @@ fn refuse<R: Sink>(refusal: Answer, report: &mut R) -> ExitCode
     ExitCode::from(reported(Outcome::of(refusal), report).code())
 }
 
-/// Runs the words over the system, and gives the exit status. The ledger is the one that counts the guest's steps.
+/// Runs the words over the system's files and streams, of which nothing is told, and gives the exit status. The ledger is
+/// the one that counts the guest's steps.
 fn run<T: Threads + Wait + Sync + Copy + Drop + Send, L: Ledger>(
     rt: &HostRuntime,
     threads: &T,

@@ -51,6 +51,13 @@ filter-none g place (suc n) none =
     cond-false (g place) (place ∷ filter g (places_from (place + 1) n)) (filter g (places_from (place + 1) n)) (none place (omega arith) (omega arith))
     ∙ filter-none g (place + 1) n (λ p least most. none p (omega arith) (omega arith))
 
+-- and one that passes at each passes all
+filter-all : (g : ℕ → Bool) (place n : ℕ) → ((p : ℕ) → place ≤ p → p < place + n → g p ≡ true) → filter g (places_from place n) ≡ places_from place n
+filter-all g place zero all = refl
+filter-all g place (suc n) all =
+    cond-true (g place) (place ∷ filter g (places_from (place + 1) n)) (filter g (places_from (place + 1) n)) (all place (omega arith) (omega arith))
+    ∙ ap (λ (list : List ℕ). place ∷ list) (filter-all g (place + 1) n (λ p least most. all p (omega arith) (omega arith)))
+
 pub filter-parts : (g : ℕ → Bool) (m n place : ℕ) → filter g (places_from place (m + n)) ≡ filter g (places_from place m) ++ filter g (places_from (place + m) n)
 filter-parts g m n place = ap (filter g) (places_from-append m n place) ∙ filter-append g (places_from place m) (places_from (place + m) n)
 
@@ -394,6 +401,43 @@ pub rest-more : (block rest at skip : ℕ) → rest ≡ block / 2 ^ at → rest 
 rest-more block rest at skip is =
     ap (λ (n : ℕ). n / 2 ^ skip / 2) is ∙ ap (λ (n : ℕ). n / 2) (div-div-eq-div-mul block (2 ^ at) (2 ^ skip) ∙ ap (λ (d : ℕ). block / d) (sym (pow-add 2 at skip)))
     ∙ div-div-eq-div-mul block (2 ^ (at + skip)) (2 ^ 1) ∙ ap (λ (d : ℕ). block / d) (sym (pow-add 2 (at + skip) 1))
+
+low_bits : (rest k : ℕ) → rest % 256 ≡ 255 → k < 8 → bit_at rest k ≡ 1
+low_bits rest zero full lt = omega (arith, full)
+low_bits rest (suc zero) full lt = omega (arith, full)
+low_bits rest (suc (suc zero)) full lt = omega (arith, full)
+low_bits rest (suc (suc (suc zero))) full lt = omega (arith, full)
+low_bits rest (suc (suc (suc (suc zero)))) full lt = omega (arith, full)
+low_bits rest (suc (suc (suc (suc (suc zero))))) full lt = omega (arith, full)
+low_bits rest (suc (suc (suc (suc (suc (suc zero)))))) full lt = omega (arith, full)
+low_bits rest (suc (suc (suc (suc (suc (suc (suc zero))))))) full lt = omega (arith, full)
+low_bits rest (suc (suc (suc (suc (suc (suc (suc (suc k)))))))) full lt = absurd (omega (arith, lt))
+
+eight_bits : (block rest at k : ℕ) → rest ≡ block / 2 ^ at → rest % 256 ≡ 255 → k < 8 → bit_at block (at + k) ≡ 1
+eight_bits block rest at k is full lt = sym (bit_shift block at k) ∙ ap (λ (n : ℕ). bit_at n k) (sym is) ∙ low_bits rest k full lt
+
+-- eight bits in a row
+pub eight_more : (block from rest at : ℕ) (old words new : List ℕ) → block < 2 ^ 64 → rest ≡ block / 2 ^ at → rest % 256 ≡ 255 → words ≡ old ++ filter (has_bit block from) (places_from from at)
+    → new ≡ words ++ places_from (from + at) 8 → new ≡ old ++ filter (has_bit block from) (places_from from (at + 8))
+eight_more block from rest at old words new low is full before pushed =
+    let has = has_bit block from in
+    let all : filter has (places_from (from + at) 8) ≡ places_from (from + at) 8 =
+    filter-all has (from + at) 8 (λ w least most.
+    let bit : w - from ≡ at + (w - from - at) = omega (arith, least) in
+    bit_true (bit_at block (w - from)) (ap (bit_at block) bit ∙ eight_bits block rest at (w - from - at) is full (omega (arith, least, most)))) in
+    pushed ∙ ap (λ (list : List ℕ). list ++ places_from (from + at) 8) before ∙ append_assoc old (filter has (places_from from at)) (places_from (from + at) 8)
+    ∙ ap (λ (list : List ℕ). old ++ list) (ap (λ (list : List ℕ). filter has (places_from from at) ++ list) (sym all) ∙ sym (filter-parts has at 8 from))
+
+pub eight_within : (block rest at : ℕ) → block < 2 ^ 64 → rest ≡ block / 2 ^ at → rest % 256 ≡ 255 → at + 8 ≤ 64
+eight_within block rest at low is full =
+    elim (cases_lt (at + 7) 64) [
+      | inl lt ↦ omega (arith, lt)
+      | inr ge ↦ absurd (let none = bit_at_above block 64 (at + 7) low ge in let some = eight_bits block rest at 7 is full (omega arith) in omega (arith, none, some))
+    ]
+
+pub eight_less : (block rest at : ℕ) → rest ≡ block / 2 ^ at → rest / 256 ≡ block / 2 ^ (at + 8)
+eight_less block rest at is =
+    ap (λ (n : ℕ). n / 256) is ∙ div-div-eq-div-mul block (2 ^ at) (2 ^ 8) ∙ ap (λ (d : ℕ). block / d) (sym (pow-add 2 at 8))
 
 -- ---- all of it
 

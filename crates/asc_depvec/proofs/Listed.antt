@@ -22,10 +22,14 @@ room_left t now more is inv room =
     let used : length (places_of (take t.count t.items.items)) + more ≤ length t.items.items = subst (λ (l : Listing). length (places_of l.items) + more ≤ l.cap) (sym is) room in
     omega (arith, used, fewer_items (take t.count t.items.items), length-take-le t.count t.items.items inv.count)
 
+-- how many places more may be listed
+pub left_told : (t : Inside) (now : Listing) → listing_of t ≡ now → IsTouched t → t.left + length (places_of now.items) ≡ now.cap
+left_told t now is inv = subst (λ (l : Listing). t.left + length (places_of l.items) ≡ l.cap) is inv.left
+
 -- an item more
 pub IsTouched-push : (t : Inside) (now : Listing) (changed new places : List ℕ) (item : ℕ) → listing_of t ≡ now → IsTouched t → length (places_of now.items) + length places ≤ now.cap → 1 ≤ length places
     → changed ≡ t.items.items → length new ≡ length changed → take (t.count + 1) new ≡ take t.count changed ++ item ∷ [] → places_of_item item ≡ places
-    → IsTouched (record { items = with_items t.items new; count = t.count + 1; places = t.places + length places })
+    → IsTouched (record { items = with_items t.items new; count = t.count + 1; left = t.left - length places })
 IsTouched-push t now changed new places item is inv room some is_changed size put is_item =
     let kept : (with_items t.items new).items ≡ new = with_items_is t.items new (size ∙ ap (λ (l : List ℕ). length l) is_changed ∙ sym t.items.ok.0) in
     let items = t.items.items in
@@ -37,8 +41,7 @@ IsTouched-push t now changed new places item is inv room some is_changed size pu
     let used : length (places_of (take t.count items)) + length places ≤ length items = subst (λ (l : Listing). length (places_of l.items) + length places ≤ l.cap) (sym is) room in
     record {
       count = omega (arith, same, left, some);
-      places = omega (arith, inv.places, ap (λ (l : List ℕ). length l) listed, length-append (places_of (take t.count items)) places);
-      room = omega (arith, inv.places, used, same);
+      left = omega (arith, inv.left, used, same, ap (λ (l : List ℕ). length l) listed, length-append (places_of (take t.count items)) places);
     }
 
 -- ---- the last place
@@ -85,14 +88,13 @@ cut_place t now item is inv some read even =
     ∙ places_of-more (take (t.count - 1) t.items.items) (item / 2 ∷ []) item (item_place item even)
 
 pub IsTouched-cut : (t : Inside) (now : Listing) (item : ℕ) → listing_of t ≡ now → IsTouched t → 0 < length (places_of now.items) → item ≡ slice_index_or t.items.items (t.count - 1) item
-    → item % 2 ≡ 0 → IsTouched (record { items = t.items; count = t.count - 1; places = t.places - 1 })
+    → item % 2 ≡ 0 → IsTouched (record { items = t.items; count = t.count - 1; left = t.left + 1 })
 IsTouched-cut t now item is inv some read even =
     let cut = cut_place t now item is inv some read even in
-    let used : length (places_of now.items) ≡ t.places = sym (inv.places ∙ ap (λ (l : Listing). length (places_of l.items)) is) in
+    let used : length (places_of (take t.count t.items.items)) ≡ length (places_of now.items) = ap (λ (l : Listing). length (places_of l.items)) is in
     record {
       count = omega (arith, inv.count);
-      places = omega (arith, used, ap (λ (l : List ℕ). length l) cut, length-append (places_of (take (t.count - 1) t.items.items)) (item / 2 ∷ []));
-      room = omega (arith, inv.room);
+      left = omega (arith, inv.left, used, ap (λ (l : List ℕ). length l) cut, length-append (places_of (take (t.count - 1) t.items.items)) (item / 2 ∷ []));
     }
 
 -- a list in which the last item, a word, has become its first three places
@@ -122,8 +124,7 @@ room_three t now item is inv some read odd =
     omega (
       arith,
       one,
-      inv.places,
-      inv.room,
+      inv.left,
       ap (λ (l : List ℕ). length l) parts,
       length-append (places_of (take (t.count - 1) items)) (places_from (item / 2) 4),
       fewer_items (take (t.count - 1) items),
@@ -133,16 +134,15 @@ room_three t now item is inv some read odd =
 pub IsTouched-word : (t : Inside) (now : Listing) (changed new : List ℕ) (item : ℕ) → listing_of t ≡ now → IsTouched t → 0 < length (places_of now.items)
     → item ≡ slice_index_or t.items.items (t.count - 1) item → item % 2 ≡ 1 → changed ≡ t.items.items → length new ≡ length changed
     → take (t.count - 1 + 3) new ≡ take (t.count - 1) changed ++ 2 * (item / 2) ∷ (2 * (item / 2 + 1)) ∷ (2 * (item / 2 + 2)) ∷ []
-    → IsTouched (record { items = with_items t.items new; count = t.count + 2; places = t.places - 1 })
+    → IsTouched (record { items = with_items t.items new; count = t.count + 2; left = t.left + 1 })
 IsTouched-word t now changed new item is inv some read odd is_changed size put =
     let same : length (with_items t.items new).items ≡ length t.items.items =
     ap (λ (l : List ℕ). length l) (with_items_is t.items new (size ∙ ap (λ (l : List ℕ). length l) is_changed ∙ sym t.items.ok.0)) ∙ size ∙ ap (λ (l : List ℕ). length l) is_changed in
     let cut = cut_word t now changed new item is inv some read odd is_changed size put in
-    let used : length (places_of now.items) ≡ t.places = sym (inv.places ∙ ap (λ (l : Listing). length (places_of l.items)) is) in
+    let used : length (places_of (take t.count t.items.items)) ≡ length (places_of now.items) = ap (λ (l : Listing). length (places_of l.items)) is in
     record {
       count = omega (arith, same, room_three t now item is inv some read odd);
-      places = omega (arith, used, ap (λ (l : List ℕ). length l) cut, length-append (places_of (take (t.count + 2) (with_items t.items new).items)) ((item / 2 + 3) ∷ []));
-      room = omega (arith, inv.room, same);
+      left = omega (arith, inv.left, used, same, ap (λ (l : List ℕ). length l) cut, length-append (places_of (take (t.count + 2) (with_items t.items new).items)) ((item / 2 + 3) ∷ []));
     }
 
 -- three items put one after another

@@ -55,7 +55,7 @@ pub record IsTracer (t : Inside) : Type 0 where
   pub start : IsState t.start
   pub size : length t.bytes.items ≡ length_of t.shape
   pub room : length (places_of t.touched.items) ≤ t.cap
-  pub filled : t.cap ≤ t.touched.cap
+  pub filled : t.touched.cap ≡ t.cap
   pub places : FitPlaces (length_of t.shape)
       (Told 0 (statuses_of t.marks.items) (noted t.start.bytes (places_of t.touched.items)))
   pub kept : Keeps t.start.bytes t.bytes.items (statuses_of t.marks.items)

@@ -45,7 +45,7 @@ fn set_item(blocks: &mut [u64], used: &mut Vec<u32>, item: u32)
 {
     let place = item / 2;
     set_word(blocks, used, place / 4);
-    if item % 2 == 1 && place % 4 != 0 {
+    if place % 4 != 0 && item % 2 == 1 {
         set_word(blocks, used, place / 4 + 1);
     }
 }
@@ -107,11 +107,31 @@ fn push_words(block: u64, from: u32, words: &mut Vec<u32>)
     let mut rest = block;
     let mut at = 0;
     while rest != 0 {
-        let skip = rest.trailing_zeros();
-        at += skip;
-        words.push_reserved(from + at);
-        rest = (rest >> skip) >> 1;
-        at += 1;
+        if rest % 256 == 255 {
+            push_eight(words, from + at);
+            rest /= 256;
+            at += 8;
+        } else {
+            let skip = rest.trailing_zeros();
+            at += skip;
+            words.push_reserved(from + at);
+            rest = (rest >> skip) >> 1;
+            at += 1;
+        }
+    }
+}
+
+// Puts eight words in a row behind others.
+#[inline]
+fn push_eight(words: &mut Vec<u32>, from: u32)
+    requires low { from + 8 ≤ 2 ^ 32 }
+    requires room { vec_len words.old + 8 ≤ vec_capacity words.old }
+    ensures words { words.new.items ≡ words.old.items ++ places_from from 8 }
+    ensures len { vec_len words.new ≡ vec_len words.old + 8 }
+    ensures capacity { vec_capacity words.new ≡ vec_capacity words.old }
+{
+    for k in 0..8 {
+        words.push_reserved(from + k);
     }
 }
 

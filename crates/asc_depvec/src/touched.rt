@@ -14,8 +14,8 @@ pub(crate) struct Touched {
     items: Vec<u32>,
     // How many of `items` are in use.
     count: usize,
-    // How many places they have.
-    places: usize,
+    // How many places more may be listed.
+    left: usize,
 }
 
 impl Model for Touched {
@@ -37,7 +37,7 @@ impl Touched {
         Ok(Touched {
             items: vec![in alloc; 0; cap]?,
             count: 0,
-            places: 0,
+            left: cap,
         })
     }
 
@@ -46,7 +46,15 @@ impl Touched {
     pub(crate) fn len(&self) -> usize
         ensures { result ≡ length (places_of self.now.items) }
     {
-        self.places
+        self.items.len() - self.left
+    }
+
+    /// How many places more may be listed.
+    #[inline]
+    pub(crate) fn room(&self) -> usize
+        ensures { result ≡ self.now.cap - length (places_of self.now.items) }
+    {
+        self.left
     }
 
     /// All items.
@@ -67,7 +75,7 @@ impl Touched {
     {
         put_item(&mut self.items, self.count, 2 * place);
         self.count += 1;
-        self.places += 1;
+        self.left -= 1;
     }
 
     /// Lists the four places of a word.
@@ -80,7 +88,7 @@ impl Touched {
     {
         put_item(&mut self.items, self.count, 2 * place + 1);
         self.count += 1;
-        self.places += 4;
+        self.left -= 4;
     }
 
     /// Takes the last place off the list, and answers it.
@@ -93,7 +101,7 @@ impl Touched {
         let last = self.count - 1;
         let item = self.items[last];
         let place = item / 2;
-        self.places -= 1;
+        self.left += 1;
         if item % 2 == 1 {
             put_three(&mut self.items, last, place);
             self.count += 2;
@@ -111,7 +119,7 @@ impl Touched {
         ensures cap { self.new.cap ≡ self.old.cap }
     {
         self.count = 0;
-        self.places = 0;
+        self.left = self.items.len();
     }
 }
 

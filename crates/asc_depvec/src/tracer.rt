@@ -189,10 +189,10 @@ impl Tracer {
         let _ = Bytes::shape(self);
         if have_mark(&self.marks, place, READ) {
             Some(Status::Read)
-        } else if have_mark(&self.marks, place, READ_WRITTEN) {
-            Some(Status::ReadWritten)
         } else if have_mark(&self.marks, place, WRITTEN) {
             Some(Status::Written)
+        } else if have_mark(&self.marks, place, READ_WRITTEN) {
+            Some(Status::ReadWritten)
         } else {
             self.one_status(place)
         }
@@ -261,7 +261,7 @@ impl Tracer {
     pub fn room(&self) -> usize
         ensures { result ≡ room_of (face_of self.now).marks }
     {
-        self.cap - self.touched.len()
+        self.touched.room()
     }
 
     /// How many places are touched, for `undo`. A caller's proof learns from it what holds of every tracer.

@@ -1,5 +1,5 @@
 -- Each step at the queue keeps its rule.
-use Rattle.std.proofs.Common.{◌≡◌, ◌≢◌, ℕ, Bool, zero, suc, ◌+◌, ◌<◌, ◌≤◌, true, false, true≢false, [], ◌∷◌, ◌++◌, List, length, filter, cond, set, eqb, ◌||◌, sym, refl, ap, ◌∙◌, subst, ⊎_elim, arith, eq-eqb, ne_eqb, append_assoc, append-nil, length-append}
+use Rattle.std.proofs.Common.{◌≡◌, ◌≢◌, ℕ, Bool, zero, suc, ◌+◌, ◌^◌, ◌<◌, ◌≤◌, true, false, true≢false, [], ◌∷◌, ◌++◌, List, length, filter, cond, set, eqb, ◌||◌, sym, refl, ap, ◌∙◌, subst, ⊎_elim, arith, eq-eqb, ne_eqb, append_assoc, append-nil, length-append}
 use mathlib.Core.Option.{some, some-ne-none, some-injective}
 use lib.ListN.{get_elem?}
 use Rattle.std.proofs.lemmas.Bool.{eqb-true, cases_eq}
@@ -38,6 +38,7 @@ begins = record {
   opened = 1;
   owner = λ k. 0;
   order = refl;
+  most = omega arith;
   numbered = tt;
   owned = tt;
   parts = omega arith;
@@ -45,8 +46,8 @@ begins = record {
 }
 
 -- a push lands
-pub pushes : (n pass : ℕ) (v : Hand) (x : Job) → v.gives ≡ true → x.ticket ≡ length v.pushed → Pushes JobRule n pass v x (λ w. w ≡ pushed_by v x)
-pushes n pass v x gives ticket items views room h at =
+pub pushes : (n pass : ℕ) (v : Hand) (x : Job) → v.gives ≡ true → x.ticket ≡ length v.pushed → length v.pushed < 2 ^ 61 → Pushes JobRule n pass v x (λ w. w ≡ pushed_by v x)
+pushes n pass v x gives ticket few items views room h at =
     let w = pushed_by v x in
     let fit = h.known pass v at in
     let mine = fit.pushed.own gives in
@@ -60,6 +61,7 @@ pushes n pass v x gives ticket items views room h at =
         opened = h.opened;
         owner = h.owner;
         order = ap (λ l. l ++ x ∷ []) h.order ∙ append_assoc h.taken items (x ∷ []);
+        most = omega (arith, count, few, length-append h.jobs (x ∷ []));
         numbered = numbered_more 0 h.jobs x h.numbered (omega (arith, count, ticket));
         owned = rw (length-set {A = Hand}) h.owned;
         parts = omega (arith, parts_set views pass v w at, h.parts);
@@ -114,7 +116,7 @@ taken_mine owner pass front x old =
     (each (λ y. y.ticket ≡ x.ticket → ⊥) (λ y. eqb (f y.ticket) pass ≡ eqb (owner y.ticket) pass) (λ y k. ap (λ n. eqb n pass) (took_other owner x.ticket pass y.ticket k)) front old))
 
 -- a pop takes the job at the front
-pub pops : (pass : ℕ) (v : Hand) → 0 < v.parts → Pops JobRule pass v (λ x w. w ≡ popped_by v x)
+pub pops : (pass : ℕ) (v : Hand) → 0 < v.parts → Pops JobRule pass v (λ x w. (w ≡ popped_by v x) × (x.ticket < 2 ^ 61))
 pops pass v part x items views h at =
     let w = popped_by v x in
     let fit = h.known pass v at in
@@ -124,6 +126,7 @@ pops pass v part x items views h at =
     let next = numbered_next 0 h.taken x items numbered in
     let old : Each (λ y. y.ticket ≡ x.ticket → ⊥) h.taken =
     each (λ y. (0 ≤ y.ticket) × (y.ticket < 0 + length h.taken)) (λ y. y.ticket ≡ x.ticket → ⊥) (λ y k e. omega (arith, k.1, e, next)) h.taken (numbered_range 0 h.taken (numbered_front 0 h.taken (x ∷ items) numbered)) in
+    let small_ticket : x.ticket < 2 ^ 61 = omega (arith, next, h.most, ap (length {A = Job}) h.order, length-append h.taken (x ∷ items)) in
     let small = within views pass v at in (
       w,
       record {
@@ -133,6 +136,7 @@ pops pass v part x items views h at =
         opened = h.opened;
         owner = owner;
         order = h.order ∙ sym (append_assoc h.taken (x ∷ []) items);
+        most = h.most;
         numbered = h.numbered;
         owned = rw (length-set {A = Hand})
             (owned_more (length views) owner h.taken x
@@ -143,7 +147,7 @@ pops pass v part x items views h at =
             (record { pushed = fit.pushed; popped = ap (λ l. l ++ x ∷ []) fit.popped ∙ sym (taken_mine h.owner pass h.taken x old); idle = λ none. absurd (omega (arith, none, part)) })
             (λ j u other there. let o = h.known j u there in record { pushed = o.pushed; popped = o.popped ∙ sym (taken_other h.owner pass j h.taken x old other); idle = o.idle });
       },
-      refl,
+      (refl, small_ticket),
     )
 
 -- a pop finds the queue empty: where a pass has all parts, what it popped and what is left is what was pushed
@@ -185,6 +189,7 @@ forks pass v gives new items views h at =
       opened = more;
       owner = h.owner;
       order = h.order;
+      most = h.most;
       numbered = h.numbered;
       owned = subst (AreOwned (length (vs ++ new_hand ∷ [])) h.owner) (sym empty) tt;
       parts = omega (arith, parts_more vs new_hand, parts_set views pass v l at, h.parts);
@@ -266,6 +271,7 @@ merges pass v other w part items views h at apart at' =
       opened = h.opened;
       owner = owner;
       order = h.order;
+      most = h.most;
       numbered = h.numbered;
       owned = rw (length-set {A = Hand}, length-set {A = Hand})
           (owned_by (length views) (length views) h.owner owner h.taken h.owned (always (λ (y : Job). h.owner y.ticket < length views → owner y.ticket < length views) (λ y k. pick (h.owner y.ticket) other pass (λ n. n < length views) (λ is. within views pass v at) (λ isnt. k)) h.taken));

@@ -1,5 +1,5 @@
 -- The rule of the queue, at every moment.
-use Rattle.std.specs.Prelude.{◌≡◌, ◌==◌, ℕ, ◌+◌, ◌<◌, Bool, true, false, List, [], ◌∷◌, ◌++◌, length, filter}
+use Rattle.std.specs.Prelude.{◌≡◌, ◌==◌, ℕ, ◌+◌, ◌^◌, ◌<◌, ◌≤◌, Bool, true, false, List, [], ◌∷◌, ◌++◌, length, filter}
 use mathlib.Core.Option.{some}
 use lib.ListN.{get_elem?}
 use Rattle.asc_jobs.specs.declared.job.Job.{Job}
@@ -24,7 +24,8 @@ abbrev pub all_parts : List Hand → ℕ
 all_parts [] = 0
 all_parts (v ∷ vs) = v.parts + all_parts vs
 
--- The giver's pass, and no other, knows which jobs were pushed and in how many parts the queue was opened.
+-- There is one giver: its pass, and no other, gives. It knows which jobs were pushed and in how many parts the queue was
+-- opened; every other knows nothing of these.
 pub record KnowsPushed (giver : ℕ) (jobs : List Job) (opened : ℕ) (pass : ℕ) (gives : Bool) (pushed : List Job) (told : ℕ) : Type 0 where
   pub own : gives ≡ true → (pass ≡ giver) × (pushed ≡ jobs) × (told ≡ opened)
   pub none : gives ≡ false → (pushed ≡ []) × (told ≡ 0)
@@ -35,8 +36,8 @@ pub record Knows (giver : ℕ) (jobs : List Job) (opened : ℕ) (owner : ℕ →
   pub popped : v.popped ≡ taken_by owner pass taken
   pub idle : v.parts ≡ 0 → v.popped ≡ []
 
--- The jobs pushed so far are those taken and then those that the queue holds. Their tickets count up from 0. Each job
--- taken is one pass's, and stands in that pass's list alone, once.
+-- The jobs pushed so far are those taken and then those that the queue holds, at most 2^61. Their tickets count up from 0.
+-- Each job taken is one pass's, and stands in that pass's list alone, once. One pass gives.
 pub record JobRule (items : List Job) (hands : List Hand) : Type 0 where
   pub jobs : List Job
   pub taken : List Job
@@ -44,6 +45,7 @@ pub record JobRule (items : List Job) (hands : List Hand) : Type 0 where
   pub opened : ℕ
   pub owner : ℕ → ℕ
   pub order : jobs ≡ taken ++ items
+  pub most : length jobs ≤ 2 ^ 61
   pub numbered : CountUp 0 jobs
   pub owned : AreOwned (length hands) owner taken
   pub parts : all_parts hands ≡ opened

@@ -69,10 +69,10 @@ impl Lesson<Job, Hand> for Pushed {
 struct Popped;
 
 impl Outcome<Job, Hand> for Popped {
-    ghost use Rattle.std.specs.Prelude.{◌≡◌};
+    ghost use Rattle.std.specs.Prelude.{◌≡◌, ◌^◌, ◌<◌};
     ghost use Rattle.asc_jobs.specs.Hands.{popped_by};
 
-    ghost then = { λ v x w. w ≡ popped_by v x };
+    ghost then = { λ v x w. (w ≡ popped_by v x) × (x.ticket < 2 ^ 61) };
 }
 
 impl Lesson<Job, Hand> for Popped {
@@ -184,7 +184,7 @@ impl Giver {
     }
 
     /// Pushes a job, and answers its ticket: 0, 1, 2 and so on. Where the queue is full, nothing is pushed and no
-    /// ticket is used. Past 2^62 jobs the queue below would wait for ever.
+    /// ticket is used. A queue takes at most 2^61 jobs. Past 2^62 the queue below would wait for ever.
     pub fn push<R: Wait>(
         &mut self,
         rt: &R,
@@ -237,9 +237,11 @@ impl Giver {
 }
 
 impl Taker {
-    /// Pops the job at the front; nothing where the queue is empty.
+    /// Pops the job at the front; nothing where the queue is empty. Its ticket is below 2^61, since a queue takes no more
+    /// jobs than that.
     pub fn pop<R: Wait>(&mut self, rt: &R) -> Option<Job>
         ensures some { IfSome result (λ job. self.new ≡ after_pop self.old job) }
+        ensures ticket { IfSome result (λ job. job.ticket < 2 ^ 61) }
         ensures none { IfNone result (self.new ≡ self.old) }
 
         // Where all parts were joined, nothing comes only once every job was popped.

@@ -1,5 +1,5 @@
 -- What a walk beside workers comes to.
-use Rattle.std.proofs.Common.{◌≡◌, ℕ, ◌+◌, ◌<◌, List, [], All, get_or, subst, Option, Some, None, refl, sym, ap, ◌∙◌, arith, length}
+use Rattle.std.proofs.Common.{◌≡◌, ℕ, ◌+◌, ◌*◌, ◌<◌, ◌≤◌, List, [], All, get_or, subst, Option, Some, None, refl, sym, ap, ◌∙◌, arith, length}
 use Rattle.asc_traj.specs.declared.guessing.Guessing.{Guessing}
 use Rattle.asc_traj.specs.Finder.{Plan, Queue}
 use Rattle.asc_jobs.specs.Jobs.{Giver}
@@ -7,10 +7,12 @@ use Rattle.asc_calls.specs.World.{Outside}
 use Rattle.asc_run.specs.declared.walk.Ended.{Ended}
 use Rattle.asc_run.specs.Helped.{Aid, aid}
 use Rattle.asc_run.specs.Walk.{Walk, tally}
-use Rattle.asc_cache.specs.Cache.{AreOpened, IsOwnReader, ShardReader, ShardReaders, ShardWriter}
+use Rattle.asc_run.proofs.Seeings.{visits-asked}
+use Rattle.asc_cache.specs.Cache.{AreOpened, ShardReader, ShardReaders, ShardWriter}
 use Rattle.asc_live.specs.Laws.{new_plan}
 use Rattle.asc_live.specs.Live.{Live, IsLive, new_live, queue_of, plan_of}
-use Rattle.asc_live.specs.Crew.{WentBeside, Walks}
+use Rattle.asc_live.specs.Crew.{IsWriterOf, Walks, WentBeside, shard_capacity}
+use Rattle.asc_live.specs.declared.crew.Crew.{Crew}
 use Rattle.asc_live.specs.declared.crew.Worked.{Worked}
 use Rattle.asc_live.proofs.LawsHold.{guesses_are_counted}
 
@@ -39,8 +41,9 @@ pub went : (guessing : Guessing) (was now : Walk) (old new : Outside) (readers :
     → l ≡ new_live readers giver guessing → giver.pushed ≡ [] → readers.tally ≡ tally 0 0 0 → IsLive k
     → Walks was now old new (aid_of l) (aid_of k) worked.ended
     → worked.made ≡ length k.pusher.giver.pushed → worked.refused ≡ k.pusher.refused → worked.full ≡ k.pusher.full
-    → length k.pusher.giver.pushed ≡ worked.taken.tally.ran + worked.taken.left → WentBeside guessing giver.capacity was now old new worked
-went guessing was now old new readers giver l k worked is none told good walks made refused full jobs =
+    → length k.pusher.giver.pushed ≡ worked.taken.tally.ran + worked.taken.left
+    → (crew : Crew) → giver.capacity ≡ crew.queue → worked.workers ≡ crew.workers → WentBeside guessing crew was now old new worked
+went guessing was now old new readers giver l k worked is none told good walks made refused full jobs crew capacity workers =
     let made_none : length l.pusher.giver.pushed ≡ 0 = ap (λ (l : Live ShardReaders). length l.pusher.giver.pushed) is ∙ ap length none in
     let plan : plan_of l ≡ new_plan guessing (Some (queue_of giver)) = ap plan_of is ∙ ap (λ n. record { made = n; refused = 0; full = 0; seen = (plan_of (new_live readers giver guessing)).seen; queue = Some (queue_of giver) }) (ap length none) in
     record {
@@ -61,28 +64,39 @@ went guessing was now old new readers giver l k worked is none told good walks m
       refused = refused;
       full = full;
       jobs = made ∙ jobs;
+      workers = workers;
+      few =
+          let helped = walks.goes.goes.helped in
+          let few = helped.plans.few in
+          let asked = visits-asked walks.goes.goes.visits now.tally (aid_of l).tally (aid_of k).tally helped.tally walks.raised in
+          let full_none = ap (λ (p : Plan). p.full) plan in
+          omega (arith, few, made, full, made_none, full_none, asked);
       room = λ some.
           let kept = (kept_giver readers giver guessing was now old new l k worked.ended k.pusher.giver is walks refl).1.1 in
           let filled = good.room (omega (arith, some, full)) in
-          omega (arith, kept, filled, made);
+          omega (arith, kept, filled, made, capacity);
       guesses = λ h. let sum = guesses_are_counted guessing (Some (queue_of giver)) now.tally.asked (plan_of l) (plan_of k) plan walks.goes.seen (sym refused ∙ h) in omega (arith, made, full, sum);
     }
 
 -- the reader of a shard that was opened with others is its writer's own
-own_readers : (shards capacity : ℕ) (writers : List ShardWriter) (readers : List ShardReader) → AreOpened shards capacity writers readers
-    → All (λ w. IsOwnReader w readers) writers
-own_readers shards capacity writers readers o =
+own_readers : (shards : ℕ) (writers : List ShardWriter) (readers : List ShardReader) → AreOpened shards shard_capacity writers readers
+    → All (IsWriterOf readers) writers
+own_readers shards writers readers o =
     λ k d l.
     let w = get_or writers k d in
     let within : k < shards = omega (arith, l, o.writer_count) in
     let none : ShardReader = record { shard = w.shard; capacity = 0; seen = [] } in
-    let index : w.index ≡ k = ap (λ (w : ShardWriter). w.index) (o.each k d none within).writer in record {
-      there = omega (arith, within, index, o.reader_count);
-      shard = λ e. ap (λ i. (get_or readers i e).shard) index ∙ ap (λ (r : ShardReader). r.shard) (o.each k d e within).reader;
+    let opened = (o.each k d none within).writer in
+    let index : w.index ≡ k = ap (λ (w : ShardWriter). w.index) opened in record {
+      own = record {
+        there = omega (arith, within, index, o.reader_count);
+        shard = λ e. ap (λ i. (get_or readers i e).shard) index ∙ ap (λ (r : ShardReader). r.shard) (o.each k d e within).reader;
+      };
+      capacity = ap (λ (w : ShardWriter). w.capacity) opened;
     }
 
-pub own_readers_of : {ws : List ShardWriter} {rs : ShardReaders} (shards capacity : ℕ) (writers : List ShardWriter) (readers : ShardReaders)
-    → writers ≡ ws → readers ≡ rs → AreOpened shards capacity ws rs.readers → All (λ w. IsOwnReader w readers.readers) writers
-own_readers_of {ws = ws} {rs = rs} shards capacity writers readers e f o =
-    own_readers shards capacity writers readers.readers (subst (λ ws. AreOpened shards capacity ws readers.readers) (sym e)
-    (subst (λ (r : ShardReaders). AreOpened shards capacity ws r.readers) (sym f) o))
+pub own_readers_of : {ws : List ShardWriter} {rs : ShardReaders} (shards : ℕ) (writers : List ShardWriter) (readers : ShardReaders)
+    → writers ≡ ws → readers ≡ rs → AreOpened shards shard_capacity ws rs.readers → All (IsWriterOf readers.readers) writers
+own_readers_of {ws = ws} {rs = rs} shards writers readers e f o =
+    own_readers shards writers readers.readers (subst (λ ws. AreOpened shards shard_capacity ws readers.readers) (sym e)
+    (subst (λ (r : ShardReaders). AreOpened shards shard_capacity ws r.readers) (sym f) o))

@@ -1,9 +1,9 @@
 -- A walk with workers beside it.
-use Rattle.std.specs.Prelude.{◌≡◌, ℕ, ◌+◌, ◌<◌, ◌≤◌, [], false, length, All, Some}
+use Rattle.std.specs.Prelude.{◌≡◌, ℕ, ◌+◌, ◌*◌, ◌<◌, ◌≤◌, List, [], false, length, All, Some}
 use Rattle.asc_model.specs.Shape.{Shape}
 use Rattle.asc_traj.specs.declared.guessing.Guessing.{Guessing}
 use Rattle.asc_calls.specs.World.{Outside, BlamesOnly}
-use Rattle.asc_cache.specs.Cache.{IsOwnReader}
+use Rattle.asc_cache.specs.Cache.{IsOwnReader, ShardReader, ShardWriter}
 use Rattle.asc_run.specs.declared.walk.Ended.{Ended}
 use Rattle.asc_run.specs.Execution.{device_of}
 use Rattle.asc_run.specs.Helped.{Aid}
@@ -22,9 +22,13 @@ pub record IsNewAid (guessing : Guessing) (a : Aid) : Type 0 where
   pub full : a.plan.full ≡ 0
   pub seen_is : a.plan.seen ≡ Some (seen 0 guessing)
 
--- A walk that had not ended went to its end with a helper that came from first to last. Each job that was pushed is counted
--- as run or as left.
-pub record WentBeside (guessing : Guessing) (queue : ℕ) (was now : Walk) (old new : Outside) (worked : Worked)
+-- how many entries each worker's shard may hold
+abbrev pub shard_capacity : ℕ
+shard_capacity = 1024
+
+-- A walk that had not ended went to its end beside a crew, with a helper that came from first to last. Each job that was
+-- pushed is counted as run or as left.
+pub record WentBeside (guessing : Guessing) (crew : Crew) (was now : Walk) (old new : Outside) (worked : Worked)
     : Type 0 where
   pub first : Aid
   pub last : Aid
@@ -41,8 +45,12 @@ pub record WentBeside (guessing : Guessing) (queue : ℕ) (was now : Walk) (old 
   pub jobs : worked.made ≡ worked.taken.tally.ran + worked.taken.left
   -- where memory was not wanting, each guess that was due was pushed, or found no room or was given up
   pub guesses : worked.refused ≡ 0 → worked.made + worked.full ≡ guesses_until guessing now.tally.asked
+  -- with memory or without, at most 128 guesses were pushed, found no room or were given up at each visit
+  pub few : worked.made + worked.full ≤ 128 * now.tally.asked
   -- a guess found no room, or was given up, only once as many were pushed as the queue holds
-  pub room : 0 < worked.full → queue ≤ worked.made
+  pub room : 0 < worked.full → crew.queue ≤ worked.made
+  -- as many workers were beside it as the crew has
+  pub workers : worked.workers ≡ crew.workers
 
 -- ---- words of private contracts
 
@@ -57,22 +65,31 @@ pub record Walks (was now : Walk) (old new : Outside) (first last : Aid) (ended 
 abbrev pub HasBoundsOf : {W H : Type 0} → Shape → Guessing → Worker W H → Type 0
 HasBoundsOf shape guessing w = (w.shape ≡ shape) × (w.laps ≡ guessing.laps) × (w.span ≡ guessing.span)
 
--- a crew is as it was asked for, with all that stops its workers and wakes them
-pub record IsAsAsked {R : Type 0} (shape : Shape) (guessing : Guessing) (crew : Crew) (r : Ready R) : Type 0 where
-  pub workers : length r.team.posts ≡ crew.workers
-  pub bounds : All (λ p. HasBoundsOf shape guessing p.worker) r.team.posts
-  pub capacity : r.giver.capacity ≡ crew.queue
-  pub shards : length r.readers.readers ≡ crew.workers
-  pub writers : All (λ p. IsOwnReader p.worker.writer r.readers.readers) r.team.posts
-  pub running : r.halter.halted ≡ false
-  pub flags : All (λ p. p.worker.halt.word ≡ r.halter.word) r.team.posts
-  pub visit_wakers : length r.visit_wakers.items ≡ crew.workers
-  pub end_wakers : length r.end_wakers.items ≡ crew.workers
+-- one of these readers is that of a writer's shard, which may hold so many entries
+pub record IsWriterOf (readers : List ShardReader) (w : ShardWriter) : Type 0 where
+  pub own : IsOwnReader w readers
+  pub capacity : w.capacity ≡ shard_capacity
 
--- a crew of which no job was asked: the team of a queue, and the readers of a cache
+-- this is what a crew was asked for by
+pub record IsAskedFor {R : Type 0} (shape : Shape) (guessing : Guessing) (crew : Crew) (r : Ready R) : Type 0 where
+  pub shape_is : r.shape ≡ shape
+  pub guessing_is : r.guessing ≡ guessing
+  pub crew_is : r.crew ≡ crew
+
+-- A crew of which no job was asked is as it was asked for, with all that stops its workers and wakes them: the team of a
+-- queue, with flags of its halter, and the writers and the readers of one cache.
 pub record IsReady {R : Type 0} (r : Ready R) : Type 0 where
+  pub workers : length r.team.posts ≡ r.crew.workers
+  pub bounds : All (λ p. HasBoundsOf r.shape r.guessing p.worker) r.team.posts
   pub queue : r.team.queue ≡ Some r.giver.queue
+  pub capacity : r.giver.capacity ≡ r.crew.queue
   -- the giver and each worker's taker are all the parts of the queue
   pub parts : r.giver.opened ≡ length r.team.posts + 1
   pub none_pushed : r.giver.pushed ≡ []
+  pub shards : length r.readers.readers ≡ r.crew.workers
+  pub writers : All (λ p. IsWriterOf r.readers.readers p.worker.writer) r.team.posts
   pub none_asked : r.readers.tally ≡ tally 0 0 0
+  pub running : r.halter.halted ≡ false
+  pub flags : All (λ p. p.worker.halt.word ≡ r.halter.word) r.team.posts
+  pub visit_wakers : length r.visit_wakers.items ≡ r.crew.workers
+  pub end_wakers : length r.end_wakers.items ≡ r.crew.workers

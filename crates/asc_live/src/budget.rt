@@ -1,4 +1,4 @@
-ghost use Rattle.std.specs.Prelude.{◌≡◌, ◌≤◌, true, false};
+ghost use Rattle.std.specs.Prelude.{◌≡◌, ◌≤◌, not, true, false};
 
 // What a visit is charged, in steps of the guest: for the copy of its state and its jobs, and for a look-up in the list
 // of each worker. It is several times what it takes, so that visits which save nothing cost a run little.
@@ -28,7 +28,9 @@ pub(crate) struct Budget {
 
 impl Budget {
     /// That of a walk with so many workers. It may begin with a row of visits.
-    pub(crate) fn new(workers: usize) -> Budget {
+    pub(crate) fn new(workers: usize) -> Budget
+        ensures { result.passing ≡ false }
+    {
         let cost = WORKER_STEPS
             .saturating_mul(workers as u64)
             .saturating_add(VISIT_STEPS);
@@ -44,7 +46,8 @@ impl Budget {
     /// Whether a visit is made, and not passed over. Each is made until the queue was filled up, also where the budget
     /// does not pay for it.
     pub(crate) fn pay(&mut self, filled: bool) -> bool
-        ensures { result ≡ false → filled ≡ true }
+        ensures filled { result ≡ false → filled ≡ true }
+        ensures passing { self.new.passing ≡ not result }
     {
         let wanted = if self.passing {
             self.cost.saturating_mul(ROW)
@@ -70,7 +73,10 @@ impl Budget {
     /// How many steps a look-up may jump over, where so many are left: none at a visit that was passed over. The budget
     /// grows by the steps since the last look-up.
     pub(crate) fn reach(&mut self, left: u64) -> u64
-        ensures { result ≤ left }
+        ensures few { result ≤ left }
+        ensures made { self.old.passing ≡ false → result ≡ left }
+        ensures passed { self.old.passing ≡ true → result ≡ 0 }
+        ensures passing { self.new.passing ≡ self.old.passing }
     {
         self.grow(self.left.saturating_sub(left));
         self.left = left;
@@ -78,13 +84,17 @@ impl Budget {
     }
 
     /// The budget grows by what a look-up saved, beyond the steps that it jumped over.
-    pub(crate) fn save(&mut self, found: Option<u64>) {
+    pub(crate) fn save(&mut self, found: Option<u64>)
+        ensures { self.new.passing ≡ self.old.passing }
+    {
         let steps = found.unwrap_or(0);
         self.grow(steps.saturating_mul(SAVED - 1));
     }
 
     // The budget grows, up to what a row of visits costs.
-    fn grow(&mut self, steps: u64) {
+    fn grow(&mut self, steps: u64)
+        ensures { self.new.passing ≡ self.old.passing }
+    {
         self.steps = self
             .steps
             .saturating_add(steps)

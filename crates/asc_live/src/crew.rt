@@ -1,9 +1,9 @@
-ghost use Rattle.std.specs.Prelude.{◌≡◌, ◌≤◌, ◌^◌, List, length, All, IfOk, OnErr, IsNone, true};
+ghost use Rattle.std.specs.Prelude.{◌≡◌, ◌≤◌, ◌^◌, List, length, All, IfOk, OnErr, IsNone, true, false};
 ghost use Rattle.asc_calls.specs.World.{faults, outside};
-ghost use Rattle.asc_cache.specs.Cache.{ShardReader, IsOwnReader};
+ghost use Rattle.asc_cache.specs.Cache.{ShardReader};
 ghost use Rattle.asc_jobs.specs.Tally.{no_jobs};
 ghost use Rattle.asc_run.specs.Helped.{aid, HasRoom};
-ghost use Rattle.asc_live.specs.Crew.{HasBoundsOf, WentBeside, IsAsAsked, IsReady, Walks};
+ghost use Rattle.asc_live.specs.Crew.{HasBoundsOf, IsAskedFor, IsReady, IsWriterOf, Walks, WentBeside};
 ghost use Rattle.atomic_table.specs.Seated.{TableId};
 
 use crate::Live;
@@ -45,11 +45,17 @@ pub struct Worked {
     pub full: u64,
     /// What became of the jobs that were pushed.
     pub taken: TakenIn,
+    /// How many workers were beside it.
+    pub workers: usize,
 }
 
-// A crew before its walk begins. Some of its wakers are for visits, and the others for the walk's end.
+// A crew before its walk begins, and what it was asked for by. Some of its wakers are for visits, and the others for the
+// walk's end.
 #[derive(Drop)]
 struct Ready<R: Wait + Drop> {
+    shape: Shape,
+    guessing: Guessing,
+    crew: Crew,
     halter: Halter,
     giver: Giver,
     readers: ShardReaders<R>,
@@ -89,7 +95,7 @@ pub fn go_beside<
     requires ahead { (1 ≤ guessing.ahead) × (guessing.ahead ≤ 64) }
     requires laps { 1 ≤ guessing.laps }
     requires span { 1 ≤ guessing.span }
-    ensures went { IfOk result (λ worked. WentBeside guessing crew.queue walk.old walk.new
+    ensures went { IfOk result (λ worked. WentBeside guessing crew walk.old walk.new
         (outside (I.left input.old) (O.given out.old) (E.given err.old) steps.old
         (faults (I.faults input.old) (O.faults out.old) (E.faults err.old)))
         (outside (I.left input.new) (O.given out.new) (E.given err.new) steps.new
@@ -100,9 +106,7 @@ pub fn go_beside<
         × (err.new ≡ err.old) × (steps.new ≡ steps.old)) }
 {
     let ready = open_crew(alloc, *rt, shape, guessing, crew)?;
-    Ok(go_with(
-        rt, alloc, walk, guessing, ready, gate, input, out, err, steps,
-    ))
+    Ok(go_with(rt, alloc, walk, ready, gate, input, out, err, steps))
 }
 
 // Opens all that a crew needs.
@@ -118,7 +122,7 @@ fn open_crew<R: Wait + Copy + Drop>(
     requires laps { 1 ≤ guessing.laps }
     requires span { 1 ≤ guessing.span }
     ensures ready { IfOk result (λ ready. IsReady ready) }
-    ensures asked { IfOk result (λ ready. IsAsAsked shape guessing crew ready) }
+    ensures asked { IfOk result (λ ready. IsAskedFor shape guessing crew ready) }
 {
     let (halter, flags) = Halter::open(alloc, crew.workers)?;
     let (giver, takers) = Jobs::open(alloc, crew.queue, crew.workers)?;
@@ -127,6 +131,9 @@ fn open_crew<R: Wait + Copy + Drop>(
     let (team, visit_wakers) = Team::new(alloc, &giver, workers, takers)?;
     let end_wakers = wakers_again(alloc, &visit_wakers)?;
     Ok(Ready {
+        shape,
+        guessing,
+        crew,
         halter,
         giver,
         readers,
@@ -152,8 +159,8 @@ fn workers_of<R: Wait + Drop>(
     ensures bounds { IfOk result (λ w. All (HasBoundsOf shape guessing) w.items) }
     ensures flags { IfOk result (λ w. (word : TableId) → All (λ f. f.word ≡ word) flags.items
         → All (λ w. w.halt.word ≡ word) w.items) }
-    ensures writers { IfOk result (λ w. (readers : List ShardReader) → All (λ w. IsOwnReader w readers) writers.items
-        → All (λ w. IsOwnReader w.writer readers) w.items) }
+    ensures writers { IfOk result (λ w. (readers : List ShardReader) → All (IsWriterOf readers) writers.items
+        → All (λ w. IsWriterOf readers w.writer) w.items) }
 {
     let mut workers = Vec::with_capacity(alloc, writers.len())?;
     while let Some(writer) = writers.pop() {
@@ -180,7 +187,6 @@ fn go_with<
     rt: &R,
     alloc: Global,
     walk: &mut Walk,
-    guessing: Guessing,
     ready: Ready<R>,
     gate: &G,
     input: &mut I,
@@ -189,15 +195,18 @@ fn go_with<
     steps: &mut Steps<L>,
 ) -> Worked
     requires new { IsNone walk.old.ended }
-    requires ahead { (1 ≤ guessing.ahead) × (guessing.ahead ≤ 64) }
+    requires ahead { (1 ≤ ready.guessing.ahead) × (ready.guessing.ahead ≤ 64) }
     requires ready { IsReady ready }
-    ensures { WentBeside guessing ready.giver.capacity walk.old walk.new
+    ensures { WentBeside ready.guessing ready.crew walk.old walk.new
         (outside (I.left input.old) (O.given out.old) (E.given err.old) steps.old
         (faults (I.faults input.old) (O.faults out.old) (E.faults err.old)))
         (outside (I.left input.new) (O.given out.new) (E.given err.new) steps.new
         (faults (I.faults input.new) (O.faults out.new) (E.faults err.new))) result }
 {
     let Ready {
+        shape: _,
+        guessing,
+        crew: _,
         mut halter,
         giver,
         readers,
@@ -205,6 +214,7 @@ fn go_with<
         visit_wakers,
         end_wakers,
     } = ready;
+    let workers = readers.shards();
     let mut live = Live::new(alloc, rt, gate, readers, giver, visit_wakers, guessing);
     let ended = go_served(
         rt,
@@ -229,6 +239,7 @@ fn go_with<
         refused,
         full,
         taken,
+        workers,
     }
 }
 
@@ -255,6 +266,7 @@ fn go_served<
     steps: &mut Steps<L>,
 ) -> Ended
     requires new { IsNone walk.old.ended }
+    requires running { halter.old.halted ≡ false }
     requires room { HasRoom (2 ^ 61)
         (aid (H.tally helper.old) (H.replies helper.old) (H.plan helper.old) (H.machine helper.old)) }
     ensures walks { Walks walk.old walk.new
@@ -275,7 +287,7 @@ fn go_served<
     )
 }
 
-// Runs a walk to its end, passes the gate, and stops the workers.
+// Runs a walk to its end while the workers may go on, and then stops them.
 fn go_and_halt<H: Helper, G: Gate, I: Source, O: Sink, E: Sink, L: Ledger>(
     walk: &mut Walk,
     helper: &mut H,
@@ -288,6 +300,7 @@ fn go_and_halt<H: Helper, G: Gate, I: Source, O: Sink, E: Sink, L: Ledger>(
     steps: &mut Steps<L>,
 ) -> Ended
     requires new { IsNone walk.old.ended }
+    requires running { halter.old.halted ≡ false }
     requires room { HasRoom (2 ^ 61)
         (aid (H.tally helper.old) (H.replies helper.old) (H.plan helper.old) (H.machine helper.old)) }
     ensures walks { Walks walk.old walk.new
@@ -299,10 +312,37 @@ fn go_and_halt<H: Helper, G: Gate, I: Source, O: Sink, E: Sink, L: Ledger>(
         (aid (H.tally helper.new) (H.replies helper.new) (H.plan helper.new) (H.machine helper.new)) result }
     ensures halted { halter.new.halted ≡ true }
 {
-    let ended = walk.go(helper, input, out, err, steps);
-    gate.pass(Point::Ended, helper.made());
+    let ended = go_unhalted(walk, helper, halter, gate, input, out, err, steps);
     halter.halt();
     wake(wakers);
+    ended
+}
+
+// Runs a walk to its end, and passes the gate. The halter of the workers is lent, and they are not stopped until then.
+fn go_unhalted<H: Helper, G: Gate, I: Source, O: Sink, E: Sink, L: Ledger>(
+    walk: &mut Walk,
+    helper: &mut H,
+    _halter: &Halter,
+    gate: &G,
+    input: &mut I,
+    out: &mut O,
+    err: &mut E,
+    steps: &mut Steps<L>,
+) -> Ended
+    requires new { IsNone walk.old.ended }
+    requires running { _halter.now.halted ≡ false }
+    requires room { HasRoom (2 ^ 61)
+        (aid (H.tally helper.old) (H.replies helper.old) (H.plan helper.old) (H.machine helper.old)) }
+    ensures { Walks walk.old walk.new
+        (outside (I.left input.old) (O.given out.old) (E.given err.old) steps.old
+        (faults (I.faults input.old) (O.faults out.old) (E.faults err.old)))
+        (outside (I.left input.new) (O.given out.new) (E.given err.new) steps.new
+        (faults (I.faults input.new) (O.faults out.new) (E.faults err.new)))
+        (aid (H.tally helper.old) (H.replies helper.old) (H.plan helper.old) (H.machine helper.old))
+        (aid (H.tally helper.new) (H.replies helper.new) (H.plan helper.new) (H.machine helper.new)) result }
+{
+    let ended = walk.go(helper, input, out, err, steps);
+    gate.pass(Point::Ended, helper.made());
     ended
 }
 

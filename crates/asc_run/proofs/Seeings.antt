@@ -1,13 +1,13 @@
 -- How many guesses are due at visits, one after another.
-use Rattle.std.proofs.Common.{◌≡◌, ◌≤◌, ◌+◌, ◌-◌, ◌*◌, ℕ, zero, suc, Bool, true, false, [], length, Option, refl, sym, ap, ◌∙◌, subst, arith}
+use Rattle.std.proofs.Common.{◌≡◌, ◌≤◌, ◌+◌, ◌-◌, ◌*◌, ℕ, zero, suc, Bool, true, false, List, [], ◌∷◌, length, Option, refl, sym, ap, ◌∙◌, subst, arith}
 use Rattle.std.proofs.lemmas.Bool.{le-ltb, ne_eqb}
 use Rattle.asc_traj.specs.declared.guessing.Guessing.{Guessing}
 use Rattle.asc_model.specs.State.{State}
 use Rattle.asc_traj.specs.Finder.{Plan, Tally}
 use Rattle.asc_run.specs.Serial.{kinds_of}
-use Rattle.asc_run.specs.Visits.{with_landing}
+use Rattle.asc_run.specs.Visits.{Visit, tally_of, with_landing}
 use Rattle.asc_run.specs.Helped.{Aid, Helped, Lands, Plans}
-use Rattle.asc_run.specs.Walk.{tally}
+use Rattle.asc_run.specs.Walk.{IsRaisedBy, tally}
 use Rattle.asc_run.specs.Seen.{newly_guessed, guesses_at, guesses_until, seen, Sees, SeesAll}
 
 -- from the third visit on one more visit is guessed at each
@@ -46,6 +46,18 @@ one-visit before old now new earlier later sees all g told same =
     let is = sees (seen before g) was.0 refl (omega (arith, same, earlier, later)) in
     let a = was.1 in let b = is.1 in let more = guesses_until-more g before in
     (is.0, omega (arith, a, b, more))
+
+-- ---- visits are counted
+
+tally_of-asked : (visits : List Visit) (t : Tally) → (tally_of visits t).asked ≡ t.asked + length visits
+tally_of-asked [] t = omega arith
+tally_of-asked (v ∷ before) t = let e = tally_of-asked before t in omega (arith, e)
+
+-- a walk counts as many as there were
+pub visits-asked : (visits : List Visit) (walk first last : Tally) → last ≡ tally_of visits first → IsRaisedBy walk first last → walk.asked ≡ length visits
+visits-asked visits walk first last is raised =
+    let all = tally_of-asked visits first in
+    omega (arith, all, ap (λ (t : Tally). t.asked) is, ap (λ (t : Tally). t.asked) raised)
 
 -- a landing more
 pub SeesAll-more : (is : Bool) (c : ℕ) (r : Option ℕ) (before number : ℕ) (s : State) (left : ℕ) (old : Plan) (now new : Aid) → Lands is before s left r now new → (is ≡ true → Sees (before + 1) now.plan new.plan)

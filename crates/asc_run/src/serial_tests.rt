@@ -101,11 +101,13 @@ static RUNS: [(bool, bool, u64, Ended, Counts, u64); 5] = [
 ];
 
 /// Where an allocation fails in a visit, that is counted, and no more is guessed than without. The answer is the same,
-/// and so is how often the helper is asked.
+/// and so is how often the helper is asked. One allocation fails at most, so that the numbers of one run alone may be
+/// others.
 #[test]
 fn runs_alone(rt: HostRuntime) {
     let alloc = rt.alloc();
     let shape = Shape::new(0x10000, 65_536).expect(&rt, "a shape");
+    let mut refused_runs: u64 = 0;
     for (last, stride, limit, ended, counts, made) in RUNS {
         let mut serial = Serial::new(alloc, shape, two_ahead(last, stride)).expect(&rt, "memory");
         let settings = Settings {
@@ -128,9 +130,12 @@ fn runs_alone(rt: HostRuntime) {
                 (counts, made),
                 "with limit {limit}"
             );
+        } else {
+            refused_runs = refused_runs.saturating_add(1);
         }
         assert_eq!(rt; serial.full(), 0);
     }
+    assert!(rt; refused_runs <= 1);
 }
 
 /// A visit's calls, as another runner makes them, which can do none of the jobs.

@@ -113,7 +113,8 @@ impl Walk {
     pub fn new(alloc: Global, image: &Image<'_>, settings: Settings) -> Result<Walk, Memory>
         requires limit { settings.limit ≤ 2 ^ 40 }
         requires bounds { HasBounds settings.recognised }
-        ensures { IfOk result (λ walk. walk ≡ new_walk image.now settings) }
+        ensures walk { IfOk result (λ walk. walk ≡ new_walk image.now settings) }
+        ensures new { IfOk result (λ walk. IsNone walk.ended) }
     {
         let mut state = State::new(alloc, image.shape())?;
         image.put(&mut state);

@@ -1,4 +1,5 @@
 pub mod Adding
+pub mod Few
 pub mod Finding
 pub mod Marks
 pub mod Orders

@@ -8,7 +8,7 @@ use Rattle.std.proofs.lemmas.List.{map-append, take_more}
 use Rattle.std.proofs.lemmas.List.Elements.{All-append, All-cons, All-head, All-nil, All-tail, All-filter, All-weaker, filter-append, filter_passes, All-map}
 use Rattle.std.proofs.lemmas.List.Kept.{IsStrictlyIncreasing-filter}
 use Rattle.std.proofs.lemmas.List.Sums.{AllPass-from_list_all, sum_by-append, sum_by-cons}
-use Rattle.std.proofs.lemmas.Bool.{and_parts, eqb-true, eq-eqb, ne_eqb, cases_Bool, cases_eq, cond-true, cond-false, ltb-true, le-ltb, lt-ltb}
+use Rattle.std.proofs.lemmas.Bool.{agree_below_at, and_parts, eqb-true, eq-eqb, ne_eqb, cases_Bool, cases_eq, cond-true, cond-false, ltb-true, le-ltb, lt-ltb}
 use Rattle.asc_model.specs.declared.version.Version.{Version}
 use Rattle.asc_model.specs.declared.version.Version.TheVariants.{One, Two}
 use Rattle.asc_model.specs.Number.{AreBytes, number_at, word_at}
@@ -23,7 +23,7 @@ use Rattle.asc_traj.specs.Content.{matches}
 use Rattle.asc_traj.specs.Parts.{IsPart, all_cells, kept, masked, part_cells, word_place}
 use Rattle.asc_traj.proofs.Parts.{cells-push, here, kept-suc, kept-zero, masked-suc, masked-zero, part_cells-is}
 use Rattle.asc_shard.specs.declared.mark.TheConstants.{FACTORS}
-use Rattle.asc_shard.specs.Marks.{fingerprint, first_reads_of, print_of, print_in, may_match, weight}
+use Rattle.asc_shard.specs.Marks.{factor, fingerprint, first_reads_of, may_match, print_in, print_of, weight}
 use Rattle.asc_shard.specs.Inside.{bits_of, mark_of, mask_of, places_of}
 
 -- ---- bits, one place more
@@ -231,12 +231,17 @@ first-of-entry e parts i d true_e is are most before next =
 
 -- ---- what a word counts
 
-weight-at : (index k : ℕ) → k < 4 → weight (index * 4 + k) ≡ slice_index FACTORS index * 256 ^ k
+-- the factors as code has them
+pub factor-at : (word : ℕ) → word < 32 → slice_index FACTORS word ≡ factor word
+unfolding factor
+factor-at word lt = eqb-true (slice_index FACTORS word) (factor word) (agree_below_at (λ w. slice_index FACTORS w == factor w) (λ w. true) 32 word refl lt)
+
+weight-at : (index k : ℕ) → k < 4 → weight (index * 4 + k) ≡ factor index * 256 ^ k
 unfolding weight
 weight-at index k lt =
     let word : (index * 4 + k) / 4 ≡ index = omega arith in
     let byte : (index * 4 + k) % 4 ≡ k = omega arith in
-    ap (λ (i : ℕ). slice_index FACTORS i * 256 ^ ((index * 4 + k) % 4)) word ∙ ap (λ (j : ℕ). slice_index FACTORS index * 256 ^ j) byte
+    ap (λ (i : ℕ). factor i * 256 ^ ((index * 4 + k) % 4)) word ∙ ap (λ (j : ℕ). factor index * 256 ^ j) byte
 
 weigh-more : (b x p f : ℕ) → b * (f * p) + x * (p * 256 * f) ≡ (b + 256 * x) * (p * f)
 weigh-more b x p f = omega arith
@@ -246,13 +251,13 @@ weigh-none x p f = omega arith
 
 -- the bytes of a word weigh together as the word does
 masked-weigh : (n k mask place word index : ℕ) → n + k ≡ 4 → place ≡ index * 4 + k
-    → sum_by (λ cell. cell.1 * weight cell.0) (masked n mask place word) ≡ kept n mask word * (256 ^ k * slice_index FACTORS index)
+    → sum_by (λ cell. cell.1 * weight cell.0) (masked n mask place word) ≡ kept n mask word * (256 ^ k * factor index)
 masked-weigh zero k mask place word index count there =
-    ap (sum_by (λ (cell : ℕ × ℕ). cell.1 * weight cell.0)) (masked-zero mask place word) ∙ (let none : 0 ≡ 0 * (256 ^ k * slice_index FACTORS index) = omega arith in none)
-    ∙ ap (λ (m : ℕ). m * (256 ^ k * slice_index FACTORS index)) (sym (kept-zero mask word))
+    ap (sum_by (λ (cell : ℕ × ℕ). cell.1 * weight cell.0)) (masked-zero mask place word) ∙ (let none : 0 ≡ 0 * (256 ^ k * factor index) = omega arith in none)
+    ∙ ap (λ (m : ℕ). m * (256 ^ k * factor index)) (sym (kept-zero mask word))
 masked-weigh (suc n) k mask place word index count there =
     let w : ℕ × ℕ → ℕ = λ cell. cell.1 * weight cell.0 in
-    let f = slice_index FACTORS index in
+    let f = factor index in
     let p = 256 ^ k in
     let x = kept n (mask / 2) (word / 256) in
     let ih = masked-weigh n (suc k) (mask / 2) (place + 1) (word / 256) index (omega arith) (omega arith) in
@@ -262,19 +267,19 @@ masked-weigh (suc n) k mask place word index count there =
     ∙ by (mask % 2 == 1) x
     ∙ ap (λ (m : ℕ). m * (p * f)) (sym (kept-suc n mask word))
   where
-    by : (b : Bool) (x : ℕ) → sum_by (λ cell. cell.1 * weight cell.0) (here b (place, word % 256)) + x * (256 ^ k * 256 * slice_index FACTORS index) ≡ ((if b then word % 256 else 0) + 256 * x) * (256 ^ k * slice_index FACTORS index)
+    by : (b : Bool) (x : ℕ) → sum_by (λ cell. cell.1 * weight cell.0) (here b (place, word % 256)) + x * (256 ^ k * 256 * factor index) ≡ ((if b then word % 256 else 0) + 256 * x) * (256 ^ k * factor index)
     by true x =
-        let one : word % 256 * weight place ≡ word % 256 * (slice_index FACTORS index * 256 ^ k) = ap (λ (q : ℕ). word % 256 * weight q) there ∙ ap (λ (q : ℕ). word % 256 * q) (weight-at index k (omega arith)) in
+        let one : word % 256 * weight place ≡ word % 256 * (factor index * 256 ^ k) = ap (λ (q : ℕ). word % 256 * weight q) there ∙ ap (λ (q : ℕ). word % 256 * q) (weight-at index k (omega arith)) in
         let counted = sum_by-cons (λ (cell : ℕ × ℕ). cell.1 * weight cell.0) (place, word % 256) [] in
         let none : sum_by {X = ℕ × ℕ} (λ cell. cell.1 * weight cell.0) [] ≡ 0 = refl in
-        ap (λ (m : ℕ). m + x * (256 ^ k * 256 * slice_index FACTORS index)) (counted ∙ (let sum : word % 256 * weight place + 0 ≡ word % 256 * weight place = omega arith in sum) ∙ one)
-        ∙ weigh-more (word % 256) x (256 ^ k) (slice_index FACTORS index)
-    by false x = weigh-none x (256 ^ k) (slice_index FACTORS index)
+        ap (λ (m : ℕ). m + x * (256 ^ k * 256 * factor index)) (counted ∙ (let sum : word % 256 * weight place + 0 ≡ word % 256 * weight place = omega arith in sum) ∙ one)
+        ∙ weigh-more (word % 256) x (256 ^ k) (factor index)
+    by false x = weigh-none x (256 ^ k) (factor index)
 
-part-weigh : (p : Part) (word : ℕ) → sum_by (λ cell. cell.1 * weight cell.0) (masked 4 (p.at % 16) (word_place p) word) ≡ kept 4 (p.at % 16) word * slice_index FACTORS (p.at / 16)
+part-weigh : (p : Part) (word : ℕ) → sum_by (λ cell. cell.1 * weight cell.0) (masked 4 (p.at % 16) (word_place p) word) ≡ kept 4 (p.at % 16) word * factor (p.at / 16)
 part-weigh p word =
     masked-weigh 4 0 (p.at % 16) (word_place p) word (p.at / 16) refl (omega arith)
-    ∙ ap (λ (q : ℕ). kept 4 (p.at % 16) word * q) (let one : 1 * slice_index FACTORS (p.at / 16) ≡ slice_index FACTORS (p.at / 16) = omega arith in one)
+    ∙ ap (λ (q : ℕ). kept 4 (p.at % 16) word * q) (let one : 1 * factor (p.at / 16) ≡ factor (p.at / 16) = omega arith in one)
 
 -- the bytes of a state at the places of a mask are those of its word
 number_low : (b m : ℕ) → b < 256 → (b + 256 * m) % 256 ≡ b
@@ -324,16 +329,16 @@ more-of byte parts i d t lt is =
     ∙ ap (fingerprint byte) (sym (ap all_cells (take_more parts i d lt) ∙ cells-push (take i parts) (get_or parts i d)))
 
 pub print-more : (parts : List Part) (i : ℕ) (d : Part) → i < length parts → IsPart (get_or parts i d)
-    → (fingerprint (λ cell. cell.1) (all_cells (take i parts)) + (get_or parts i d).word * slice_index FACTORS ((get_or parts i d).at / 16)) % 2 ^ 64
+    → (fingerprint (λ cell. cell.1) (all_cells (take i parts)) + (get_or parts i d).word * factor ((get_or parts i d).at / 16)) % 2 ^ 64
     ≡ fingerprint (λ cell. cell.1) (all_cells (take (i + 1) parts))
 print-more parts i d lt is =
     let p = get_or parts i d in
-    more-of (λ cell. cell.1) parts i d (p.word * slice_index FACTORS (p.at / 16)) lt
-    (ap (sum_by (λ (cell : ℕ × ℕ). cell.1 * weight cell.0)) (part_cells-is p) ∙ part-weigh p p.word ∙ ap (λ (w : ℕ). w * slice_index FACTORS (p.at / 16)) is.kept)
+    more-of (λ cell. cell.1) parts i d (p.word * factor (p.at / 16)) lt
+    (ap (sum_by (λ (cell : ℕ × ℕ). cell.1 * weight cell.0)) (part_cells-is p) ∙ part-weigh p p.word ∙ ap (λ (w : ℕ). w * factor (p.at / 16)) is.kept)
 
 -- what the bytes of a state at the places of a part count
 pub part-sum : (bytes : List ℕ) (p : Part) → AreBytes bytes
-    → sum_by (λ cell. slice_index bytes cell.0 * weight cell.0) (part_cells p) ≡ kept 4 (p.at % 16) (word_at bytes (word_place p)) * slice_index FACTORS (p.at / 16)
+    → sum_by (λ cell. slice_index bytes cell.0 * weight cell.0) (part_cells p) ≡ kept 4 (p.at % 16) (word_at bytes (word_place p)) * factor (p.at / 16)
 part-sum bytes p fine =
     let place = word_place p in
     ap (sum_by (λ (cell : ℕ × ℕ). slice_index bytes cell.0 * weight cell.0)) (part_cells-is p)
@@ -342,12 +347,12 @@ part-sum bytes p fine =
     ∙ part-weigh p (word_at bytes place)
 
 pub print-in-more : (bytes : List ℕ) (parts : List Part) (i : ℕ) (d : Part) → i < length parts → AreBytes bytes
-    → (fingerprint (λ cell. slice_index bytes cell.0) (all_cells (take i parts)) + kept 4 ((get_or parts i d).at % 16) (word_at bytes (word_place (get_or parts i d))) * slice_index FACTORS ((get_or parts i d).at / 16)) % 2 ^ 64
+    → (fingerprint (λ cell. slice_index bytes cell.0) (all_cells (take i parts)) + kept 4 ((get_or parts i d).at % 16) (word_at bytes (word_place (get_or parts i d))) * factor ((get_or parts i d).at / 16)) % 2 ^ 64
     ≡ fingerprint (λ cell. slice_index bytes cell.0) (all_cells (take (i + 1) parts))
 print-in-more bytes parts i d lt fine =
     let p = get_or parts i d in
     let place = word_place p in
-    more-of (λ cell. slice_index bytes cell.0) parts i d (kept 4 (p.at % 16) (word_at bytes place) * slice_index FACTORS (p.at / 16)) lt
+    more-of (λ cell. slice_index bytes cell.0) parts i d (kept 4 (p.at % 16) (word_at bytes place) * factor (p.at / 16)) lt
     (part-sum bytes p fine)
 
 -- ---- places within a state

@@ -28,7 +28,7 @@ group-mask a b h = ap mask_of (
     ∙ sym (places-filter (λ p. nat_lt p 128) b.reads)
     )
 
-true-at : (held : List Entry) (slots : List ℕ) (i : ℕ) → IsIndex held slots → i < length slots → IsTrueEntry (nth (sorted_of held slots) i)
+pub true-at : (held : List Entry) (slots : List ℕ) (i : ℕ) → IsIndex held slots → i < length slots → IsTrueEntry (nth (sorted_of held slots) i)
 true-at held slots i index lt =
     subst IsTrueEntry (sym (sorted-at held slots i 0 lt))
     (All-get_or IsTrueEntry held (get_or slots i 0) no_entry (position-in held slots i 0 index lt) index.true_all)

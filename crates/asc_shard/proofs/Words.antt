@@ -11,8 +11,7 @@ use Rattle.asc_traj.specs.declared.part.Part.{Part}
 use Rattle.asc_traj.specs.Parts.{all_cells, kept, masked, part_cells, word_place}
 use Rattle.asc_traj.proofs.Parts.{cells-push, kept-suc, kept-zero, masked-suc, masked-zero, part, part_cells-is}
 use Rattle.asc_shard.specs.declared.heads.Head.{Head}
-use Rattle.asc_shard.specs.declared.mark.TheConstants.{FACTORS}
-use Rattle.asc_shard.specs.Marks.{first_reads_of, print_in, weight}
+use Rattle.asc_shard.specs.Marks.{factor, first_reads_of, print_in, weight}
 use Rattle.asc_shard.specs.Inside.{AreProducts, IsHead, mark_of, places_of, word_places, words_in}
 use Rattle.asc_shard.proofs.Marks.{part-sum, sum-places}
 
@@ -57,7 +56,7 @@ low-more words i word room lt low = subst (All (λ w. w < 32)) (sym (take_more_s
 
 -- what words count in a fingerprint of a state
 abbrev word_sum : State → List ℕ → ℕ
-word_sum s words = sum_by (λ w. word_at s.bytes (w * 4) * slice_index FACTORS w) words
+word_sum s words = sum_by (λ w. word_at s.bytes (w * 4) * factor w) words
 
 four : (f : ℕ → ℕ) (a b c d : ℕ) → sum_by f (a ∷ b ∷ c ∷ d ∷ []) ≡ f a + (f b + (f c + (f d + 0)))
 four f a b c d =
@@ -81,12 +80,12 @@ places-sum s (w ∷ words) fine fits =
     sum_by-append f (word_places (w ∷ [])) (word_places words)
     ∙ ap (λ n. n + sum_by f (word_places words)) (
     ap (λ k. sum_by f (word_places (k ∷ []))) (sym index) ∙ ap (sum_by f) (sym (part-places p whole)) ∙ sym (sum-places (slice_index s.bytes) (part_cells p))
-    ∙ part-sum s.bytes p fine ∙ ap (λ m. kept 4 m (word_at s.bytes (word_place p)) * slice_index FACTORS (p.at / 16)) whole
-    ∙ ap (λ k. kept 4 15 (word_at s.bytes (k * 4)) * slice_index FACTORS k) index
-    ∙ ap (λ n. n * slice_index FACTORS w) (kept-whole (word_at s.bytes (w * 4)) (fits w))
+    ∙ part-sum s.bytes p fine ∙ ap (λ m. kept 4 m (word_at s.bytes (word_place p)) * factor (p.at / 16)) whole
+    ∙ ap (λ k. kept 4 15 (word_at s.bytes (k * 4)) * factor k) index
+    ∙ ap (λ n. n * factor w) (kept-whole (word_at s.bytes (w * 4)) (fits w))
     )
-    ∙ ap (λ n. word_at s.bytes (w * 4) * slice_index FACTORS w + n) (places-sum s words fine fits)
-    ∙ sym (sum_by-cons (λ w. word_at s.bytes (w * 4) * slice_index FACTORS w) w words)
+    ∙ ap (λ n. word_at s.bytes (w * 4) * factor w + n) (places-sum s words fine fits)
+    ∙ sym (sum_by-cons (λ w. word_at s.bytes (w * 4) * factor w) w words)
 
 mod-both : (a b t : ℕ) → t % 2 ^ 64 ≡ b % 2 ^ 64 → (a % 2 ^ 64 + t) % 2 ^ 64 ≡ (a + b) % 2 ^ 64
 mod-both a b t e = omega (arith, e)
@@ -94,15 +93,19 @@ mod-both a b t e = omega (arith, e)
 products-sum : (s : State) (products words : List ℕ) → AreProducts s products → All (λ w. w < 32) words → sum_by (slice_index products) words % 2 ^ 64 ≡ word_sum s words % 2 ^ 64
 products-sum s products [] are low = refl
 products-sum s products (w ∷ words) are low =
-    let f : ℕ → ℕ = λ w. word_at s.bytes (w * 4) * slice_index FACTORS w in
+    let f : ℕ → ℕ = λ w. word_at s.bytes (w * 4) * factor w in
     ap (λ n. n % 2 ^ 64) (sum_by-cons (slice_index products) w words ∙ ap (λ n. n + sum_by (slice_index products) words) (are.counts w (All-head (λ w. w < 32) w words low)))
     ∙ mod-both (f w) (word_sum s words) (sum_by (slice_index products) words) (products-sum s products words are (All-tail (λ w. w < 32) w words low))
     ∙ ap (λ n. n % 2 ^ 64) (sym (sum_by-cons f w words))
 
 -- the fingerprint of a head's words is that of each of its entries
+pub state-print : (s : State) (e : Entry) (head : Head) → AreBytes s.bytes → ((w : ℕ) → word_at s.bytes (w * 4) < 2 ^ 32) → IsTrueEntry e → IsHead head → 0 < head.len
+    → (mark_of e).mask ≡ head.mask → word_sum s (words_in head) % 2 ^ 64 ≡ print_in s e
+state-print s e head fine fits true_e is some same =
+    ap (λ n. n % 2 ^ 64) (sym (places-sum s (words_in head) fine fits) ∙ ap (sum_by (λ p. slice_index s.bytes p * weight p)) (sym (is.places some e true_e same))
+    ∙ sym (sum-places (slice_index s.bytes) (first_reads_of e)))
+
 pub words-print : (s : State) (e : Entry) (head : Head) (products : List ℕ) → AreBytes s.bytes → ((w : ℕ) → word_at s.bytes (w * 4) < 2 ^ 32) → IsTrueEntry e → IsHead head → 0 < head.len
     → (mark_of e).mask ≡ head.mask → AreProducts s products → sum_by (slice_index products) (words_in head) % 2 ^ 64 ≡ print_in s e
 words-print s e head products fine fits true_e is some same are =
-    products-sum s products (words_in head) are is.low
-    ∙ ap (λ n. n % 2 ^ 64) (sym (places-sum s (words_in head) fine fits) ∙ ap (sum_by (λ p. slice_index s.bytes p * weight p)) (sym (is.places some e true_e same))
-    ∙ sym (sum-places (slice_index s.bytes) (first_reads_of e)))
+    products-sum s products (words_in head) are is.low ∙ state-print s e head fine fits true_e is some same

@@ -12,14 +12,13 @@ use Rattle.asc_model.specs.State.{State}
 use Rattle.asc_model.specs.Entry.{Entry, IsTrueEntry}
 use Rattle.asc_model.specs.DependencyVector.{is_among}
 use Rattle.asc_model.specs.Number.{word_at}
-use Rattle.asc_shard.specs.declared.mark.TheConstants.{FACTORS}
 use Rattle.asc_traj.specs.Content.{matches}
 use Rattle.asc_shard.specs.declared.mark.Mark.{Mark}
 use Rattle.asc_shard.specs.declared.heads.Head.{Head}
 use Rattle.asc_shard.specs.declared.heads.Beginning.{Beginning}
 use Rattle.asc_shard.specs.declared.index.Index.{Index}
 use Rattle.asc_shard.specs.declared.index.Place.{Place}
-use Rattle.asc_shard.specs.Marks.{first_reads_of, print_of}
+use Rattle.asc_shard.specs.Marks.{factor, first_reads_of, print_of}
 
 -- a count that was raised so many times
 abbrev pub raised : (more : ℕ → ℕ) → (times count : ℕ) → ℕ
@@ -150,7 +149,7 @@ pub record IsHead (head : Head) : Type 0 where
 -- what each of the first words of a state counts
 pub record AreProducts (s : State) (products : List ℕ) : Type 0 where
   pub size : length products ≡ 32
-  pub counts : (word : ℕ) → word < 32 → slice_index products word ≡ word_at s.bytes (word * 4) * slice_index FACTORS word % 2 ^ 64
+  pub counts : (word : ℕ) → word < 32 → slice_index products word ≡ word_at s.bytes (word * 4) * factor word % 2 ^ 64
 
 -- Masks rise, and each has an entry.
 pub record AreHeads (heads : List Head) : Type 0 where

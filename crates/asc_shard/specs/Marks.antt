@@ -1,16 +1,19 @@
 -- Fingerprints of the bytes that entries read at the first 128 places, where the pc and the registers are.
-use Rattle.std.specs.Prelude.{ℕ, ◌*◌, ◌/◌, ◌%◌, ◌^◌, Bool, ◌==◌, nat_lt, List, filter, sum_by, slice_index}
+use Rattle.std.specs.Prelude.{ℕ, ◌+◌, ◌*◌, ◌/◌, ◌%◌, ◌^◌, Bool, ◌==◌, nat_lt, List, filter, sum_by, slice_index}
 use Rattle.asc_model.specs.State.{State}
 use Rattle.asc_model.specs.Entry.{Entry}
-use Rattle.asc_shard.specs.declared.mark.TheConstants.{FACTORS}
 
 -- those of an entry's read cells that are at these places, in rising order of place
 abbrev pub first_reads_of : Entry → List (ℕ × ℕ)
 first_reads_of e = filter (λ cell. nat_lt cell.0 128) e.reads
 
--- what the byte at a place counts in a fingerprint: each word has a factor, and its bytes stand as in a number
+-- the factor of a word: a power of the odd number next to 2 ^ 64 over the golden ratio
+unfoldable pub factor : ℕ → ℕ
+factor word = 11400714819323198485 ^ (word + 1) % 2 ^ 64
+
+-- what the byte at a place counts in a fingerprint: its word has a factor, in which its bytes stand as in a number
 unfoldable pub weight : ℕ → ℕ
-weight place = slice_index FACTORS (place / 4) * 256 ^ (place % 4)
+weight place = factor (place / 4) * 256 ^ (place % 4)
 
 -- the fingerprint of bytes of some cells' places
 abbrev pub fingerprint : (byte : ℕ × ℕ → ℕ) → List (ℕ × ℕ) → ℕ

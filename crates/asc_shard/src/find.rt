@@ -8,7 +8,7 @@ ghost use Rattle.asc_shard.specs.Inside.{AreProducts, IsBest, IsFrom, IsHead, Is
 
 use crate::heads::Head;
 use crate::index::Index;
-use crate::mark::{print_in, print_of_words, products_of};
+use crate::mark::{print_in, print_of_state, print_of_words, products_of};
 use crate::order::{compare_groups, compare_with, has_reads};
 use crate::prints::range_of;
 use asc_shape::{State, Steps};
@@ -78,47 +78,12 @@ pub fn search<P: Probes>(
     ensures probes { (asked : List Asked) × AreAsked (map arc_value entries.now) state.now asked
         × (P.count probes.new ≡ raised P.more (sum_by (λ a. a.probes) asked) (P.count probes.old)) }
 {
-    if index.heads.len() < 4 {
-        return search_heads(entries, index, state, left, None, probes);
-    }
-    search_many(entries, index, state, left, probes)
-}
-
-/// The same of many lists: what the words count is looked up.
-#[inline(never)]
-fn search_many<P: Probes>(
-    entries: &[Arc<Entry>],
-    index: &Index,
-    state: &State,
-    left: u64,
-    probes: &mut P,
-) -> Option<usize>
-    requires index { IsIndexed (map arc_value entries.now) index.now }
-    ensures none { IfNone result (longest (map arc_value entries.now) state.now left ≡ None) }
-    ensures some { IfSome result (IsFound (map arc_value entries.now) state.now left) }
-    ensures probes { (asked : List Asked) × AreAsked (map arc_value entries.now) state.now asked
-        × (P.count probes.new ≡ raised P.more (sum_by (λ a. a.probes) asked) (P.count probes.old)) }
-{
-    let products = products_of(state);
-    search_heads(entries, index, state, left, Some(&products), probes)
-}
-
-/// The same, with or without what the words count.
-fn search_heads<P: Probes>(
-    entries: &[Arc<Entry>],
-    index: &Index,
-    state: &State,
-    left: u64,
-    products: Option<&[u64; 32]>,
-    probes: &mut P,
-) -> Option<usize>
-    requires index { IsIndexed (map arc_value entries.now) index.now }
-    requires products { IfSome products (λ p. AreProducts state.now p.now) }
-    ensures none { IfNone result (longest (map arc_value entries.now) state.now left ≡ None) }
-    ensures some { IfSome result (IsFound (map arc_value entries.now) state.now left) }
-    ensures probes { (asked : List Asked) × AreAsked (map arc_value entries.now) state.now asked
-        × (P.count probes.new ≡ raised P.more (sum_by (λ a. a.probes) asked) (P.count probes.old)) }
-{
+    // With many lists what the words count is looked up.
+    let products = if index.heads.len() < 4 {
+        None
+    } else {
+        Some(products_of(state))
+    };
     let mut best = Best {
         position: None,
         steps: 0,
@@ -126,7 +91,7 @@ fn search_heads<P: Probes>(
     let mut from = 0;
     for head in &index.heads {
         let next = from + head.count;
-        let print = print_for(head, state, products, index.entry(entries, from));
+        let print = print_for(head, state, products.as_ref(), entries, index, from);
         let (low, high) = range_of(index, from, next, print);
         best = search_some(
             entries, index, low, high, head.len, state, left, best, probes,
@@ -136,22 +101,33 @@ fn search_heads<P: Probes>(
     best.position
 }
 
-/// The fingerprint that a state has for a head, of which this is an entry.
+/// The fingerprint that a state has for a head, whose first entry is at a place.
 #[inline]
-fn print_for(head: &Head, state: &State, products: Option<&[u64; 32]>, entry: &Entry) -> u64
+fn print_for(
+    head: &Head,
+    state: &State,
+    products: Option<&[u64; 32]>,
+    entries: &[Arc<Entry>],
+    index: &Index,
+    from: usize,
+) -> u64
+    requires index { IsIndexed (map arc_value entries.now) index.now }
+    requires within { from < length (positions_of index.now) }
     requires head { IsHead head.now }
-    requires entry { (mark_of entry.now).mask ≡ head.now.mask }
+    requires entry { (mark_of (slice_index_or (sorted_in (map arc_value entries.now) index.now) from no_entry)).mask
+        ≡ head.now.mask }
     requires products { IfSome products (λ p. AreProducts state.now p.now) }
-    ensures { result ≡ print_in state.now entry.now }
+    ensures { result ≡ print_in state.now (slice_index_or (sorted_in (map arc_value entries.now) index.now) from no_entry) }
 {
+    if head.len == 0 {
+        return print_in(state, index.entry(entries, from));
+    }
+    // That it is a state.
+    let _ = state.shape();
+    let words = &head.words[..head.len];
     match products {
-        Some(products) if head.len > 0 => {
-            entry.truth();
-            // That it is a state.
-            let _ = state.shape();
-            print_of_words(products, &head.words[..head.len])
-        }
-        _ => print_in(state, entry),
+        Some(products) => print_of_words(products, words),
+        None => print_of_state(state, words),
     }
 }
 
@@ -183,21 +159,22 @@ fn search_some<P: Probes>(
         × All (λ a. IsFrom (sorted_in (map arc_value entries.now) index.now) low high a.entry) asked
         × (P.count probes.new ≡ raised P.more (sum_by (λ a. a.probes) asked) (P.count probes.old)) }
 {
-    if low + 1 == high {
-        return search_one(entries, index, low, after, state, left, best, probes);
+    if low == high {
+        return best;
     }
-    if low < high {
-        return search_range(entries, index, low, high, state, left, best, probes);
+    if high - low <= 4 {
+        return search_few(entries, index, low, high, after, state, left, best, probes);
     }
-    best
+    search_range(entries, index, low, high, state, left, best, probes)
 }
 
-/// The longest match so far, after the one entry of a mark, which the state has. What it reads from a part on is compared
-/// first.
-fn search_one<P: Probes>(
+/// The same of at most four entries. A group of so few may be compared one by one.
+#[inline(always)]
+fn search_few<P: Probes>(
     entries: &[Arc<Entry>],
     index: &Index,
-    at: usize,
+    low: usize,
+    high: usize,
     after: usize,
     state: &State,
     left: u64,
@@ -205,22 +182,49 @@ fn search_one<P: Probes>(
     probes: &mut P,
 ) -> Best
     requires index { IsIndexed (map arc_value entries.now) index.now }
+    requires range { (low ≤ high) × (high ≤ length (positions_of index.now)) }
+    requires few { high - low ≤ 4 }
+    requires marks { (i j : ℕ) → low ≤ i → i < high → low ≤ j → j < high
+        → mark_of (slice_index_or (sorted_in (map arc_value entries.now) index.now) i no_entry)
+        ≡ mark_of (slice_index_or (sorted_in (map arc_value entries.now) index.now) j no_entry) }
+    requires prints { (i : ℕ) → low ≤ i → i < high
+        → may_match state.now (slice_index_or (sorted_in (map arc_value entries.now) index.now) i no_entry) ≡ true }
+    requires best { IsBest (map arc_value entries.now) state.now left best.position best.steps }
+    ensures best { IsBest (map arc_value entries.now) state.now left result.position result.steps }
+    ensures most { IsMost (sorted_in (map arc_value entries.now) index.now) state.now left low high result.steps }
+    ensures rises { best.steps ≤ result.steps }
+    ensures probes { (asked : List Asked) × AreAsked (map arc_value entries.now) state.now asked
+        × All (λ a. IsFrom (sorted_in (map arc_value entries.now) index.now) low high a.entry) asked
+        × (P.count probes.new ≡ raised P.more (sum_by (λ a. a.probes) asked) (P.count probes.old)) }
+{
+    let mut now = best;
+    for at in low..high {
+        probes.tick();
+        now = longer_with(entries, index, at, after, state, left, now);
+    }
+    now
+}
+
+/// The longest match so far, after one entry. What it reads from a part on is compared first.
+#[inline]
+fn longer_with(
+    entries: &[Arc<Entry>],
+    index: &Index,
+    at: usize,
+    after: usize,
+    state: &State,
+    left: u64,
+    best: Best,
+) -> Best
+    requires index { IsIndexed (map arc_value entries.now) index.now }
     requires within { at < length (positions_of index.now) }
-    requires print { may_match state.now (slice_index_or (sorted_in (map arc_value entries.now) index.now) at no_entry) ≡ true }
     requires best { IsBest (map arc_value entries.now) state.now left best.position best.steps }
     ensures best { IsBest (map arc_value entries.now) state.now left result.position result.steps }
     ensures most { IsMost (sorted_in (map arc_value entries.now) index.now) state.now left at (at + 1) result.steps }
     ensures rises { best.steps ≤ result.steps }
-    ensures probes { (asked : List Asked) × AreAsked (map arc_value entries.now) state.now asked
-        × All (λ a. IsFrom (sorted_in (map arc_value entries.now) index.now) at (at + 1) a.entry) asked
-        × (P.count probes.new ≡ raised P.more (sum_by (λ a. a.probes) asked) (P.count probes.old)) }
 {
     let entry = index.entry(entries, at);
-    if entry.shape() != state.shape() {
-        return best;
-    }
-    probes.tick();
-    if entry.steps() <= left && has_reads(entry, state, after) {
+    if entry.shape() == state.shape() && entry.steps() <= left && has_reads(entry, state, after) {
         return longer_of(best, entries, index.position(at));
     }
     best

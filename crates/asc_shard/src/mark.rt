@@ -1,15 +1,16 @@
 ghost use Rattle.std.specs.Prelude.{sum_by, ◌≡◌, ℕ, ◌+◌, ◌*◌, ◌/◌, ◌%◌, ◌^◌, ◌<◌, ◌≤◌, All, Bool, false, length, slice_index, slice_index_or};
 ghost use Rattle.asc_model.specs.Entry.{IsTrueEntry};
+ghost use Rattle.asc_model.specs.Number.{word_at};
 ghost use Rattle.asc_model.specs.Shape.{length_of};
 ghost use Rattle.asc_traj.specs.Parts.{IsPart, all_cells};
-ghost use Rattle.asc_shard.specs.Marks.{first_reads_of, fingerprint, print_in, print_of};
+ghost use Rattle.asc_shard.specs.Marks.{factor, first_reads_of, fingerprint, print_in, print_of};
 ghost use Rattle.asc_shard.specs.Inside.{AreProducts, mark_of, mask_of, places_of};
 ghost use Rattle.std.specs.List.Sorted.{IsStrictlyIncreasing};
 
 use asc_shape::State;
 use asc_traj::{Entry, Part};
 
-// What each of the first words counts in a fingerprint: the powers of an odd number, modulo 2^64.
+// What each of the first words counts in a fingerprint: the powers of the first factor, modulo 2^64.
 static FACTORS: [u64; 32] = [
     0x9E37_79B9_7F4A_7C15,
     0xDF44_2D22_CE48_59B9,
@@ -82,6 +83,22 @@ pub fn print_in(state: &State, entry: &Entry) -> u64
     print
 }
 
+/// The fingerprint of whole words of a state.
+#[inline]
+pub fn print_of_state(state: &State, words: &[u8]) -> u64
+    requires { All (λ word. word < 32) words.now }
+    ensures { result ≡ sum_by (λ word. word_at state.now.bytes (word * 4) * factor word) words.now % 2 ^ 64 }
+{
+    // That it is a state.
+    let _ = state.shape();
+    let mut print = 0;
+    for word in words {
+        let word = u32::from(*word);
+        print = added(print, state.word(4 * word), word);
+    }
+    print
+}
+
 /// What each of the first words of a state counts in a fingerprint.
 pub fn products_of(state: &State) -> [u64; 32]
     ensures { AreProducts state.now result }
@@ -90,7 +107,7 @@ pub fn products_of(state: &State) -> [u64; 32]
     let _ = state.shape();
     let mut products = [0; 32];
     for i in 0..products.len() {
-        products[i] = u64::wrapping_mul(u64::from(state.word(4 * i as u32)), FACTORS[i]);
+        products[i] = u64::wrapping_mul(u64::from(state.word(4 * i as u32)), factor(i));
     }
     products
 }
@@ -155,10 +172,19 @@ fn print_of(parts: &[Part]) -> u64
 #[inline]
 fn added(print: u64, word: u32, index: u32) -> u64
     requires { index < 32 }
-    ensures { result ≡ (print + word * slice_index FACTORS index) % 2 ^ 64 }
+    ensures { result ≡ (print + word * factor index) % 2 ^ 64 }
 {
     u64::wrapping_add(
         print,
-        u64::wrapping_mul(u64::from(word), FACTORS[index as usize]),
+        u64::wrapping_mul(u64::from(word), factor(index as usize)),
     )
+}
+
+/// The factor of one of the first words.
+#[inline]
+fn factor(word: usize) -> u64
+    requires { word < 32 }
+    ensures { result ≡ factor word }
+{
+    FACTORS[word]
 }

@@ -18,6 +18,10 @@ pub fn range_of(index: &Index, from: usize, next: usize, print: u64) -> (usize, 
     if low == next || index.prints[low] != print {
         return (low, low);
     }
+    // And seldom more than one.
+    if low + 1 == next || index.prints[low + 1] != print {
+        return (low, low + 1);
+    }
     (low, first_behind(index, low, next, print))
 }
 

@@ -192,26 +192,35 @@ fn apart(rt: HostRuntime) {
     assert_eq!(rt; looked(&shard, &state, 1), (None, 0));
 }
 
-/// A load of a word, whose address six registers have.
-fn loading_by<R: Abort>(rt: &R, alloc: Global, base: u32) -> State {
-    let mut state = state_of(rt, alloc, 65_536, &[0x0000_2303 | (base << 15)]);
-    for reg in 10..16 {
-        state.set_reg(reg, 0x10100);
-    }
-    state
+/// Two additions of three registers: one of ten, one of ten others and one of nine others.
+fn adding<R: Abort>(rt: &R, alloc: Global, list: u32) -> State {
+    let a = 2 + list % 10;
+    let b = 12 + list / 10 % 10;
+    let c = 22 + list / 100 % 9;
+    let words = [0x0000_00B3 | (a << 15) | (b << 20), 0x0000_80B3 | (c << 20)];
+    state_of(rt, alloc, 65_536, &words)
 }
 
 #[test]
 fn lists(rt: HostRuntime) {
     let alloc = rt.alloc();
-    let mut shard = shard_of(&rt, alloc, 6);
-    for base in 10..16 {
-        shard.insert(entry_of(&rt, alloc, &loading_by(&rt, alloc, base), 9, 1));
-    }
-    // The state has the fingerprint of each list.
-    for base in 10..16 {
-        let state = loading_by(&rt, alloc, base);
-        assert_eq!(rt; looked(&shard, &state, 1), (Some(base as usize - 10), 6));
+    for count in [30u32, 890] {
+        let mut shard = shard_of(&rt, alloc, count as usize);
+        for list in 0..count {
+            shard.insert(entry_of(&rt, alloc, &adding(&rt, alloc, list), 9, 2));
+        }
+        // The state has the fingerprint of each list, which has one entry.
+        for (list, wanted) in [(0, Some(0)), (29, Some(29)), (count, None)] {
+            let (found, probes) = looked(&shard, &adding(&rt, alloc, list), 2);
+            assert_eq!(rt; found, wanted);
+            assert!(rt; probes <= 2 * u64::from(count));
+        }
+        // And here of none.
+        let mut other = adding(&rt, alloc, 0);
+        for reg in 2..32 {
+            other.set_reg(reg, 7);
+        }
+        assert_eq!(rt; looked(&shard, &other, 2), (None, 0));
     }
 }
 

@@ -2,3 +2,4 @@ pub mod Visits
 pub mod Texts
 pub mod Laps
 pub mod Answered
+pub mod Handed

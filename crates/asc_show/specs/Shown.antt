@@ -1,7 +1,7 @@
 -- What asc_show answers.
-use Rattle.std.specs.Prelude.{◌≡◌, ℕ, ◌*◌, ◌<◌, false, codes, decimal, List, [], ◌++◌, Option, None, MatchOption, Result, Ok, Err}
+use Rattle.std.specs.Prelude.{◌≡◌, ◌⊎◌, ℕ, ◌*◌, ◌<◌, false, codes, decimal, List, [], ◌++◌, Option, None, MatchOption, Result, Ok, Err}
 use Rattle.std.specs.Arc.{arc_value}
-use Rattle.asc_outside.specs.Outside.{File, Given, MayHold, MayHoldLonger, PutsPart, given_after}
+use Rattle.asc_outside.specs.Outside.{AsksFor, File, Given, MayHold, MayHoldLonger, PutsPart, given_after}
 use Rattle.asc_outside.specs.Lists.{given_number}
 use Rattle.asc_elf.specs.Image as loader
 use Rattle.asc_elf.specs.declared.fault.ElfFault.{ElfFault}
@@ -85,14 +85,15 @@ start_world image o = world image.start
 abbrev pub load_of : Request → (content : List ℕ) → Result loader.Image ElfFault
 load_of request content = loader.image_of content (1024 * request.line.memory) request.line.version
 
--- The plain run of a file came to the visit that is asked for, and this is the lap that begins there. What was taken
--- from the input, and the count of steps, are that run's.
+-- The plain run of a file came to the visit that is asked for, before the limit, and this is the lap that begins there.
+-- What was taken from the input, and the count of steps, are that run's.
 pub record ShowsLap (request : Request) (content : List ℕ) (old new : Outer) (lap : Lap) : Type 0 where
   pub image : loader.Image
   pub loads : load_of request content ≡ Ok image
   pub now : World
   pub count : ℕ
   pub comes : Comes request.pc request.visit (start_world image old) now count
+  pub before : count < request.line.limit
   pub left : new.left ≡ now.left
   pub steps : new.steps ≡ now.steps
   pub is : IsLap (bounds_of request.pc request.line.laps request.line.span) now.state lap
@@ -156,3 +157,10 @@ Answers words files old new answers.TooLong =
     ((request : Request) × Asks words request × MayHoldLonger files request.line.image 67108864) × (new ≡ old)
 Answers words files old new answer =
     (request : Request) × Asks words request × HasFile request files (λ content. Says request content old new answer)
+
+-- What the store was asked for until words were answered so: for the image that they name, once, and for nothing else.
+-- It was asked for nothing where they are wrong, or where memory was wanting before.
+abbrev pub AsksForImage : (words : List (List ℕ)) → Answer → (before after : Option (List (List ℕ))) → Type 0
+AsksForImage words answer before after =
+    ((request : Request) × Asks words request × AsksFor request.line.image before after)
+    ⊎ ((after ≡ before) × ((answer ≡ answers.Usage) ⊎ (answer ≡ answers.Memory)))

@@ -7,11 +7,11 @@
 //! `--laps` and `--span`. Those on guesses and reports have to be right, and mean nothing here; `--pc` is refused.
 #![tactic(auto)]
 
-ghost use Rattle.std.specs.Prelude.{◌≡◌, ◌⊎◌, ◌<◌, IfErr, map};
+ghost use Rattle.std.specs.Prelude.{◌≡◌, ◌<◌, IfOk, IfErr, IsOkAnd, map};
 ghost use Rattle.std.specs.Process.{exit_status};
 ghost use Rattle.std.specs.String.{string_bytes};
-ghost use Rattle.asc_show.specs.Shown.{code_of};
-ghost use Rattle.asc_show.specs.Status.{IsStatusOf, IsStatusOver};
+ghost use Rattle.std.specs.Vec.Iter.{into_iter_items};
+ghost use Rattle.asc_show.specs.Status.{IsRefusal, IsStatusFor, IsStatusOf, IsStatusOver};
 
 mod answer;
 mod lap;
@@ -26,39 +26,45 @@ use crate::answer::Answer;
 use crate::show::show;
 use asc_shape::{Sink, Steps, put_all};
 use asc_streams::{FileStore, StreamSink, StreamSource};
-use std::env;
+use std::alloc::Global;
+use std::env::Args;
 use std::io::ErrorKind;
 use std::marker::Brand;
 use std::process::ExitCode;
 use std::sync::ledger::{Blank, Ledger};
+use std::{env, io};
 
 fn main(rt: HostRuntime) -> ExitCode {
-    program(&rt)
+    program(&rt, env::args(&rt))
 }
 
-/// Runs the command line over the system, and gives the exit status.
-fn program(rt: &HostRuntime) -> ExitCode
-    ensures { (answer : Answer) × (exit_status result ≡ code_of answer) }
+/// Shows what the words that the system gave ask for, or refuses them, and gives the exit status.
+fn program(rt: &HostRuntime, given: io::Result<Args>) -> ExitCode
+    ensures { IsStatusFor given (exit_status result) }
 {
-    match words(rt) {
+    match words(rt.alloc(), given) {
         Ok(words) => run::<Brand>(rt, &words, Blank::new(1)),
-        Err(answer) => tell(answer, &mut StreamSink::new(rt.stderr())),
+        Err(refusal) => tell(refusal, &mut StreamSink::new(rt.stderr())),
     }
 }
 
-/// The words of the command line. Where they are not all text, they are wrong.
-fn words(rt: &HostRuntime) -> Result<Vec<String>, Answer>
-    ensures { IfErr result (λ answer. (answer ≡ Answer.Memory) ⊎ (answer ≡ Answer.Usage)) }
+/// The words of the command line, as the system gave them. Where they are not all text, they are wrong.
+fn words(alloc: Global, given: io::Result<Args>) -> Result<Vec<String>, Answer>
+    ensures given { IfOk result (λ words. IsOkAnd given (λ args. words.items ≡ into_iter_items args)) }
+    ensures refused { IfErr result (λ refusal. IsRefusal given refusal) }
 {
-    match env::args(rt) {
-        Ok(words) => words.collect(rt.alloc()).map_err(|_| Answer::Memory),
+    match given {
+        Ok(words) => match words.collect(alloc) {
+            Ok(words) => Ok(words),
+            Err(_) => Err(Answer::Memory),
+        },
         Err(error) if error.kind() == ErrorKind::OutOfMemory => Err(Answer::Memory),
         Err(_) => Err(Answer::Usage),
     }
 }
 
-/// Shows over the system what the words ask for, and gives the exit status. The ledger is the one that counts the
-/// guest's steps.
+/// Shows what the words ask for over the system's files and streams, of which nothing is told, and gives the exit status.
+/// The ledger is the one that counts the guest's steps.
 fn run<L: Ledger>(rt: &HostRuntime, words: &[String], blank: Blank) -> ExitCode
     requires name { blank.name ≡ L.name }
     requires parts { blank.parts ≡ L.parts }

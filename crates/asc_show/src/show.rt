@@ -3,7 +3,7 @@ ghost use Rattle.std.specs.Prelude.{◌≡◌, ◌≢◌, ◌≤◌, map};
 ghost use Rattle.std.specs.String.{string_bytes};
 ghost use Rattle.asc_outside.specs.Outside.{Blames};
 ghost use Rattle.asc_words.specs.Line.{IsRunWithin};
-ghost use Rattle.asc_show.specs.Shown.{Answers, HasInputFailed, IsShowing, Says, outer};
+ghost use Rattle.asc_show.specs.Shown.{Answers, AsksForImage, HasInputFailed, IsShowing, Says, outer};
 
 use crate::answer::Answer;
 use crate::lap::{Lap, trace_lap};
@@ -35,6 +35,7 @@ pub fn show<F: Store, I: Source, O: Sink, L: Ledger>(
     ensures answers { Answers (map string_bytes words.now) (F.files store.old)
         (outer (I.left input.old) (O.given out.old) steps.old (I.faults input.old))
         (outer (I.left input.new) (O.given out.new) steps.new (I.faults input.new)) result }
+    ensures asked { AsksForImage (map string_bytes words.now) result (F.asked store.old) (F.asked store.new) }
     // The store, the input and the output have failed where that is answered, once, and else not.
     ensures store { Blames (result ≡ Answer.StoreFault) (F.faults store.old) (F.faults store.new) }
     ensures input { Blames (HasInputFailed result) (I.faults input.old) (I.faults input.new) }

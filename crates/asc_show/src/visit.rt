@@ -79,6 +79,7 @@ impl Process {
             (faults (I.faults input.new) (O.faults out.new) (E.faults err.new))) self.new.count ended) }
         ensures before { IfSome result (λ _. self.new.visits < visit) }
         ensures limit { self.new.count ≤ limit }
+        ensures below { IsNone result → self.new.count < limit }
         ensures faults { BlamesOnly (device_of_turn result)
             (faults (I.faults input.old) (O.faults out.old) (E.faults err.old))
             (faults (I.faults input.new) (O.faults out.new) (E.faults err.new)) }

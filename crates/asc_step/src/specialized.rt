@@ -136,13 +136,15 @@ fn execute_specialized<B: Words, const UNTIL: bool>(
 ///
 /// Each arm does the same, as in `execute_specialized`. With many more arms the compiler no longer takes this into the
 /// loop of a trace, which then is slower. The last arm is for none of the operations that `decode_likely` answers, and is
-/// a call, so that it takes no room here.
+/// a call, so that it takes no room here. What it came to is in `rare`, which the caller's caller keeps: memory for it
+/// here would be filled anew at each step.
 #[inline(always)]
 pub(crate) fn execute_likely<B: Words, K>(
     bytes: &mut B,
     shape: Shape,
     pc: u32,
     instruction: Instr,
+    rare: &mut Stepped,
 ) -> Stepped
     requires shape { shape ≡ (B.face bytes.old).state.shape }
     requires registers { HasRegisters instruction }
@@ -186,15 +188,24 @@ pub(crate) fn execute_likely<B: Words, K>(
         Op::Or => execute(bytes, shape, pc, instruction),
         Op::And => execute(bytes, shape, pc, instruction),
         Op::Mul => execute(bytes, shape, pc, instruction),
-        _ => execute_rest(bytes, shape, pc, instruction),
+        _ => {
+            execute_rest(bytes, shape, pc, instruction, rare);
+            *rare
+        }
     }
 }
 
 /// Carries out the instruction at this pc, as `execute` does, out of line: so `execute_likely` stays small enough to be
-/// taken into the loop of a trace.
+/// taken into the loop of a trace. What it came to is put into `rare`.
 #[cold]
 #[inline(never)]
-fn execute_rest<B: Words>(bytes: &mut B, shape: Shape, pc: u32, instruction: Instr) -> Stepped
+fn execute_rest<B: Words>(
+    bytes: &mut B,
+    shape: Shape,
+    pc: u32,
+    instruction: Instr,
+    rare: &mut Stepped,
+)
     requires shape { shape ≡ (B.face bytes.old).state.shape }
     requires registers { HasRegisters instruction }
     requires at { AtInstruction (B.face bytes.old) pc }
@@ -202,13 +213,13 @@ fn execute_rest<B: Words>(bytes: &mut B, shape: Shape, pc: u32, instruction: Ins
         IsOfVersion s.shape.version (effect_of (view_of s) instruction) }
     requires room { 22 ≤ room_of (B.face bytes.old).marks }
     ensures answer { let s = (B.face bytes.old).state in
-        result ≡ answer_of (outcome_of_word s.shape (view_of s) (Some instruction)) }
+        rare.new ≡ answer_of (outcome_of_word s.shape (view_of s) (Some instruction)) }
     ensures face { let s = (B.face bytes.old).state in
         B.face bytes.new ≡ face_after_outcome (B.face bytes.old)
         (operand_places s.shape (view_of s) (Some instruction))
         (outcome_of_word s.shape (view_of s) (Some instruction)) }
 {
-    execute(bytes, shape, pc, instruction)
+    *rare = execute(bytes, shape, pc, instruction);
 }
 
 /// The operation of an instruction.

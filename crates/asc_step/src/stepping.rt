@@ -29,8 +29,10 @@ use std::sync::ledger::Ledger;
 ///
 /// `K` is any type. It tells loops of such steps apart: each has a copy of this that is called there alone, which the
 /// compiler then takes into the loop.
+///
+/// `rare` is memory for what a step out of the loop came to, whatever stands in it. So a loop fills none at each step.
 #[inline(always)]
-pub fn try_step_of<B: Words, K>(bytes: &mut B, shape: Shape) -> Stepped
+pub fn try_step_of<B: Words, K>(bytes: &mut B, shape: Shape, rare: &mut Stepped) -> Stepped
     requires shape { shape ≡ (B.face bytes.old).state.shape }
     requires room { step_room ≤ room_of (B.face bytes.old).marks }
     ensures { Attempts (B.face bytes.old) (B.face bytes.new) result }
@@ -43,31 +45,34 @@ pub fn try_step_of<B: Words, K>(bytes: &mut B, shape: Shape) -> Stepped
     }
     let word = read_word(bytes, shape.place_of(pc));
     match decode_likely(word) {
-        Some(instruction) => execute_likely::<B, K>(bytes, shape, pc, instruction),
-        None => execute_word(bytes, pc, word),
+        Some(instruction) => execute_likely::<B, K>(bytes, shape, pc, instruction, rare),
+        None => {
+            execute_word(bytes, pc, word, rare);
+            *rare
+        }
     }
 }
 
 /// Carries out the word that was fetched from this pc, whatever it is. It is not handed the shape, which a loop would
-/// keep in memory for it alone.
+/// keep in memory for it alone. What it came to is put into `rare`.
 #[cold]
 #[inline(never)]
-fn execute_word<B: Words>(bytes: &mut B, pc: u32, word: u32) -> Stepped
+fn execute_word<B: Words>(bytes: &mut B, pc: u32, word: u32, rare: &mut Stepped)
     requires at { AtInstruction (B.face bytes.old) pc }
     requires word { let s = (B.face bytes.old).state in word ≡ fetch s.shape (view_of s) }
     requires room { 22 ≤ room_of (B.face bytes.old).marks }
     ensures answer { let s = (B.face bytes.old).state in
-        result ≡ answer_of (outcome_of_word s.shape (view_of s) (decode s.shape.version word)) }
+        rare.new ≡ answer_of (outcome_of_word s.shape (view_of s) (decode s.shape.version word)) }
     ensures face { let s = (B.face bytes.old).state in
         B.face bytes.new ≡ face_after_outcome (B.face bytes.old)
         (operand_places s.shape (view_of s) (decode s.shape.version word))
         (outcome_of_word s.shape (view_of s) (decode s.shape.version word)) }
 {
     let shape = bytes.shape();
-    match decode(word, has_atomics(shape.version())) {
+    *rare = match decode(word, has_atomics(shape.version())) {
         Some(instruction) => execute(bytes, shape, pc, instruction),
         None => fault(FaultKind::Illegal, pc, word),
-    }
+    };
 }
 
 /// Takes one step as `try_step_of` does.
@@ -77,7 +82,7 @@ pub fn try_step<B: Words>(bytes: &mut B) -> Stepped
     ensures { Attempts (B.face bytes.old) (B.face bytes.new) result }
 {
     let shape = bytes.shape();
-    try_step_of::<B, ()>(bytes, shape)
+    try_step_of::<B, ()>(bytes, shape, &mut Stepped::Went)
 }
 
 /// Takes one step as `try_step_of` does, and counts it where the program went on. `UNTIL` tells the two loops of steps

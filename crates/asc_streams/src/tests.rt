@@ -30,6 +30,28 @@ impl SteadyRead for FailsSecond {
     ghost steady = { λ _ _. refl };
 }
 
+/// A reader that fails at its first read, and gives a byte at each later one.
+#[derive(Drop)]
+struct FailsFirst {
+    reads: u8,
+}
+
+impl Read for FailsFirst {
+    fn read(&mut self, buf: &mut [u8]) -> io::Result<usize> {
+        self.reads = self.reads.saturating_add(1);
+        if self.reads == 1 {
+            return Err(io::Error::from(ErrorKind::Interrupted));
+        }
+        let count = buf.len().min(1);
+        buf[..count].fill(b'x');
+        Ok(count)
+    }
+}
+
+impl SteadyRead for FailsFirst {
+    ghost steady = { λ _ _. refl };
+}
+
 /// What a fake writer does at each call.
 #[derive(Clone, Copy)]
 enum Way {
@@ -37,35 +59,60 @@ enum Way {
     One,
     /// It takes all, and fails at the flush.
     FailsAtFlush,
+    /// It takes all, and fails at the first flush.
+    FailsAtFirstFlush,
     /// It fails.
     Fails,
+    /// It is interrupted at the first write, and then takes all.
+    FailsFirst,
     /// It takes nothing, and says so.
     Nothing,
 }
 
-/// A writer that does what it is told, and counts the bytes that it took.
+/// A writer that does what it is told, and counts the bytes that it took, and its calls.
 #[derive(Drop)]
 struct Fake {
     way: Way,
     count: usize,
+    writes: u8,
+    flushes: u8,
+}
+
+impl Fake {
+    fn new(way: Way) -> Fake {
+        Fake {
+            way,
+            count: 0,
+            writes: 0,
+            flushes: 0,
+        }
+    }
 }
 
 impl Write for Fake {
     fn write(&mut self, buf: &[u8]) -> io::Result<usize> {
+        self.writes = self.writes.saturating_add(1);
         let count = match self.way {
             Way::One => buf.len().min(1),
-            Way::FailsAtFlush => buf.len(),
             Way::Nothing => 0,
             Way::Fails => return Err(io::Error::from(ErrorKind::Other)),
+            Way::FailsFirst if self.writes == 1 => {
+                return Err(io::Error::from(ErrorKind::Interrupted));
+            }
+            Way::FailsFirst | Way::FailsAtFlush | Way::FailsAtFirstFlush => buf.len(),
         };
         self.count = self.count.saturating_add(count);
         Ok(count)
     }
 
     fn flush(&mut self) -> io::Result<()> {
+        self.flushes = self.flushes.saturating_add(1);
         match self.way {
             Way::FailsAtFlush => Err(io::Error::from(ErrorKind::Other)),
-            Way::One | Way::Nothing | Way::Fails => Ok(()),
+            Way::FailsAtFirstFlush if self.flushes == 1 => {
+                Err(io::Error::from(ErrorKind::Interrupted))
+            }
+            _ => Ok(()),
         }
     }
 }
@@ -96,6 +143,36 @@ fn keeps_the_buffer_at_a_failed_read(rt: HostRuntime) {
     assert_eq!(rt; later, *b"-----");
 }
 
+/// A read that fails is answered at once, and the next call reads again.
+#[test]
+fn reads_no_failed_read_again(rt: HostRuntime) {
+    let mut reader = FailsFirst { reads: 0 };
+    let mut source = StreamSource::new(&mut reader);
+    let mut into = [b'-'; 2];
+    assert_eq!(rt; source.take(&mut into), Err(Failed));
+    assert_eq!(rt; source.take(&mut into), Ok(1));
+    assert_eq!(rt; into, *b"x-");
+    drop(source);
+    assert_eq!(rt; reader.reads, 2);
+}
+
+/// One call of `put` writes once, and flushes once where bytes were taken, whatever fails.
+#[test]
+fn tries_nothing_again(rt: HostRuntime) {
+    for (way, want, calls) in [
+        (Way::One, Ok(1), (1, 1)),
+        (Way::Nothing, Err(Failed), (1, 0)),
+        (Way::FailsFirst, Err(Failed), (1, 0)),
+        (Way::FailsAtFirstFlush, Err(Failed), (1, 1)),
+    ] {
+        let mut writer = Fake::new(way);
+        let mut sink = StreamSink::new(&mut writer);
+        assert_eq!(rt; sink.put(b"ab"), want);
+        drop(sink);
+        assert_eq!(rt; (writer.writes, writer.flushes), calls);
+    }
+}
+
 #[test]
 fn puts_what_the_writer_takes(rt: HostRuntime) {
     for (way, want) in [
@@ -104,7 +181,7 @@ fn puts_what_the_writer_takes(rt: HostRuntime) {
         (Way::Nothing, Err(Failed)),
         (Way::Fails, Err(Failed)),
     ] {
-        let mut sink = StreamSink::new(Fake { way, count: 0 });
+        let mut sink = StreamSink::new(Fake::new(way));
         assert_eq!(rt; sink.put(b"ab"), want);
     }
     let mut room = [b'-'; 3];
@@ -118,10 +195,7 @@ fn puts_what_the_writer_takes(rt: HostRuntime) {
 /// Once bytes were written and not flushed, nothing is written behind them.
 #[test]
 fn writes_nothing_behind_a_failed_flush(rt: HostRuntime) {
-    let mut writer = Fake {
-        way: Way::FailsAtFlush,
-        count: 0,
-    };
+    let mut writer = Fake::new(Way::FailsAtFlush);
     let mut sink = StreamSink::new(&mut writer);
     assert_eq!(rt; sink.put(b"ab"), Err(Failed));
     assert_eq!(rt; sink.put(b"cde"), Err(Failed));

@@ -15,14 +15,14 @@ use Rattle.asc_words.specs.declared.answer.Outcome.{Outcome}
 use Rattle.asc_words.specs.Answer.{outcome_of}
 use Rattle.asc_top.specs.Program.{answer_at, file_limit, load_of}
 use Rattle.asc_top.specs.Numbers.{AreWorkerNumbers, WorkersAreTold, counts_of, guessing_of, reported_at, settings_of}
-use Rattle.asc_top.specs.Workers.{workers_of}
+use Rattle.asc_top.specs.Workers.{crew_of, workers_of}
 use Rattle.asc_top.specs.Ran.{Ran, RanBeside, WalkedBeside}
 use Rattle.asc_top.proofs.Ends.{workers-told}
 use Rattle.asc_top.proofs.Refused.{ran_memory}
-use Rattle.asc_top.proofs.Serials.{IsNew, seen}
+use Rattle.asc_top.proofs.Serials.{IsNew, few, seen}
 use Rattle.asc_top.proofs.Walks.{ran}
 
-module _ (line : RunLine) (was now : Walk) (old new : Outside) (worked : Worked) (counts : WalkCounts) (went : WentBeside (guessing_of line) line.queue was now old new worked)
+module _ (line : RunLine) (was now : Walk) (old new : Outside) (worked : Worked) (counts : WalkCounts) (went : WentBeside (guessing_of line) (crew_of line) was now old new worked)
     (count : counts.count ≡ now.count) (executed : counts.executed + counts.skipped ≡ now.count) (skipped : counts.skipped ≡ now.tally.given)
     (asked : counts.asked ≡ now.tally.asked) (hits : counts.hits ≡ now.tally.hits) (some : 0 < line.workers) where
   -- their numbers
@@ -32,6 +32,7 @@ module _ (line : RunLine) (was now : Walk) (old new : Outside) (worked : Worked)
     ran = worked.taken.tally.sums;
     guesses = λ refused. went.guesses refused ∙ ap (λ n. guesses_until (guessing_of line) n) (sym asked);
     room = went.room;
+    few = let few = went.few in omega (arith, few, asked);
   }
 
   same : counts_of counts worked.made worked.refused ≡ counts_of counts went.last.plan.made went.last.plan.refused
@@ -74,9 +75,10 @@ module _ (line : RunLine) (content : List ℕ) (image : loader.Image) (within : 
   walked b =
       let told : WorkersAreTold line (reported_at line.report b.walked.ended (counts_of b.walked.counts b.last.plan.made b.last.plan.refused)) outcome.workers =
       subst (λ (c : Option Counts). WorkersAreTold line c outcome.workers) (ap (λ (o : Outcome). o.counts) b.walked.outcome_is) b.workers in
-      let fresh : IsNew b.first = record { tally = b.fresh.tally_is; made = b.fresh.made; refused = b.fresh.refused } in
+      let fresh : IsNew b.first = record { tally = b.fresh.tally_is; made = b.fresh.made; refused = b.fresh.refused; full = b.fresh.full } in
       ran line content image within loads good was now is old new b.first b.last outcome.workers outcome b.walked told
       (seen line content image within loads good was now is old new b.first b.last outcome.workers outcome b.walked fresh)
+      (few line content image within loads good was now is old new b.first b.last outcome.workers outcome b.walked fresh)
       (λ alone. absurd (let no : ⊥ = omega (arith, alone, some) in no)) (λ alone. absurd (let no : ⊥ = omega (arith, alone, some) in no))
 
   pub ran_beside : RanBeside line was now old new outcome → Ran old new line content outcome

@@ -13,6 +13,7 @@ use Rattle.asc_run.specs.Visits.{AreVisits, Visit, is_mark, tally_of}
 use Rattle.asc_run.specs.Serial.{kinds_of}
 use Rattle.asc_run.specs.SerialRun.{serial_of}
 use Rattle.asc_run.specs.Walk.{Walk, new_walk, tally}
+use Rattle.asc_run.proofs.Seeings.{visits-asked}
 use Rattle.asc_words.specs.declared.line.RunLine.{RunLine}
 use Rattle.asc_words.specs.declared.answer.Outcome.{Outcome}
 use Rattle.asc_words.specs.declared.answer.WorkerCounts.{WorkerCounts}
@@ -20,13 +21,14 @@ use Rattle.asc_top.specs.Program.{file_limit, load_of}
 use Rattle.asc_top.specs.Numbers.{course_of_image, guessing_of, has_workers, makes_guesses, recognised_by, settings_of}
 use Rattle.asc_top.specs.Ran.{Walked}
 use Rattle.asc_top.proofs.Unguessed.{idles, none_given}
-use Rattle.asc_top.proofs.Walks.{AreSeen, AreSerial, IsPlain, goes}
+use Rattle.asc_top.proofs.Walks.{AreFew, AreSeen, AreSerial, IsPlain, goes}
 
 -- a helper that has done nothing
 pub record IsNew (first : Aid) : Type 0 where
   pub tally : first.tally ≡ tally 0 0 0
   pub made : first.plan.made ≡ 0
   pub refused : first.plan.refused ≡ 0
+  pub full : first.plan.full ≡ 0
 
 -- where no guesses are to be made of numbers that are asked for, no kind is on
 no_kind : (report last stride : Bool) → (report && (last || stride)) ≡ false → report ≡ true → (last ≡ false) × (stride ≡ false)
@@ -67,6 +69,13 @@ module _ (line : RunLine) (content : List ℕ) (image : loader.Image) (within : 
   -- the numbers are those of the visits
   pub seen : AreSeen line content image within loads good was now is old new first last workers outcome w
   seen = λ asked left has. record { visits = visits; are = marked_by_line asked left has.are; tally = counted }
+
+  -- at most 128 guesses were made at each of them
+  pub few : AreFew line content image within loads good was now is old new first last workers outcome w
+  few =
+      let g = goes line content image within loads good was now is old new first last workers outcome w in
+      let all = visits-asked visits now.tally first.tally last.tally g.helped.tally w.raised in
+      omega (arith, g.helped.plans.few, fresh.made, fresh.full, all, w.asked)
 
   -- with the machine of a serial run
   pub serial_of_machine : first.machine ≡ Some (serial_of image.start.shape (guessing_of line) []) → Serial

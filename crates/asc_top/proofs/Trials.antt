@@ -24,7 +24,7 @@ use Rattle.asc_top.specs.Numbers.{AreNumbers, AreTold, AreTrialNumbers, Means, T
 use Rattle.asc_top.specs.Ran.{Ran}
 use Rattle.asc_top.specs.Kinds.{Finished, kind_of, device_of_answer, Completes, IsRefusal}
 use Rattle.asc_top.specs.Answered.{IsAnswerFor, devices}
-use Rattle.asc_top.specs.Reported.{IsPut}
+use Rattle.asc_top.specs.Reported.{EndsTrial, IsPut, told_of_trial}
 use Rattle.asc_top.proofs.Causes.{meaning-within, runs-limit, runs-fault, image-is, done-never, usage-never, too_long-never, store_fault-never, report_fault-never}
 use Rattle.asc_top.proofs.Outputs.{out-exec}
 use Rattle.asc_top.proofs.Runs.{completed}
@@ -184,7 +184,7 @@ module _ (n workers : ℕ) (remains : Option (List ℕ)) (put complained before 
         });
       }
 
-  pub answer_of_other : (files : Option (List File)) (asked : Option (List (List ℕ))) (store_faults : ℕ) (left : Option (List ℕ)) (out err : Given) (fs : Faults) → exit_of outcome ≡ None
+  answer_of_other : (files : Option (List File)) (asked : Option (List (List ℕ))) (store_faults : ℕ) (left : Option (List ℕ)) (out err : Given) (fs : Faults) → exit_of outcome ≡ None
       → IsAnswerFor (Ok (lines.Trial n workers)) (devices files asked store_faults (outside left out err before fs)) (devices files asked store_faults (outside left out err after fs)) (outcome_of outcome.answer)
   answer_of_other files asked store_faults left out err fs none =
       let other = no_exit outcome.answer outcome.counts none (λ finished. r.counts.1 (refl, finished)) in
@@ -358,7 +358,7 @@ module _ (n workers : ℕ) (remains : Option (List ℕ)) (put complained before 
         not_refusal (inr (inr is)) = cc
 
     -- the same, and its text was put to out, or out failed
-    pub answer_of_exit : (answered : Answer) → IsPut (record { n = n; status = status; steps = own.executed + own.skipped; output = put; counts = told_by_trial workers own }) own.refused out later out_faults later_faults answered
+    answer_of_exit : (answered : Answer) → IsPut (told_of_trial n workers put status own) own.refused out later out_faults later_faults answered
         → IsAnswerFor (Ok (lines.Trial n workers)) (devices files asked store_faults first) (devices files asked store_faults last) (outcome_of answered)
     answer_of_exit answered (inl done) =
         subst (λ (a : Answer). IsAnswerFor (Ok (lines.Trial n workers)) (devices files asked store_faults first) (devices files asked store_faults last) (outcome_of a)) (sym done.0) (done_so done.1 done.2)
@@ -366,7 +366,7 @@ module _ (n workers : ℕ) (remains : Option (List ℕ)) (put complained before 
         subst (λ (a : Answer). IsAnswerFor (Ok (lines.Trial n workers)) (devices files asked store_faults first) (devices files asked store_faults last) (outcome_of a)) (sym cut.0) (fault_so cut.1 cut.2)
 
 -- the run of a trial, over devices and with a line that are those of a trial
-pub own_run : (n workers : ℕ) (line : RunLine) (file input : List ℕ) (output errors : ℕ) (remains : Option (List ℕ)) (put complained before after : ℕ) (outcome : Outcome)
+own_run : (n workers : ℕ) (line : RunLine) (file input : List ℕ) (output errors : ℕ) (remains : Option (List ℕ)) (put complained before after : ℕ) (outcome : Outcome)
     → line ≡ trial_run workers → file ≡ image_of n → input ≡ [] → output ≡ 0 → errors ≡ 0
     → Ran (outside (Some input) (given_number output) (given_number errors) before (faults 0 0 0)) (outside remains (given_number put) (given_number complained) after (faults 0 0 0)) line file outcome
     → Ran (outside (Some []) (given_number 0) (given_number 0) before (faults 0 0 0)) (outside remains (given_number put) (given_number complained) after (faults 0 0 0)) (trial_run workers) (image_of n) outcome
@@ -375,3 +375,26 @@ own_run n workers line file input output errors remains put complained before af
     (subst (λ (f : List ℕ). Ran (outside (Some []) (given_number 0) (given_number 0) before (faults 0 0 0)) (outside remains (given_number put) (given_number complained) after (faults 0 0 0)) line f outcome) file_is
     (subst (λ (o : Outside). Ran o (outside remains (given_number put) (given_number complained) after (faults 0 0 0)) line file outcome)
     (λ i. outside (Some (none i)) (given_number (unput i)) (given_number (uncomplained i)) before (faults 0 0 0)) r))
+
+-- What a trial came to by what its run came to: where its guest ended, its text was put to out, or out failed.
+module _ (n workers : ℕ) (line : RunLine) (file input : List ℕ) (output errors : ℕ) (remains : Option (List ℕ)) (put complained before after : ℕ) (ran : Outcome)
+    (line_is : line ≡ trial_run workers) (file_is : file ≡ image_of n) (none : input ≡ []) (unput : output ≡ 0) (uncomplained : errors ≡ 0)
+    (r : Ran (outside (Some input) (given_number output) (given_number errors) before (faults 0 0 0)) (outside remains (given_number put) (given_number complained) after (faults 0 0 0)) line file ran)
+    (files : Option (List File)) (asked : Option (List (List ℕ))) (store_faults : ℕ) (left : Option (List ℕ)) (out later err : Given) (input_faults out_faults later_faults err_faults : ℕ) (outcome : Outcome) where
+  abbrev Answers : Outcome → Type 0
+  Answers o = IsAnswerFor (Ok (lines.Trial n workers)) (devices files asked store_faults (outside left out err before (faults input_faults out_faults err_faults)))
+      (devices files asked store_faults (outside left later err after (faults input_faults later_faults err_faults))) o
+
+  own : Ran (outside (Some []) (given_number 0) (given_number 0) before (faults 0 0 0)) (outside remains (given_number put) (given_number complained) after (faults 0 0 0)) (trial_run workers) (image_of n) ran
+  own = own_run n workers line file input output errors remains put complained before after ran line_is file_is none unput uncomplained r
+
+  by : (exit : Option (ℕ × Counts)) → exit_of ran ≡ exit → EndsTrial n workers put exit ran.answer out later out_faults later_faults outcome → Answers outcome
+  by None is e = subst (λ (o : Outcome). Answers o) (sym e.0)
+      (subst (λ (at : Given × ℕ). IsAnswerFor (Ok (lines.Trial n workers)) (devices files asked store_faults (outside left out err before (faults input_faults out_faults err_faults)))
+      (devices files asked store_faults (outside left at.0 err after (faults input_faults at.1 err_faults))) (outcome_of ran.answer)) (λ i. (sym e.1 i, sym e.2 i))
+      (answer_of_other n workers remains put complained before after ran own files asked store_faults left out err (faults input_faults out_faults err_faults) is))
+  by (Some (status, counts)) is e = subst (λ (o : Outcome). Answers o) (sym e.1)
+      (answer_of_exit n workers remains put complained before after ran own files asked store_faults left out later err input_faults out_faults later_faults err_faults status counts is e.0 e.2)
+
+  pub answer_of_trial : EndsTrial n workers put (exit_of ran) ran.answer out later out_faults later_faults outcome → Answers outcome
+  answer_of_trial = by (exit_of ran) refl

@@ -1,5 +1,5 @@
 -- What a walk did, as what its file means.
-use Rattle.std.proofs.Common.{◌≡◌, ◌∙◌, ℕ, ◌+◌, ◌≤◌, Bool, true, false, Option, Some, None, List, [], ◌++◌, length, IsTrue, MatchBool, Ok, refl, sym, ap, subst, arith, append_assoc}
+use Rattle.std.proofs.Common.{◌≡◌, ◌∙◌, ℕ, ◌+◌, ◌*◌, ◌≤◌, Bool, true, false, Option, Some, None, List, [], ◌++◌, length, IsTrue, MatchBool, Ok, refl, sym, ap, subst, arith, append_assoc}
 use Rattle.std.specs.Prelude.{if◌then◌else◌}
 use Rattle.asc_model.specs.Shape.{IsShape}
 use Rattle.asc_outside.specs.Outside.{IsAtEnd}
@@ -78,13 +78,17 @@ module _ (line : RunLine) (content : List ℕ) (image : loader.Image) (within : 
       → HasVisits line.limit (is_mark (settings_of line).recognised) image.start goes.visits first last line.limit (course_of_image image left)
       → AreOfVisits line.limit (is_mark (recognised_by line) (course_of_image image left)) (course_of_image image left) told
 
+  -- at most 128 guesses were made at each visit
+  abbrev pub AreFew : Type 0
+  AreFew = told.made ≤ 128 * told.asked
+
   -- where they are not, and there are none, it was run plainly
   abbrev pub IsPlain : Type 0
   IsPlain = line.workers ≡ 0 → line.report ≡ false → now.tally.given ≡ 0
 
   -- it did what its file means
-  means : AreSeen → AreSerial → IsPlain → device_of w.ended ≡ None → Means old new own line content
-  means seen serial plain going =
+  means : AreSeen → AreFew → AreSerial → IsPlain → device_of w.ended ≡ None → Means old new own line content
+  means seen few serial plain going =
       let f = goes.goes.follows going in
       let r = rest_of (world_of now new) f.known in
       let left = f.io.taken ++ r.rest in
@@ -96,7 +100,7 @@ module _ (line : RunLine) (content : List ℕ) (image : loader.Image) (within : 
       record { answer = refl; does = f.does; most = omega (arith, w.executed); steps = omega (arith, w.executed, w.skipped, f.steps) } in
       let shown : (report : Bool) → line.report ≡ report → AreTold line (Ok image) left told.executed now.count (if report then Some told else None) =
       λ report. elim report as (λ b. line.report ≡ b → AreTold line (Ok image) left told.executed now.count (if b then Some told else None)) [
-        | true ↦ λ asked. (refl, record { total = w.executed ∙ sym count_is; visits = seen asked left (f.says r.rest r.may); serial = λ alone refused. serial alone asked left count_is (f.says r.rest r.may) refused })
+        | true ↦ λ asked. (refl, record { total = w.executed ∙ sym count_is; visits = seen asked left (f.says r.rest r.may); few = few; serial = λ alone refused. serial alone asked left count_is (f.says r.rest r.may) refused })
         | false ↦ λ unasked. λ alone. omega (arith, w.executed, w.skipped, plain alone unasked)
       ] in
       let own_told : AreTold line (Ok image) left told.executed now.count own.counts =
@@ -135,12 +139,12 @@ module _ (line : RunLine) (content : List ℕ) (image : loader.Image) (within : 
         steps = omega (arith, w.executed, w.skipped, s.steps);
       }
 
-  pub ran : WorkersAreTold line own.counts workers → AreSeen → AreSerial → IsPlain → Ran old new line content outcome
-  ran beside seen serial plain =
+  pub ran : WorkersAreTold line own.counts workers → AreSeen → AreFew → AreSerial → IsPlain → Ran old new line content outcome
+  ran beside seen few serial plain =
       let device = device_of_answer-answer_at w.ended now.count in
       let limit : was.settings.limit ≡ line.limit = ap (λ (v : Walk). v.settings.limit) is in
       subst (λ (o : Outcome). Ran old new line content o) (sym w.outcome_is) (record {
-        means = λ _ none. means seen serial plain (sym device ∙ none);
+        means = λ _ none. means seen few serial plain (sym device ∙ none);
         stopped = λ which failed. stopped which (sym device ∙ failed);
         refused = λ refused. absurd (run-not_refused w.ended now.count refused);
         counts = counts-told Counts line.report w.ended now.count told;

@@ -1,5 +1,5 @@
 -- The numbers of a run, and what a trial tells of its own.
-use Rattle.std.specs.Prelude.{◌≡◌, ℕ, zero, suc, Bool, ◌+◌, ◌<◌, ◌≤◌, ◌&&◌, ◌||◌, nat_lt, List, [], length, Option, Some, None, Result, Ok, Err, if◌then◌else◌}
+use Rattle.std.specs.Prelude.{◌≡◌, ℕ, zero, suc, Bool, false, ◌+◌, ◌*◌, ◌<◌, ◌≤◌, ◌&&◌, ◌||◌, nat_lt, List, [], length, Option, Some, None, Result, Ok, Err, if◌then◌else◌}
 use Rattle.asc_elf.specs.declared.fault.ElfFault.{ElfFault}
 use Rattle.asc_elf.specs.Image as loader
 use Rattle.asc_calls.specs.GuestCall.{nothing, io_of, Out}
@@ -18,6 +18,8 @@ use Rattle.asc_run.specs.SerialRun.{Numbers, IsSerialRun}
 use Rattle.asc_run.specs.Seen.{guesses_until}
 use Rattle.asc_run.specs.Walk.{tally}
 use Rattle.asc_words.specs.declared.line.RunLine.{RunLine}
+use Rattle.asc_words.specs.declared.line.Line.{Line}
+use Rattle.asc_words.specs.declared.line.Line.TheVariants as lines
 use Rattle.asc_words.specs.declared.answer.Answer.{Answer}
 use Rattle.asc_words.specs.declared.answer.Answer.TheVariants as answers
 use Rattle.asc_words.specs.declared.answer.Counts.{Counts}
@@ -42,6 +44,12 @@ guessing_of line = record {
 -- workers run its guesses
 abbrev pub has_workers : RunLine → Bool
 has_workers line = nat_lt 0 line.workers
+
+-- a line asks for workers
+abbrev pub asks_for_workers : Line → Bool
+asks_for_workers (lines.Run line) = has_workers line
+asks_for_workers (lines.Make n) = false
+asks_for_workers (lines.Trial n workers) = nat_lt 0 workers
 
 -- Without workers, what nobody sees is not guessed: only where the numbers are reported, and a kind of guess is on.
 abbrev pub makes_guesses : RunLine → Bool
@@ -112,6 +120,8 @@ pub record AreNumbersOf (line : RunLine) (image : loader.Image) (left : List ℕ
   -- they are those of its visits
   pub visits : AreOfVisits line.limit (is_mark (recognised_by line) (course_of_image image left))
       (course_of_image image left) counts
+  -- with memory or without, at most 128 guesses were made at each visit
+  pub few : counts.made ≤ 128 * counts.asked
   -- where there are no workers and memory was never wanting, they are those of a serial run, by its definition
   pub serial : line.workers ≡ 0 → counts.refused ≡ 0
       → IsSerialRun line.limit (is_mark (recognised_by line) (course_of_image image left)) (course_of_image image left)
@@ -133,12 +143,14 @@ AreTold line load left executed count (Some counts) =
 -- These are the numbers of a run's workers beside its own. Each guess that was made was run as a job, or was left. Each
 -- job that was run ended in one of five ways. Where memory was never wanting, each guess that was due was made, or found
 -- no room, or was given up once the queue had been filled up.
--- A guess counts as full only once as many were made as the queue holds.
+-- A guess counts as full only once as many were made as the queue holds. With memory or without, those made and those
+-- full are at most 128 at each visit.
 pub record AreWorkerNumbers (guessing : Guessing) (queue : ℕ) (counts : Counts) (workers : WorkerCounts) : Type 0 where
   pub made : counts.made ≡ workers.ran + workers.left
   pub ran : workers.ran ≡ workers.stored + workers.known + workers.empty + workers.dropped + workers.stopped
   pub guesses : counts.refused ≡ 0 → counts.made + workers.full ≡ guesses_until guessing counts.asked
   pub room : 0 < workers.full → queue ≤ counts.made
+  pub few : counts.made + workers.full ≤ 128 * counts.asked
 
 -- they are told beside the numbers of a run that has workers
 abbrev pub WorkersAreTold : RunLine → Option Counts → Option WorkerCounts → Type 0

@@ -1,6 +1,7 @@
 -- What the functions of this crate promise that run a program.
-use Rattle.std.specs.Prelude.{◌≡◌, ◌≢◌, ◌⊎◌, ◌↔◌, ℕ, Bool, IsTrue, ◌+◌, ◌≤◌, List, Option, Some, None, Ok, IsSome, IfSome}
-use Rattle.asc_model.specs.Shape.{IsShape}
+use Rattle.std.specs.Prelude.{◌≡◌, ◌≢◌, ◌⊎◌, ◌↔◌, ℕ, Bool, IsTrue, ◌+◌, ◌≤◌, List, length, Option, Some, None, Ok, IsSome, IfSome}
+use Rattle.asc_model.specs.Shape.{Shape, IsShape}
+use Rattle.asc_outside.specs.Outside.{File, AsksFor, MayHold}
 use Rattle.asc_elf.specs.Image as loader
 use Rattle.asc_calls.specs.GuestCall.{Device}
 use Rattle.asc_calls.specs.World.{Outside, BlamesOnly}
@@ -8,7 +9,7 @@ use Rattle.asc_run.specs.declared.walk.Ended.{Ended}
 use Rattle.asc_run.specs.declared.walk.Counts.{Counts as WalkCounts}
 use Rattle.asc_run.specs.Execution.{device_of}
 use Rattle.asc_run.specs.Helped.{Aid}
-use Rattle.asc_run.specs.Walk.{Walk, GoesHelped, IsRaisedBy, world_of}
+use Rattle.asc_run.specs.Walk.{Walk, GoesHelped, IsRaisedBy, new_walk, world_of}
 use Rattle.asc_run.specs.Visits.{is_mark}
 use Rattle.asc_live.specs.Crew.{IsNewAid}
 use Rattle.asc_words.specs.declared.line.RunLine.{RunLine}
@@ -16,8 +17,8 @@ use Rattle.asc_words.specs.declared.answer.Answer.TheVariants as answers
 use Rattle.asc_words.specs.declared.answer.WorkerCounts.{WorkerCounts}
 use Rattle.asc_words.specs.declared.answer.Outcome.{Outcome}
 use Rattle.asc_words.specs.Answer.{outcome_of}
-use Rattle.asc_top.specs.Program.{IsStopped, answer_at, load_of}
-use Rattle.asc_top.specs.Numbers.{Means, WorkersAreTold, counts_of, guessing_of, reported_at}
+use Rattle.asc_top.specs.Program.{IsStopped, answer_at, file_limit, load_of}
+use Rattle.asc_top.specs.Numbers.{Means, WorkersAreTold, counts_of, guessing_of, reported_at, settings_of}
 use Rattle.asc_top.specs.Kinds.{Finished, IsRefusal, device_of_answer, kind_of}
 
 -- A file that is not too long was run as a line asks, or memory was wanting.
@@ -32,6 +33,23 @@ pub record Ran (old new : Outside) (line : RunLine) (content : List ℕ) (outcom
   pub shape : (image : loader.Image) → load_of line content ≡ Ok image → IsShape image.start.shape
   pub limit : IfSome outcome.counts (λ counts. counts.executed + counts.skipped ≤ line.limit)
   pub faults : BlamesOnly (device_of_answer outcome.answer) old.faults new.faults
+
+-- A file that a line names was read whole, of a store that was told so before and after.
+pub record IsRead (line : RunLine) (content : List ℕ) (files : Option (List File)) (asked : Option (List (List ℕ)))
+    (faults : ℕ) (files_after : Option (List File)) (asked_after : Option (List (List ℕ))) (faults_after : ℕ) : Type 0 where
+  pub held : MayHold files line.image content
+  pub within : length content ≤ file_limit
+  pub stay : files_after ≡ files
+  pub names : AsksFor line.image asked asked_after
+  pub no_fault : faults_after ≡ faults
+
+-- a walk is the new one of a file's image, which has this shape, as a line asks
+pub record IsWalkOf (line : RunLine) (content : List ℕ) (shape : Shape) (walk : Walk) : Type 0 where
+  pub image : loader.Image
+  pub loads : load_of line content ≡ Ok image
+  pub good : IsShape image.start.shape
+  pub shape_is : shape ≡ image.start.shape
+  pub walk_is : walk ≡ new_walk image (settings_of line)
 
 -- A walk that had not begun went to its end with a helper, which came from first to last, and the outcome tells how, with
 -- the numbers of its workers that are told.

@@ -1,11 +1,14 @@
 -- What becomes of an outcome when its text is put to the report, and of the text of a trial.
-use Rattle.std.specs.Prelude.{◌≡◌, ◌⊎◌, ℕ}
+use Rattle.std.specs.Prelude.{◌≡◌, ◌⊎◌, ◌+◌, ℕ, Option, Some, None}
 use Rattle.asc_outside.specs.Outside.{Given, PutsPart, given_after, one_more}
 use Rattle.asc_words.specs.declared.answer.Answer.{Answer}
+use Rattle.asc_words.specs.declared.answer.Counts.{Counts}
 use Rattle.asc_words.specs.declared.answer.TrialOutcome.{TrialOutcome}
 use Rattle.asc_words.specs.declared.answer.Outcome.{Outcome}
 use Rattle.asc_words.specs.declared.answer.Answer.TheVariants.{Done, ReportFault, WriteFault}
+use Rattle.asc_words.specs.Answer.{outcome_of}
 use Rattle.asc_words.specs.Report.{report_text, trial_text}
+use Rattle.asc_top.specs.Numbers.{told_by_trial}
 
 -- what a report was given, and how often it has failed
 pub record Report : Type 0 where
@@ -36,3 +39,22 @@ abbrev pub IsPut : TrialOutcome → (refused : ℕ) → (before after : Given) �
 IsPut trial refused before after faults now answered =
     ((answered ≡ Done refused) × (after ≡ given_after before (trial_text trial)) × (now ≡ faults))
     ⊎ ((answered ≡ WriteFault) × PutsPart before after (trial_text trial) × (now ≡ one_more faults))
+
+-- what is told of a trial whose guest ended with a status, put so many bytes, and whose run has these numbers
+abbrev pub told_of_trial : (n workers put status : ℕ) → Counts → TrialOutcome
+told_of_trial n workers put status counts = record {
+  n = n;
+  status = status;
+  steps = counts.executed + counts.skipped;
+  output = put;
+  counts = told_by_trial workers counts;
+}
+
+-- A trial came to this outcome, whose run was answered so: where its guest ended, the trial's text was put to a sink.
+abbrev pub EndsTrial : (n workers put : ℕ) → Option (ℕ × Counts) → (ran : Answer) → (before after : Given)
+    → (faults now : ℕ) → Outcome → Type 0
+EndsTrial n workers put None ran before after faults now outcome =
+    (outcome ≡ outcome_of ran) × (after ≡ before) × (now ≡ faults)
+EndsTrial n workers put (Some (status, counts)) ran before after faults now outcome =
+    (answered : Answer) × (outcome ≡ outcome_of answered)
+    × IsPut (told_of_trial n workers put status counts) counts.refused before after faults now answered

@@ -8,5 +8,5 @@ mod run;
 mod settings;
 mod trial;
 
-pub use asc_words::{Answer, Bad, Outcome};
-pub use program::{reported, top};
+pub use asc_words::{Answer, Bad, Line, Outcome};
+pub use program::{outcome_alone, reported, top};

@@ -1,13 +1,14 @@
-ghost use Rattle.std.specs.Prelude.{◌≡◌, ◌≢◌, map};
+ghost use Rattle.std.specs.Prelude.{◌≡◌, ◌≢◌, map, true, false, Ok, IfOk, IfErr};
 ghost use Rattle.std.specs.String.{string_bytes};
 ghost use Rattle.asc_calls.specs.World.{faults, outside};
-ghost use Rattle.asc_words.specs.Line.{line_of};
-ghost use Rattle.asc_top.specs.Answered.{Headline, IsAnswerTo, devices};
+ghost use Rattle.asc_words.specs.Line.{line_of, IsWithin};
+ghost use Rattle.asc_top.specs.Numbers.{asks_for_workers};
+ghost use Rattle.asc_top.specs.Answered.{Headline, IsAnswerFor, IsAnswerTo, devices};
 ghost use Rattle.asc_top.specs.Reported.{IsReported, report_with};
 
 use crate::make::make;
-use crate::run::run;
-use crate::trial::trial;
+use crate::run::{run_alone, run_beside};
+use crate::trial::{trial_alone, trial_beside};
 use asc_shape::{Failed, Gate, Sink, Source, Steps, Store, put_all};
 use asc_words::{Answer, Line, LineFault, Outcome, parse, text};
 use std::alloc::Global;
@@ -91,6 +92,81 @@ pub fn reported<R: Sink>(outcome: Outcome, report: &mut R) -> Answer
     }
 }
 
+/// What the words of a command line come to that ask for no worker, before it is reported: a run without any, a generated
+/// image, a trial without any, or wrong words. It starts no thread and waits for none.
+///
+/// Where the words ask for workers, it answers the line, and nothing was done.
+pub fn outcome_alone<F: Store, I: Source, O: Sink, E: Sink, L: Ledger>(
+    alloc: Global,
+    words: &[String],
+    store: &mut F,
+    input: &mut I,
+    out: &mut O,
+    err: &mut E,
+    steps: &mut Steps<L>,
+) -> Result<Outcome, Line>
+    // All holds of the outcome that an answer to these words promises.
+    ensures alone { IfOk result (IsAnswerTo (map string_bytes words.now)
+        (devices (F.files store.old) (F.asked store.old) (F.faults store.old)
+        (outside (I.left input.old) (O.given out.old) (E.given err.old) steps.old
+        (faults (I.faults input.old) (O.faults out.old) (E.faults err.old))))
+        (devices (F.files store.new) (F.asked store.new) (F.faults store.new)
+        (outside (I.left input.new) (O.given out.new) (E.given err.new) steps.new
+        (faults (I.faults input.new) (O.faults out.new) (E.faults err.new))))) }
+
+    // Or the words are a line that asks for workers, its numbers are within their bounds, and nothing was done.
+    ensures beside { IfErr result (λ line. (line_of (map string_bytes words.now) ≡ Ok line)
+        × (asks_for_workers line ≡ true)) }
+    ensures within { IfErr result IsWithin }
+    ensures nothing { IfErr result (λ _. (store.new ≡ store.old) × (input.new ≡ input.old) × (out.new ≡ out.old)
+        × (err.new ≡ err.old) × (steps.new ≡ steps.old)) }
+{
+    match parse(alloc, words) {
+        Err(LineFault::Usage(bad)) => Ok(Outcome::of(Answer::Usage(bad))),
+        Err(LineFault::Memory) => Ok(Outcome::of(Answer::Memory)),
+        Ok(line) if asks_for_workers(&line) => Err(line),
+        Ok(line) => Ok(outcome_of_alone(alloc, line, store, input, out, err, steps)),
+    }
+}
+
+/// Whether a line asks for workers.
+fn asks_for_workers(line: &Line) -> bool
+    ensures { result ≡ asks_for_workers line.now }
+{
+    match line {
+        Line::Run(run) => run.workers > 0,
+        Line::Make { .. } => false,
+        Line::Trial { workers, .. } => *workers > 0,
+    }
+}
+
+/// What a line comes to that asks for no worker, before it is reported.
+fn outcome_of_alone<F: Store, I: Source, O: Sink, E: Sink, L: Ledger>(
+    alloc: Global,
+    line: Line,
+    store: &mut F,
+    input: &mut I,
+    out: &mut O,
+    err: &mut E,
+    steps: &mut Steps<L>,
+) -> Outcome
+    requires within { IsWithin line }
+    requires none { asks_for_workers line ≡ false }
+    ensures { IsAnswerFor (Ok line)
+        (devices (F.files store.old) (F.asked store.old) (F.faults store.old)
+        (outside (I.left input.old) (O.given out.old) (E.given err.old) steps.old
+        (faults (I.faults input.old) (O.faults out.old) (E.faults err.old))))
+        (devices (F.files store.new) (F.asked store.new) (F.faults store.new)
+        (outside (I.left input.new) (O.given out.new) (E.given err.new) steps.new
+        (faults (I.faults input.new) (O.faults out.new) (E.faults err.new)))) result }
+{
+    match line {
+        Line::Run(line) => run_alone(alloc, &line, store, input, out, err, steps),
+        Line::Make { n } => make(alloc, n, out),
+        Line::Trial { n, .. } => trial_alone(alloc, n, out, steps),
+    }
+}
+
 /// What the words come to, before it is reported.
 fn outcome<
     T: Threads + Wait + Sync + Copy + Drop + Send,
@@ -119,11 +195,45 @@ fn outcome<
         (outside (I.left input.new) (O.given out.new) (E.given err.new) steps.new
         (faults (I.faults input.new) (O.faults out.new) (E.faults err.new)))) result }
 {
-    match parse(alloc, words) {
-        Err(LineFault::Usage(bad)) => Outcome::of(Answer::Usage(bad)),
-        Err(LineFault::Memory) => Outcome::of(Answer::Memory),
-        Ok(Line::Run(line)) => run(rt, alloc, &line, store, input, out, err, gate, steps),
-        Ok(Line::Make { n }) => make(alloc, n, out),
-        Ok(Line::Trial { n, workers }) => trial(rt, alloc, n, workers, out, gate, steps),
+    match outcome_alone(alloc, words, store, input, out, err, steps) {
+        Ok(outcome) => outcome,
+        Err(line) => outcome_of_beside(rt, alloc, line, store, input, out, err, gate, steps),
+    }
+}
+
+/// What a line comes to that asks for workers, before it is reported.
+fn outcome_of_beside<
+    T: Threads + Wait + Sync + Copy + Drop + Send,
+    F: Store,
+    I: Source,
+    O: Sink,
+    E: Sink,
+    G: Gate + Sync,
+    L: Ledger,
+>(
+    rt: &T,
+    alloc: Global,
+    line: Line,
+    store: &mut F,
+    input: &mut I,
+    out: &mut O,
+    err: &mut E,
+    gate: &G,
+    steps: &mut Steps<L>,
+) -> Outcome
+    requires within { IsWithin line }
+    requires some { asks_for_workers line ≡ true }
+    ensures { IsAnswerFor (Ok line)
+        (devices (F.files store.old) (F.asked store.old) (F.faults store.old)
+        (outside (I.left input.old) (O.given out.old) (E.given err.old) steps.old
+        (faults (I.faults input.old) (O.faults out.old) (E.faults err.old))))
+        (devices (F.files store.new) (F.asked store.new) (F.faults store.new)
+        (outside (I.left input.new) (O.given out.new) (E.given err.new) steps.new
+        (faults (I.faults input.new) (O.faults out.new) (E.faults err.new)))) result }
+{
+    match line {
+        Line::Run(line) => run_beside(rt, alloc, &line, store, input, out, err, gate, steps),
+        Line::Make { .. } => unreachable!(),
+        Line::Trial { n, workers } => trial_beside(rt, alloc, n, workers, out, gate, steps),
     }
 }

@@ -1,10 +1,11 @@
 //! `asc run`, and runs of a file that is at hand.
-ghost use Rattle.std.specs.Prelude.{◌≡◌, ◌<◌, ◌≤◌, ◌^◌, length, IsNone, None, Ok};
-ghost use Rattle.asc_calls.specs.World.{faults, outside};
+ghost use Rattle.std.specs.Prelude.{◌≡◌, ◌<◌, ◌≤◌, ◌^◌, length, IfErr, IfOk, IsNone, None, Ok};
+ghost use Rattle.asc_calls.specs.World.{Outside, faults, outside};
 ghost use Rattle.asc_run.specs.Helped.{aid, HasRoom};
 ghost use Rattle.asc_words.specs.Line.{IsRunWithin};
+ghost use Rattle.asc_words.specs.Answer.{outcome_of};
 ghost use Rattle.asc_top.specs.Program.{file_limit};
-ghost use Rattle.asc_top.specs.Ran.{Ran, RanBeside, Walked};
+ghost use Rattle.asc_top.specs.Ran.{IsRead, IsWalkOf, Ran, RanBeside, Walked};
 ghost use Rattle.asc_top.specs.Answered.{IsAnswerFor, devices};
 
 use crate::numbers::{answer_at, counts_of, reported_at, workers_of};
@@ -23,8 +24,34 @@ use std::thread::Threads;
 /// The greatest file that is read, in bytes: 64 MiB.
 const FILE_LIMIT: usize = 67_108_864;
 
-/// Runs the file that a line names.
-pub(crate) fn run<
+/// Runs the file that a line names, without workers.
+pub(crate) fn run_alone<F: Store, I: Source, O: Sink, E: Sink, L: Ledger>(
+    alloc: Global,
+    line: &RunLine,
+    store: &mut F,
+    input: &mut I,
+    out: &mut O,
+    err: &mut E,
+    steps: &mut Steps<L>,
+) -> Outcome
+    requires line { IsRunWithin line.now }
+    requires none { line.now.workers ≡ 0 }
+    ensures { IsAnswerFor (Ok (Line.Run line.now))
+        (devices (F.files store.old) (F.asked store.old) (F.faults store.old)
+        (outside (I.left input.old) (O.given out.old) (E.given err.old) steps.old
+        (faults (I.faults input.old) (O.faults out.old) (E.faults err.old))))
+        (devices (F.files store.new) (F.asked store.new) (F.faults store.new)
+        (outside (I.left input.new) (O.given out.new) (E.given err.new) steps.new
+        (faults (I.faults input.new) (O.faults out.new) (E.faults err.new)))) result }
+{
+    match file_of(alloc, line, store) {
+        Ok(file) => run_file_alone(alloc, line, &file, input, out, err, steps),
+        Err(answer) => Outcome::of(answer),
+    }
+}
+
+/// Runs the file that a line names, with workers beside it.
+pub(crate) fn run_beside<
     T: Threads + Wait + Sync + Copy + Drop + Send,
     F: Store,
     I: Source,
@@ -43,7 +70,8 @@ pub(crate) fn run<
     gate: &G,
     steps: &mut Steps<L>,
 ) -> Outcome
-    requires { IsRunWithin line.now }
+    requires line { IsRunWithin line.now }
+    requires some { 0 < line.now.workers }
     ensures { IsAnswerFor (Ok (Line.Run line.now))
         (devices (F.files store.old) (F.asked store.old) (F.faults store.old)
         (outside (I.left input.old) (O.given out.old) (E.given err.old) steps.old
@@ -52,20 +80,68 @@ pub(crate) fn run<
         (outside (I.left input.new) (O.given out.new) (E.given err.new) steps.new
         (faults (I.faults input.new) (O.faults out.new) (E.faults err.new)))) result }
 {
-    let mut file = Vec::new(alloc);
-    match store.read(line.image.as_str(), &mut file, FILE_LIMIT) {
-        Err(StoreFault::Failed) => Outcome::of(Answer::StoreFault),
-        Err(StoreFault::Memory) => Outcome::of(Answer::Memory),
-        Ok(Loaded::Longer) => Outcome::of(Answer::TooLong),
-        Ok(Loaded::Whole) => run_file(rt, alloc, line, &file, input, out, err, gate, steps),
+    match file_of(alloc, line, store) {
+        Ok(file) => run_file_beside(rt, alloc, line, &file, input, out, err, gate, steps),
+        Err(answer) => Outcome::of(answer),
     }
 }
 
-/// Runs a file, as a line asks.
+/// The content of the file that a line names, or the answer where it can't be run.
+fn file_of<F: Store>(alloc: Global, line: &RunLine, store: &mut F) -> Result<Vec<u8>, Answer>
+    ensures read { IfOk result (λ file. IsRead line.now file.items
+        (F.files store.old) (F.asked store.old) (F.faults store.old)
+        (F.files store.new) (F.asked store.new) (F.faults store.new)) }
+    ensures unread { IfErr result (λ answer. (guest : Outside) → IsAnswerFor (Ok (Line.Run line.now))
+        (devices (F.files store.old) (F.asked store.old) (F.faults store.old) guest)
+        (devices (F.files store.new) (F.asked store.new) (F.faults store.new) guest) (outcome_of answer)) }
+{
+    let mut file = Vec::new(alloc);
+    match store.read(line.image.as_str(), &mut file, FILE_LIMIT) {
+        Err(StoreFault::Failed) => Err(Answer::StoreFault),
+        Err(StoreFault::Memory) => Err(Answer::Memory),
+        Ok(Loaded::Longer) => Err(Answer::TooLong),
+        Ok(Loaded::Whole) => Ok(file),
+    }
+}
+
+/// Runs a file, as a line asks that has no workers.
 ///
-/// What nobody sees is not run: without workers nothing is guessed where the numbers are not reported, since guesses
-/// change nothing else then.
-pub(crate) fn run_file<
+/// What nobody sees is not run: nothing is guessed where the numbers are not reported, since guesses change nothing else
+/// then.
+pub(crate) fn run_file_alone<I: Source, O: Sink, E: Sink, L: Ledger>(
+    alloc: Global,
+    line: &RunLine,
+    file: &[u8],
+    input: &mut I,
+    out: &mut O,
+    err: &mut E,
+    steps: &mut Steps<L>,
+) -> Outcome
+    requires line { IsRunWithin line.now }
+    requires none { line.now.workers ≡ 0 }
+    requires file { length file.now ≤ file_limit }
+    ensures { Ran
+        (outside (I.left input.old) (O.given out.old) (E.given err.old) steps.old
+        (faults (I.faults input.old) (O.faults out.old) (E.faults err.old)))
+        (outside (I.left input.new) (O.given out.new) (E.given err.new) steps.new
+        (faults (I.faults input.new) (O.faults out.new) (E.faults err.new))) line.now file.now result }
+{
+    let (shape, mut walk) = match walk_of(alloc, line, file) {
+        Ok(begun) => begun,
+        Err(answer) => return Outcome::of(answer),
+    };
+    if !makes_guesses(line) {
+        let mut helper = Bare::new(Nothing::new());
+        return run_with(line.report, &mut walk, &mut helper, input, out, err, steps);
+    }
+    match Serial::new(alloc, shape, guessing_of(line)) {
+        Ok(mut helper) => run_with(line.report, &mut walk, &mut helper, input, out, err, steps),
+        Err(Memory) => Outcome::of(Answer::Memory),
+    }
+}
+
+/// Runs a file, as a line asks that has workers.
+pub(crate) fn run_file_beside<
     T: Threads + Wait + Sync + Copy + Drop + Send,
     I: Source,
     O: Sink,
@@ -84,6 +160,7 @@ pub(crate) fn run_file<
     steps: &mut Steps<L>,
 ) -> Outcome
     requires line { IsRunWithin line.now }
+    requires some { 0 < line.now.workers }
     requires file { length file.now ≤ file_limit }
     ensures { Ran
         (outside (I.left input.old) (O.given out.old) (E.given err.old) steps.old
@@ -91,26 +168,30 @@ pub(crate) fn run_file<
         (outside (I.left input.new) (O.given out.new) (E.given err.new) steps.new
         (faults (I.faults input.new) (O.faults out.new) (E.faults err.new))) line.now file.now result }
 {
+    match walk_of(alloc, line, file) {
+        Ok((shape, mut walk)) => walk_beside(
+            rt, alloc, line, shape, &mut walk, gate, input, out, err, steps,
+        ),
+        Err(answer) => Outcome::of(answer),
+    }
+}
+
+/// The new walk of a file, as a line asks, and its shape, or the answer where there is none.
+fn walk_of(alloc: Global, line: &RunLine, file: &[u8]) -> Result<(Shape, Walk), Answer>
+    requires line { IsRunWithin line.now }
+    requires file { length file.now ≤ file_limit }
+    ensures walk { IfOk result (λ begun. IsWalkOf line.now file.now begun.0 begun.1) }
+    ensures new { IfOk result (λ begun. IsNone begun.1.ended) }
+    ensures none { IfErr result (λ answer. (guest : Outside) → Ran guest guest line.now file.now (outcome_of answer)) }
+{
     let image = match read(file, 1024 * line.memory, line.version) {
         Ok(image) => image,
-        Err(fault) => return Outcome::of(Answer::Image(fault)),
+        Err(fault) => return Err(Answer::Image(fault)),
     };
     let shape = image.shape();
-    let Ok(mut walk) = Walk::new(alloc, &image, settings_of(line)) else {
-        return Outcome::of(Answer::Memory);
-    };
-    if line.workers > 0 {
-        return run_beside(
-            rt, alloc, line, shape, &mut walk, gate, input, out, err, steps,
-        );
-    }
-    if !makes_guesses(line) {
-        let mut helper = Bare::new(Nothing::new());
-        return run_with(line.report, &mut walk, &mut helper, input, out, err, steps);
-    }
-    match Serial::new(alloc, shape, guessing_of(line)) {
-        Ok(mut helper) => run_with(line.report, &mut walk, &mut helper, input, out, err, steps),
-        Err(Memory) => Outcome::of(Answer::Memory),
+    match Walk::new(alloc, &image, settings_of(line)) {
+        Ok(walk) => Ok((shape, walk)),
+        Err(Memory) => Err(Answer::Memory),
     }
 }
 
@@ -146,7 +227,7 @@ fn run_with<H: Helper, I: Source, O: Sink, E: Sink, L: Ledger>(
 }
 
 /// Runs a walk that has not begun to its end, with workers beside it, and tells their numbers where they are asked for.
-fn run_beside<
+fn walk_beside<
     T: Threads + Wait + Sync + Copy + Drop + Send,
     G: Gate + Sync,
     I: Source,

@@ -1,13 +1,13 @@
 //! `asc trial`.
-ghost use Rattle.std.specs.Prelude.{◌≡◌, ◌≤◌, List, Option, Ok, ℕ};
+ghost use Rattle.std.specs.Prelude.{◌≡◌, ◌<◌, ◌≤◌, List, Option, Ok, ℕ, ◌+◌, ◌^◌, IfSome};
 ghost use Rattle.asc_outside.specs.Outside.{File, Given};
 ghost use Rattle.asc_calls.specs.World.{faults, outside};
 ghost use Rattle.asc_top.specs.Program.{trial_run};
 ghost use Rattle.asc_top.specs.Numbers.{exit_of, told_by_trial};
 ghost use Rattle.asc_top.specs.Answered.{IsAnswerFor, devices};
-ghost use Rattle.asc_top.specs.Reported.{IsPut};
+ghost use Rattle.asc_top.specs.Reported.{EndsTrial, IsPut};
 
-use crate::run::run_file;
+use crate::run::{run_file_alone, run_file_beside};
 use asc_make::image;
 use asc_shape::{CountSink, Failed, Gate, Sink, Steps, SureSource, Version, put_all};
 use asc_words::{Answer, Counts, FileName, Line, Outcome, RunLine, TrialOutcome, trial_text};
@@ -16,9 +16,43 @@ use std::sync::Wait;
 use std::sync::ledger::Ledger;
 use std::thread::Threads;
 
-/// Runs the generated image of a number, and puts a text on its run to out. The program has no input, and what it writes
-/// is only counted.
-pub(crate) fn trial<
+/// Runs the generated image of a number without workers, and puts a text on its run to out. The program has no input,
+/// and what it writes is only counted.
+pub(crate) fn trial_alone<O: Sink, L: Ledger>(
+    alloc: Global,
+    n: u64,
+    out: &mut O,
+    steps: &mut Steps<L>,
+) -> Outcome
+    ensures { (files : Option (List File)) (asked : Option (List (List ℕ))) (store_faults : ℕ)
+        (left : Option (List ℕ)) (err : Given) (input_faults err_faults : ℕ)
+        → IsAnswerFor (Ok (Line.Trial n 0))
+        (devices files asked store_faults
+        (outside left (O.given out.old) err steps.old (faults input_faults (O.faults out.old) err_faults)))
+        (devices files asked store_faults
+        (outside left (O.given out.new) err steps.new (faults input_faults (O.faults out.new) err_faults))) result }
+{
+    let Ok(image) = image(alloc, n) else {
+        return Outcome::of(Answer::Memory);
+    };
+    let line = trial_run(alloc, 0);
+    let mut input = SureSource::new(Vec::new(alloc));
+    let mut output = CountSink::new();
+    let mut errors = CountSink::new();
+    let ran = run_file_alone(
+        alloc,
+        &line,
+        &image,
+        &mut input,
+        &mut output,
+        &mut errors,
+        steps,
+    );
+    end_trial(n, 0, &ran, output.count(), out)
+}
+
+/// Runs the generated image of a number with workers, and puts a text on its run to out, as `trial_alone`.
+pub(crate) fn trial_beside<
     T: Threads + Wait + Sync + Copy + Drop + Send,
     O: Sink,
     G: Gate + Sync,
@@ -32,7 +66,8 @@ pub(crate) fn trial<
     gate: &G,
     steps: &mut Steps<L>,
 ) -> Outcome
-    requires { workers ≤ 64 }
+    requires some { 0 < workers }
+    requires few { workers ≤ 64 }
     ensures { (files : Option (List File)) (asked : Option (List (List ℕ))) (store_faults : ℕ)
         (left : Option (List ℕ)) (err : Given) (input_faults err_faults : ℕ)
         → IsAnswerFor (Ok (Line.Trial n workers))
@@ -48,7 +83,7 @@ pub(crate) fn trial<
     let mut input = SureSource::new(Vec::new(alloc));
     let mut output = CountSink::new();
     let mut errors = CountSink::new();
-    let outcome = run_file(
+    let ran = run_file_beside(
         rt,
         alloc,
         &line,
@@ -59,14 +94,24 @@ pub(crate) fn trial<
         gate,
         steps,
     );
-    let Some((status, counts)) = exit_of(&outcome) else {
-        return Outcome::of(outcome.answer);
+    end_trial(n, workers, &ran, output.count(), out)
+}
+
+/// What a trial comes to, whose run came to `ran` and put so many bytes: where its guest ended, a text on that is put to
+/// out.
+fn end_trial<O: Sink>(n: u64, workers: usize, ran: &Outcome, put: u64, out: &mut O) -> Outcome
+    requires { IfSome ran.now.counts (λ counts. counts.executed + counts.skipped < 2 ^ 64) }
+    ensures { EndsTrial n workers put (exit_of ran.now) ran.now.answer
+        (O.given out.old) (O.given out.new) (O.faults out.old) (O.faults out.new) result }
+{
+    let Some((status, counts)) = exit_of(ran) else {
+        return Outcome::of(ran.answer);
     };
     let trial = TrialOutcome {
         n,
         status,
         steps: counts.executed + counts.skipped,
-        output: output.count(),
+        output: put,
         counts: told_by_trial(workers, counts),
     };
     Outcome::of(tell(&trial, counts.refused, out))

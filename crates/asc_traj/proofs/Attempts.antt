@@ -1,5 +1,5 @@
 -- One attempt at a step of a tracer.
-use Rattle.std.proofs.Common.{◌≡◌, ℕ, ◌≤◌, List, [], length, take, Option, Some, None, IsSome, IsNone, refl, sym, ap, ◌∙◌, arith}
+use Rattle.std.proofs.Common.{◌≡◌, ℕ, ◌-◌, ◌≤◌, Bool, if◌then◌else◌, List, [], length, take, Option, Some, None, IsSome, IsNone, refl, sym, ap, ◌∙◌, arith}
 use Rattle.std.proofs.lemmas.List.{length-take}
 use Rattle.std.specs.Option.{is_some}
 use Rattle.asc_model.specs.declared.status.Status.{Status}
@@ -9,11 +9,12 @@ use Rattle.asc_model.specs.Step.{Next, At, Call, Bad, next}
 use Rattle.asc_model.specs.Places.{places_read, writes}
 use Rattle.asc_model.specs.Reach.{step_room, why_no_step}
 use Rattle.asc_model.proofs.LawsHold.{step_writes_bytes}
+use Rattle.asc_model.proofs.Shapes.{is_same_shape-same}
 use Rattle.asc_shape.specs.Face.{Face, Marks, Untold, Told, room_of, face_after_reads, face_after_puts}
 use Rattle.asc_step.specs.declared.stepped.Stepped.{Stepped}
 use Rattle.asc_step.specs.declared.stepped.Stepped.TheVariants as answers
 use Rattle.asc_step.specs.Step.{face_after, stepped_of}
-use Rattle.asc_depvec.specs.Tracer.{Tracing, face_of, undone, touched_of}
+use Rattle.asc_depvec.specs.Tracer.{IsTracing, Tracing, face_of, undone, touched_of}
 use Rattle.asc_depvec.proofs.Limits.{limits_stay}
 use Rattle.asc_depvec.proofs.UndoneReads.{reads_are_undone}
 use Rattle.asc_traj.specs.Inside.{why_of}
@@ -62,6 +63,18 @@ back-mark t later good ends face =
     let back : take (length t.touched) later.touched ≡ t.touched = ap (λ (f : Face). touched_of f.marks) (back-face t later good ends face) in
     let size : length (take (length t.touched) later.touched) ≡ length t.touched = ap (λ (list : List (ℕ × ℕ)). length list) back in
     omega (arith, size, length-take (length t.touched) later.touched)
+
+-- the room of a tracer
+room-told : (t : Tracing) → IsTracing t → room_of (face_of t).marks ≡ t.cap - length t.touched
+room-told t is = ap (λ (b : Bool). (if b then t.cap else 0) - length t.touched) (is_same_shape-same t.state.shape t.shape is.same)
+
+-- how many places were touched where there was so much room
+pub touched-before : (t later : Tracing) (room left touched more mark : ℕ) → IsTracing t → IsTracing later → later.cap ≡ t.cap → room ≡ room_of (face_of t).marks
+    → left ≡ room_of (face_of later).marks → touched ≡ length later.touched → more ≡ room - left → mark ≡ touched - more → length t.touched ≤ length later.touched → mark ≡ length t.touched
+touched-before t later room left touched more mark is is_later same_cap was now all rose cut grew =
+    let before : room ≡ t.cap - length t.touched = was ∙ room-told t is in
+    let after : left ≡ later.cap - length later.touched = now ∙ room-told later is_later in
+    omega (arith, before, after, same_cap, all, rose, cut, is.room, is_later.room, grew)
 
 -- what an answer says of the next step
 pub why_of-stepped : (n : Next) → why_of (stepped_of n) ≡ why_no_step n

@@ -3,9 +3,9 @@ use Rattle.std.proofs.Common.{◌≡◌, ◌≢◌, ℕ, Bool, zero, suc, true, 
 use mathlib.Core.Option.{some, some-ne-none, some-injective}
 use lib.ListN.{get_elem?}
 use Rattle.atomic_table.specs.Table.{Me, Allows, Splits, keeps, opening}
-use Rattle.atomic_table.proofs.Lists.{at_set, at_snoc, set_again}
+use Rattle.atomic_table.proofs.Lists.{at_longer, at_set, at_snoc, set_again}
 use Rattle.asc_traj.specs.declared.halter.Sight.{Sight}
-use Rattle.asc_traj.specs.Halting.{first_sight, new_sight, stored, loaded, IsSighted, HaltRule}
+use Rattle.asc_traj.specs.Halting.{first_sight, new_sight, stored, loaded, IsSighted, IsThere, HaltRule}
 
 abbrev Views : (ℕ → Sight → Type 0) → List Sight → Type 0
 Views F views = (seat : ℕ) (v : Sight) → get_elem? views seat ≡ some v → F seat v
@@ -15,12 +15,21 @@ changed : (F : ℕ → Sight → Type 0) (views : List Sight) (id : ℕ) (w : Si
 changed F views id w mine others j u at = ⊎_elim (λ (x : (j ≡ id) × (w ≡ u)). subst (λ (y : ℕ × Sight). F y.0 y.1) (λ i. (sym x.0 i, x.1 i)) mine)
     (λ (x : (j ≢ id) × (get_elem? views j ≡ some u)). others j u x.0 x.1) (at_set views id j w u at)
 
+-- the halter's seat is there still
+stays : (views : List Sight) (halter id : ℕ) (old new : Sight) → get_elem? views id ≡ some old → new.halts ≡ old.halts → IsThere views halter → IsThere (set views id new) halter
+stays [] halter id old new at same there = absurd (some-ne-none there.0 (sym there.1))
+stays (x ∷ xs) zero zero old new at same there =
+    (new, refl, same ∙ ap (λ (v : Sight). v.halts) (sym (some-injective x old at) ∙ some-injective x there.0 there.1) ∙ there.2)
+stays (x ∷ xs) zero (suc id) old new at same there = there
+stays (x ∷ xs) (suc halter) zero old new at same there = there
+stays (x ∷ xs) (suc halter) (suc id) old new at same there = stays xs halter id old new at same there
+
 only : Views (IsSighted 0 false) (first_sight ∷ [])
 only zero v at = subst (IsSighted 0 false 0) (some-injective _ v at) (record { halter_is = λ _. refl; halted_is = λ _. refl; quiet = λ _. refl })
 only (suc n) v at = absurd (some-ne-none v (sym at))
 
 pub begins : HaltRule (opening (0 ∷ []) [] first_sight)
-begins = record { halter = 0; halted = false; word = refl; seats = only }
+begins = record { halter = 0; halted = false; word = refl; seats = only; there = (first_sight, refl, refl) }
 
 -- the halter stores 1
 pub stores : (slots id : ℕ) (m : Me (Unit {0}) Sight) → m.0.halts ≡ true → Allows HaltRule slots id m 0 (λ _. 1) (λ n w. (w.0 ≡ stored m.0) × (w.1 ≡ m.1))
@@ -35,6 +44,7 @@ stores slots id m mine s h homes at small =
         word = ap (λ (l : List ℕ). set l 0 1) h.word;
         seats = changed (IsSighted h.halter true) s.views id (stored m.0) (record { halter_is = fit.halter_is; halted_is = λ _. refl; quiet = λ e. absurd (true≢false e) })
             (λ j u other there. record { halter_is = (h.seats j u there).halter_is; halted_is = λ p. absurd (other ((h.seats j u there).halter_is p ∙ sym (fit.halter_is mine))); quiet = λ e. absurd (true≢false e) });
+        there = stays s.views h.halter id m.0 (stored m.0) at refl h.there;
       },
       (refl, refl),
     )
@@ -64,6 +74,7 @@ loads slots id m s h homes at small =
         halted = h.halted;
         word = subst P (sym h.word) refl;
         seats = changed (IsSighted h.halter h.halted) s.views id (loaded m.0 word) (loads_either h.halter id m.0 h.halted (h.seats id m.0 at)) (λ j u other there. h.seats j u there);
+        there = stays s.views h.halter id m.0 (loaded m.0 word) at refl h.there;
       },
       (subst Q (sym h.word) refl, refl),
     )
@@ -78,4 +89,5 @@ splits id v s h at = record {
       ⊎_elim (λ old. h.seats j u (ap (λ (l : List Sight). get_elem? l j) (sym (set_again s.views id v at)) ∙ old))
       (λ (new : new_sight ≡ u). subst (IsSighted h.halter h.halted j) new (record { halter_is = λ p. absurd (true≢false (sym p)); halted_is = λ p. absurd (true≢false (sym p)); quiet = λ _. refl }))
       (at_snoc (set s.views id v) new_sight u j there);
+  there = let kept = stays s.views h.halter id v v at refl h.there in (kept.0, at_longer (set s.views id v) (new_sight ∷ []) h.halter kept.0 kept.1, kept.2);
 }

@@ -11,37 +11,26 @@ use Rattle.asc_model.specs.Places.{cells, places_from}
 use Rattle.asc_shape.proofs.Guesses.{bytes_at, bytes_of-number_at}
 use Rattle.asc_shape.specs.Face.{status_at}
 use Rattle.asc_depvec.specs.Tracer.{HaveStatus, Tracing}
-use Rattle.asc_traj.specs.Inside.{is_read_first, is_written, mask_of, now_at, places_of_words, read_first, started, written}
+use Rattle.asc_traj.specs.Inside.{is_read_first, is_written, mask_at, mask_of, now_at, places_of_words, read_first, started, written}
 use Rattle.asc_traj.specs.Parts.{masked}
 use Rattle.asc_traj.specs.Trace.{origin_of}
 use Rattle.asc_traj.proofs.Parts.{here, masked-none, masked-suc, masked-zero}
 
 -- ---- filters of places with bytes
 
-pub filter-started : (t : Tracing) (g : ℕ → Bool) (places : List ℕ) → filter (λ cell. g cell.0) (started t places) ≡ started t (filter g places)
-filter-started t g [] = refl
-filter-started t g (place ∷ places) =
-    let rest = filter-started t g places in
+filter-paired : (f : ℕ → ℕ) (g : ℕ → Bool) (places : List ℕ) → filter (λ (cell : ℕ × ℕ). g cell.0) (map (λ p. (p, f p)) places) ≡ map (λ p. (p, f p)) (filter g places)
+filter-paired f g [] = refl
+filter-paired f g (place ∷ places) =
+    let pair : ℕ → ℕ × ℕ = λ p. (p, f p) in
+    let later = filter (λ (cell : ℕ × ℕ). g cell.0) (map pair places) in
+    let rest = filter-paired f g places in
     elim (cases_Bool (g place)) [
       | inl e ↦
-          cond-true (g place) ((place, slice_index (origin_of t).bytes place) ∷ filter (λ cell. g cell.0) (started t places)) (filter (λ cell. g cell.0) (started t places)) e ∙ ap (λ (list : List (ℕ × ℕ)). (place, slice_index (origin_of t).bytes place) ∷ list) rest
-          ∙ ap (started t) (sym (cond-true (g place) (place ∷ filter g places) (filter g places) e))
+          cond-true (g place) (pair place ∷ later) later e ∙ ap (λ (list : List (ℕ × ℕ)). pair place ∷ list) rest
+          ∙ ap (map pair) (sym (cond-true (g place) (place ∷ filter g places) (filter g places) e))
       | inr e ↦
-          cond-false (g place) ((place, slice_index (origin_of t).bytes place) ∷ filter (λ cell. g cell.0) (started t places)) (filter (λ cell. g cell.0) (started t places)) e ∙ rest
-          ∙ ap (started t) (sym (cond-false (g place) (place ∷ filter g places) (filter g places) e))
-    ]
-
-pub filter-now : (t : Tracing) (g : ℕ → Bool) (places : List ℕ) → filter (λ cell. g cell.0) (now_at t places) ≡ now_at t (filter g places)
-filter-now t g [] = refl
-filter-now t g (place ∷ places) =
-    let rest = filter-now t g places in
-    elim (cases_Bool (g place)) [
-      | inl e ↦
-          cond-true (g place) ((place, slice_index t.state.bytes place) ∷ filter (λ cell. g cell.0) (now_at t places)) (filter (λ cell. g cell.0) (now_at t places)) e ∙ ap (λ (list : List (ℕ × ℕ)). (place, slice_index t.state.bytes place) ∷ list) rest
-          ∙ ap (now_at t) (sym (cond-true (g place) (place ∷ filter g places) (filter g places) e))
-      | inr e ↦
-          cond-false (g place) ((place, slice_index t.state.bytes place) ∷ filter (λ cell. g cell.0) (now_at t places)) (filter (λ cell. g cell.0) (now_at t places)) e ∙ rest
-          ∙ ap (now_at t) (sym (cond-false (g place) (place ∷ filter g places) (filter g places) e))
+          cond-false (g place) (pair place ∷ later) later e ∙ rest
+          ∙ ap (map pair) (sym (cond-false (g place) (place ∷ filter g places) (filter g places) e))
     ]
 
 now-started : (t : Tracing) (places : List ℕ) → map {B = ℕ × ℕ} (λ (cell : ℕ × ℕ). (cell.0, slice_index t.state.bytes cell.0)) (started t places) ≡ now_at t places
@@ -50,11 +39,11 @@ now-started t (place ∷ places) = ap (λ (list : List (ℕ × ℕ)). (place, sl
 
 -- those that were read first, and those that were written, by their places
 pub read_first-is : (t : Tracing) (places : List ℕ) → read_first t (started t places) ≡ started t (filter (λ p. is_read_first (status_at t.statuses p)) places)
-read_first-is t places = filter-started t (λ p. is_read_first (status_at t.statuses p)) places
+read_first-is t places = filter-paired (λ p. slice_index (origin_of t).bytes p) (λ p. is_read_first (status_at t.statuses p)) places
 
 pub written-is : (t : Tracing) (places : List ℕ) → written t (started t places) ≡ now_at t (filter (λ p. is_written (status_at t.statuses p)) places)
 written-is t places =
-    ap (map (λ (cell : ℕ × ℕ). (cell.0, slice_index t.state.bytes cell.0))) (filter-started t (λ p. is_written (status_at t.statuses p)) places)
+    ap (map (λ (cell : ℕ × ℕ). (cell.0, slice_index t.state.bytes cell.0))) (filter-paired (λ p. slice_index (origin_of t).bytes p) (λ p. is_written (status_at t.statuses p)) places)
     ∙ now-started t (filter (λ p. is_written (status_at t.statuses p)) places)
 
 -- ---- one list of places behind another
@@ -98,7 +87,7 @@ masked-is (suc n) g mask place word bits =
     ∙ ap (λ (list : List (ℕ × ℕ)). here (g place) (place, word % 2 ^ 8) ++ list) (masked-is n g (mask / 2) (place + 1) (word / 2 ^ 8) bits.1)
     ∙ one (g place) (place, word % 2 ^ 8) (filter (λ cell. g cell.0) (cells (place + 1) (bytes_of n (word / 2 ^ 8))))
 
-pub bits-of : (g : ℕ → Bool) (p : ℕ) (a b c d : Bool) → a ≡ g p → b ≡ g (p + 1) → c ≡ g (p + 1 + 1) → d ≡ g (p + 1 + 1 + 1) → HasBits 4 (mask_of a b c d) p g
+bits-of : (g : ℕ → Bool) (p : ℕ) (a b c d : Bool) → a ≡ g p → b ≡ g (p + 1) → c ≡ g (p + 1 + 1) → d ≡ g (p + 1 + 1 + 1) → HasBits 4 (mask_of a b c d) p g
 bits-of g p true true true true e f h i = (e, (f, (h, (i, tt))))
 bits-of g p true true true false e f h i = (e, (f, (h, (i, tt))))
 bits-of g p true true false true e f h i = (e, (f, (h, (i, tt))))
@@ -115,6 +104,13 @@ bits-of g p false false true true e f h i = (e, (f, (h, (i, tt))))
 bits-of g p false false true false e f h i = (e, (f, (h, (i, tt))))
 bits-of g p false false false true e f h i = (e, (f, (h, (i, tt))))
 bits-of g p false false false false e f h i = (e, (f, (h, (i, tt))))
+
+pub mask-bits : (q : Status → Bool) (statuses : List Status) (place : ℕ) → HasBits 4 (mask_at q statuses place) place (λ p. q (status_at statuses p))
+mask-bits q statuses place =
+    let third : place + 2 ≡ place + 1 + 1 = omega arith in
+    let fourth : place + 3 ≡ place + 1 + 1 + 1 = omega arith in
+    let test = λ (p : ℕ). q (status_at statuses p) in
+    bits-of test place _ _ _ _ refl refl (ap test third) (ap test fourth)
 
 -- those of a word of one status
 each : (q : Status → Bool) (statuses : List Status) (status : Status) (place : ℕ) (b : Bool) → HaveStatus statuses status place 4 → q status ≡ b → (k : ℕ) → place ≤ k → k < place + 4 → b ≡ q (status_at statuses k)
@@ -151,7 +147,7 @@ pub pushed-writes : (t : Tracing) (place mask word : ℕ) (old new : List (ℕ �
     → new ≡ old ++ masked 4 mask place word → new ≡ old ++ written t (started t (places_from place 4))
 pushed-writes t place mask word old new bits is put =
     let g = λ (p : ℕ). is_written (status_at t.statuses p) in
-    put ∙ ap (λ (list : List (ℕ × ℕ)). old ++ list) (masked-is 4 g mask place word bits ∙ ap (filter (λ cell. g cell.0)) is ∙ filter-now t g (places_from place 4) ∙ sym (written-is t (places_from place 4)))
+    put ∙ ap (λ (list : List (ℕ × ℕ)). old ++ list) (masked-is 4 g mask place word bits ∙ ap (filter (λ cell. g cell.0)) is ∙ filter-paired (λ p. slice_index t.state.bytes p) g (places_from place 4) ∙ sym (written-is t (places_from place 4)))
 
 -- nothing was
 pub no-reads : (t : Tracing) (place : ℕ) (old : List (ℕ × ℕ)) → HasBits 4 0 place (λ p. is_read_first (status_at t.statuses p)) → AreBytes (origin_of t).bytes

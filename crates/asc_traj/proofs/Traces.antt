@@ -98,18 +98,24 @@ few_left bounds start n laps t on is fits =
     ∙ room_left bounds.cap (length t.touched) (subst (λ c. length t.touched ≤ c) on.cap is.room)
     ∙ ap (λ m. nat_lt bounds.cap (m + 32)) (length-touched n start t fits on.statuses size)
 
--- the test of bounds, by numbers of a tracer
-abbrev pub met : Bounds → (n laps : ℕ) → Tracing → Option Why
-met bounds n laps t = if laps == bounds.laps then Some whys.Lap
-    else (if n == bounds.span then Some whys.Span
-    else (if nat_lt (room_of (face_of t).marks) step_room then Some whys.Room else None))
+-- the test of bounds where too few laps are made, by numbers of a tracer
+abbrev pub met : Bounds → (n : ℕ) → Tracing → Option Why
+met bounds n t = if n == bounds.span then Some whys.Span
+    else (if nat_lt (room_of (face_of t).marks) step_room then Some whys.Room else None)
 
 pub met-bound : (bounds : Bounds) (start : State) (n laps : ℕ) (t : Tracing) → IsOnWay bounds start n laps t → IsTracing t
-    → FitPlaces (length t.state.bytes) (face_of t).marks → met bounds n laps t ≡ bound_met bounds n start
-met-bound bounds start n laps t on is fits =
-    ap (λ l. if l == bounds.laps then Some whys.Lap else (if n == bounds.span then Some whys.Span else (if nat_lt (room_of (face_of t).marks) step_room then Some whys.Room else None))) on.counted
+    → FitPlaces (length t.state.bytes) (face_of t).marks → (laps == bounds.laps) ≡ false → met bounds n t ≡ bound_met bounds n start
+met-bound bounds start n laps t on is fits few =
+    let after : Bool → Option Why = λ lap. if lap then Some whys.Lap else met bounds n t in
+    sym (ap after few) ∙ ap (λ l. after (l == bounds.laps)) on.counted
     ∙ ap (λ (b : Bool). if laps_in bounds.pc n start == bounds.laps then Some whys.Lap else (if n == bounds.span then Some whys.Span else (if b then Some whys.Room else None)))
     (few_left bounds start n laps t on is fits)
+
+-- the first bound that is met is that of laps
+pub lapped : (bounds : Bounds) (start : State) (n laps : ℕ) (t : Tracing) → IsOnWay bounds start n laps t → laps ≡ bounds.laps → bound_met bounds n start ≡ Some whys.Lap
+lapped bounds start n laps t on e =
+    ap (λ (b : Bool). if b then Some whys.Lap else (if n == bounds.span then Some whys.Span else (if nat_lt bounds.cap (touched_in n start + step_room) then Some whys.Room else None)))
+    (ap (λ l. l == bounds.laps) (sym on.counted) ∙ eq-eqb laps bounds.laps e)
 
 -- ---- ends
 
@@ -281,18 +287,17 @@ asked-next None (Some before) (Some now) n asked one = absurd asked
 asked-next (Some first) (Some before) (Some now) n asked one = omega arith
 
 -- where a bound is met it was not asked after the last step
-pub asked-bound : (a b c : Bool) (why : Why) (first now : Option ℕ) (n : ℕ) → Asked first now n
-    → (if a then Some whys.Lap else (if b then Some whys.Span else (if c then Some whys.Room else None))) ≡ Some why → Asked first now (asks_of n why)
-asked-bound a b c why first now n asked e = subst (Asked first now) (sym (by_bound a b c why e)) asked
+pub asked-bound : (b c : Bool) (why : Why) (first now : Option ℕ) (n : ℕ) → Asked first now n
+    → (if b then Some whys.Span else (if c then Some whys.Room else None)) ≡ Some why → Asked first now (asks_of n why)
+asked-bound b c why first now n asked e = subst (Asked first now) (sym (by_bound b c why e)) asked
   where
     same : (one other : Why) → Some one ≡ Some other → one ≡ other
     same one other e = cc
 
-    by_bound : (a b c : Bool) (why : Why) → (if a then Some whys.Lap else (if b then Some whys.Span else (if c then Some whys.Room else None))) ≡ Some why → asks_of n why ≡ n
-    by_bound true b c why e = ap (asks_of n) (sym (same whys.Lap why e))
-    by_bound false true c why e = ap (asks_of n) (sym (same whys.Span why e))
-    by_bound false false true why e = ap (asks_of n) (sym (same whys.Room why e))
-    by_bound false false false why e = absurd (cc)
+    by_bound : (b c : Bool) (why : Why) → (if b then Some whys.Span else (if c then Some whys.Room else None)) ≡ Some why → asks_of n why ≡ n
+    by_bound true c why e = ap (asks_of n) (sym (same whys.Span why e))
+    by_bound false true why e = ap (asks_of n) (sym (same whys.Room why e))
+    by_bound false false why e = absurd (cc)
 
 -- and where there is no next step it was
 pub asked-step : (s : Next) (why : Why) (first now : Option ℕ) (n : ℕ) → Asked first now (n + 1) → why_no_step s ≡ Some why → Asked first now (asks_of n why)

@@ -54,9 +54,15 @@ pub record IsSighted (halter : ℕ) (halted : Bool) (seat : ℕ) (v : Sight) : T
   pub halted_is : v.halts ≡ true → v.halted ≡ halted
   pub quiet : halted ≡ false → v.count ≡ 0
 
--- The rule of the word: it is 1 where the halter has asked to stop, and else 0.
+-- the seat of this number is a halter's
+abbrev pub IsThere : List Sight → (seat : ℕ) → Type 0
+IsThere views seat = (v : Sight) × (get_elem? views seat ≡ some v) × (v.halts ≡ true)
+
+-- The rule of the word: it is 1 where the halter has asked to stop, and else 0. There is one halter: the seat of this
+-- number is a halter's, and no other is.
 pub record HaltRule (s : State (Unit {0}) Sight) : Type 0 where
   pub halter : ℕ
   pub halted : Bool
   pub word : s.words ≡ (if halted then 1 else 0) ∷ []
   pub seats : (seat : ℕ) (v : Sight) → get_elem? s.views seat ≡ some v → IsSighted halter halted seat v
+  pub there : IsThere s.views halter

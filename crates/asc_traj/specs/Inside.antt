@@ -77,3 +77,8 @@ bit_of false = 0
 
 abbrev pub mask_of : (a b c d : Bool) → ℕ
 mask_of a b c d = bit_of a + 2 * bit_of b + 4 * bit_of c + 8 * bit_of d
+
+-- the mask of the four places from one on whose statuses pass a test
+abbrev pub mask_at : (Status → Bool) → List Status → (place : ℕ) → ℕ
+mask_at q statuses place = mask_of (q (status_at statuses place)) (q (status_at statuses (place + 1)))
+    (q (status_at statuses (place + 2))) (q (status_at statuses (place + 3)))

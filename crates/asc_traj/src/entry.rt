@@ -14,7 +14,7 @@ ghost use Rattle.asc_depvec.specs.Tracer.{HaveStatus, IsTracing};
 ghost use Rattle.asc_traj.specs.Content.{matches};
 ghost use Rattle.asc_traj.specs.Parts.{IsPart, all_cells, part_cells, word_place};
 ghost use Rattle.asc_traj.specs.Trace.{StandsFor, origin_of};
-ghost use Rattle.asc_traj.specs.Inside.{AreHalves, HasGrown, HasSplit, is_read_first, is_written, mask_of, now_at, places_of_words, read_first, started, written};
+ghost use Rattle.asc_traj.specs.Inside.{AreHalves, HasGrown, HasSplit, is_read_first, is_written, mask_at, mask_of, now_at, places_of_words, read_first, started, written};
 
 use crate::part::{Part, push};
 use crate::tracing::known;
@@ -217,45 +217,49 @@ fn split_word(tracer: &Tracer, word: u32, halves: &mut Halves)
             push(&mut halves.reads, word, 15, first_word(tracer, place));
             push(&mut halves.writes, word, 15, last_word(tracer, place));
         }
-        Some(Status::Untouched) | None => split_partly(tracer, word, halves),
+        Some(Status::Untouched) | None => {
+            let read = read_mask(tracer, place);
+            push(&mut halves.reads, word, read, first_word(tracer, place));
+            let written = written_mask(tracer, place);
+            push(&mut halves.writes, word, written, last_word(tracer, place));
+        }
     }
 }
 
-/// The same, place by place.
+/// Which of the four places from a place on were read first.
+///
+/// It is out of line, as `written_mask` is, and is handed no list: so the lists of the parts stay in registers.
 #[cold]
 #[inline(never)]
-fn split_partly(tracer: &Tracer, word: u32, halves: &mut Halves)
-    requires start { IsState (origin_of tracer.now) }
-    requires place { 4 * word + 4 ≤ length_of tracer.now.state.shape }
-    requires halves { AreHalves halves.old }
-    requires reads { vec_len halves.old.reads < vec_capacity halves.old.reads }
-    requires writes { vec_len halves.old.writes < vec_capacity halves.old.writes }
-    ensures halves { AreHalves halves.new }
-    ensures grown { HasGrown halves.old halves.new }
-    ensures split { HasSplit tracer.now (places_from (4 * word) 4) halves.old halves.new }
+fn read_mask(tracer: &Tracer, place: u32) -> u32
+    requires { place + 4 ≤ length_of tracer.now.state.shape }
+    ensures mask { result ≡ mask_at is_read_first tracer.now.statuses place }
+    ensures most { result < 16 }
 {
     known(tracer);
-    let place = 4 * word;
-    let statuses = [
-        tracer.status(place),
-        tracer.status(place + 1),
-        tracer.status(place + 2),
-        tracer.status(place + 3),
-    ];
-    let read = mask_of(
-        is_read_first(statuses[0]),
-        is_read_first(statuses[1]),
-        is_read_first(statuses[2]),
-        is_read_first(statuses[3]),
-    );
-    let written = mask_of(
-        is_written(statuses[0]),
-        is_written(statuses[1]),
-        is_written(statuses[2]),
-        is_written(statuses[3]),
-    );
-    push(&mut halves.reads, word, read, first_word(tracer, place));
-    push(&mut halves.writes, word, written, last_word(tracer, place));
+    mask_of(
+        is_read_first(tracer.status(place)),
+        is_read_first(tracer.status(place + 1)),
+        is_read_first(tracer.status(place + 2)),
+        is_read_first(tracer.status(place + 3)),
+    )
+}
+
+/// Which of the four places from a place on were written.
+#[cold]
+#[inline(never)]
+fn written_mask(tracer: &Tracer, place: u32) -> u32
+    requires { place + 4 ≤ length_of tracer.now.state.shape }
+    ensures mask { result ≡ mask_at is_written tracer.now.statuses place }
+    ensures most { result < 16 }
+{
+    known(tracer);
+    mask_of(
+        is_written(tracer.status(place)),
+        is_written(tracer.status(place + 1)),
+        is_written(tracer.status(place + 2)),
+        is_written(tracer.status(place + 3)),
+    )
 }
 
 /// The mask of four bytes.

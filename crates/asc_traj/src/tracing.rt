@@ -71,11 +71,12 @@ pub fn trace<H: Halt>(tracer: &mut Tracer, stop: &Stop, halt: &mut H) -> Traced
 {
     known(tracer);
     let shape = Bytes::shape(tracer);
+    let mut rare = Stepped::Went;
     let mut steps = 0;
     let mut laps = 0;
     loop {
         known(tracer);
-        if let Some(why) = bound_met(tracer, stop, steps, laps) {
+        if let Some(why) = bound_met(tracer, stop, steps) {
             return Traced { steps, why };
         }
         if halt.asked() {
@@ -84,27 +85,31 @@ pub fn trace<H: Halt>(tracer: &mut Tracer, stop: &Stop, halt: &mut H) -> Traced
                 why: Why::Stopped,
             };
         }
-        if let Some(why) = attempt::<H>(tracer, shape) {
+        if let Some(why) = attempt::<H>(tracer, shape, &mut rare) {
             return Traced { steps, why };
         }
         steps += 1;
         if tracer.pc() == stop.pc {
             laps += 1;
+            if laps == stop.laps {
+                known(tracer);
+                return Traced {
+                    steps,
+                    why: Why::Lap,
+                };
+            }
         }
     }
 }
 
-/// The first bound that is met after so many steps and laps.
+/// The first bound that is met after so many steps, where too few laps are made.
 #[inline]
-fn bound_met(tracer: &Tracer, stop: &Stop, steps: u64, laps: u64) -> Option<Why>
+fn bound_met(tracer: &Tracer, stop: &Stop, steps: u64) -> Option<Why>
     requires { tracer.now.state.shape ≡ tracer.now.shape }
-    ensures { result ≡ (if laps == stop.now.laps then Some whys.Lap
-        else (if steps == stop.now.span then Some whys.Span
-        else (if nat_lt (room_of (face_of tracer.now).marks) step_room then Some whys.Room else None))) }
+    ensures { result ≡ (if steps == stop.now.span then Some whys.Span
+        else (if nat_lt (room_of (face_of tracer.now).marks) step_room then Some whys.Room else None)) }
 {
-    if laps == stop.laps {
-        Some(Why::Lap)
-    } else if steps == stop.span {
+    if steps == stop.span {
         Some(Why::Span)
     } else if tracer.room() < LEAST_CAP {
         Some(Why::Room)
@@ -114,9 +119,9 @@ fn bound_met(tracer: &Tracer, stop: &Stop, steps: u64, laps: u64) -> Option<Why>
 }
 
 /// Tries one step of a state of this shape. Where it calls or faults it answers that, and the reads of the attempt are
-/// taken back. Traces under different halts have code of their own.
+/// taken back. Traces under different halts have code of their own. `rare` is memory for what `try_step_of` comes to.
 #[inline]
-fn attempt<H: Halt>(tracer: &mut Tracer, shape: Shape) -> Option<Why>
+fn attempt<H: Halt>(tracer: &mut Tracer, shape: Shape, rare: &mut Stepped) -> Option<Why>
     requires own { shape ≡ tracer.old.state.shape }
     requires room { step_room ≤ room_of (face_of tracer.old).marks }
     ensures ends { result ≡ why_no_step (next tracer.old.state) }
@@ -126,11 +131,16 @@ fn attempt<H: Halt>(tracer: &mut Tracer, shape: Shape) -> Option<Why>
     ensures cap { tracer.new.cap ≡ tracer.old.cap }
 {
     known(tracer);
-    let mark = tracer.mark();
-    match try_step_of::<Tracer, H>(tracer, shape) {
+    // The room was just asked for, and how many places are touched follows from it.
+    let room = tracer.room();
+    match try_step_of::<Tracer, H>(tracer, shape, rare) {
         Stepped::Went => None,
         ended => {
             known(tracer);
+            let left = tracer.room();
+            let touched = tracer.mark();
+            let more = room.saturating_sub(left);
+            let mark = touched.saturating_sub(more);
             tracer.undo(mark);
             why_of(ended)
         }

@@ -12,7 +12,7 @@ use Rattle.asc_shard.specs.declared.shard.Inserted.{Inserted}
 use Rattle.asc_shard.specs.declared.shard.Inserted.TheVariants as answers
 use Rattle.asc_shard.specs.Content.{outcome_of}
 use Rattle.asc_cache.specs.Insert.{shard_after}
-use Rattle.asc_jobs.specs.Tally.{Counts}
+use Rattle.asc_jobs.specs.Tally.{Counts, noted}
 use Rattle.asc_jobs.specs.declared.job.Job.{Job}
 use Rattle.asc_jobs.specs.declared.tally.Column.{Column}
 use Rattle.asc_jobs.specs.declared.tally.Column.TheVariants.{Stored, Known, Empty, Dropped, Stopped}
@@ -74,6 +74,17 @@ HasAsked Known before now = now ≡ before
 HasAsked Empty before now = RisesAtMostOnce before now
 HasAsked Dropped before now = now ≡ before
 HasAsked Stopped before now = now ≡ one_more before
+
+-- A worker has run a job, w being the worker before, and v afterwards: what became of the job, what its entry did, and what
+-- was counted.
+pub record HasRun {W H : Type 0} (count : H → ℕ) (content : W → Shard) (w : Worker W H) (job : Job) (v : Worker W H) : Type 0 where
+  pub column : Column
+  pub empty : column ≡ Empty → IsEmpty w job
+  pub other : (IsOfShape w.shape job → ⊥) → column ≡ Empty
+  pub steps : IsEmpty w job → column ≡ Empty
+  pub halt : HasAsked column (count w.halt) (count v.halt)
+  pub inserted : HasInserted column w job (content w.writer) (content v.writer)
+  pub tally : v.tally ≡ noted column w.tally
 
 -- ---- words of private contracts
 

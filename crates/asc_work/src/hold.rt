@@ -3,8 +3,8 @@ use std::alloc::Global;
 use std::sync::atomic::{AtomicBool, Ordering};
 use std::thread;
 
-/// A point at which a gate holds up what passes, until another point has been passed. Where a point is `Ended`, its
-/// ticket is not compared.
+/// A point at which a gate holds up what passes, until another point has come, which may be held up there in turn. Where
+/// a point is `Ended`, its ticket is not compared.
 #[derive(Clone, Copy, Debug, PartialEq, Eq)]
 pub struct Hold {
     /// The point that is held up.
@@ -17,11 +17,12 @@ pub struct Hold {
     pub other: u64,
 }
 
-// A hold, and whether the point that it waits for has been passed.
+// A hold, whether the point that it waits for has come, and whether it has held its own point until then.
 #[derive(Drop)]
 struct Waiting {
     hold: Hold,
-    passed: AtomicBool,
+    came: AtomicBool,
+    held: AtomicBool,
 }
 
 /// A gate that holds up some points, for tests. It waits for so many turns at most, and then gives up.
@@ -39,7 +40,8 @@ impl HoldGate {
         for &hold in holds {
             waiting.push(Waiting {
                 hold,
-                passed: AtomicBool::new(false),
+                came: AtomicBool::new(false),
+                held: AtomicBool::new(false),
             })?;
         }
         Ok(HoldGate {
@@ -49,15 +51,26 @@ impl HoldGate {
         })
     }
 
+    /// Whether each hold has held: its point came, and went on once the other had come. A hold whose point never came has
+    /// not held.
+    pub fn all_held(&self) -> bool {
+        !self.ran_out()
+            && self
+                .holds
+                .iter()
+                .all(|waiting| waiting.held.load(Ordering::SeqCst))
+    }
+
     /// Whether a hold has lasted for all turns.
     pub fn ran_out(&self) -> bool {
         self.given_up.load(Ordering::SeqCst)
     }
 
-    // Waits until the point of a hold has been passed.
+    // Waits until the other point of a hold has come.
     fn wait(&self, waiting: &Waiting) {
         for _ in 0..self.turns {
-            if waiting.passed.load(Ordering::SeqCst) {
+            if waiting.came.load(Ordering::SeqCst) {
+                waiting.held.store(true, Ordering::SeqCst);
                 return;
             }
             thread::yield_now();
@@ -69,13 +82,13 @@ impl HoldGate {
 impl Gate for HoldGate {
     fn pass(&self, point: Point, ticket: u64) {
         for waiting in &self.holds {
-            if is_at(waiting.hold.at, waiting.hold.ticket, point, ticket) {
-                self.wait(waiting);
+            if is_at(waiting.hold.until, waiting.hold.other, point, ticket) {
+                waiting.came.store(true, Ordering::SeqCst);
             }
         }
         for waiting in &self.holds {
-            if is_at(waiting.hold.until, waiting.hold.other, point, ticket) {
-                waiting.passed.store(true, Ordering::SeqCst);
+            if is_at(waiting.hold.at, waiting.hold.ticket, point, ticket) {
+                self.wait(waiting);
             }
         }
     }

@@ -206,7 +206,7 @@ fn run_two<R: Abort + Threads + Wait + Sync + Copy + Drop + Send>(rt: &R, alloc:
         },
     );
     let taken = team.take_in(rt, giver);
-    assert!(rt; !gate.ran_out());
+    assert!(rt; gate.all_held());
     assert_eq!(rt;
         (taken.tally.ran, taken.tally.stored, taken.left),
         (2, 2, 0)

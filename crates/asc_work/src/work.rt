@@ -1,5 +1,8 @@
-ghost use Rattle.std.specs.Prelude.{◌<◌, ◌≤◌, ◌^◌};
+ghost use Rattle.std.specs.Prelude.{◌≡◌, ◌<◌, ◌≤◌, ◌^◌, true};
+ghost use Rattle.asc_jobs.specs.declared.job.Job.{Job};
+ghost use Rattle.asc_jobs.specs.Jobs.{after_pop};
 ghost use Rattle.asc_work.specs.Posts.{HasRisen, HasWorked};
+ghost use Rattle.asc_work.specs.Worker.{HasRun};
 
 use crate::Worker;
 use asc_cache::Insert;
@@ -37,7 +40,7 @@ pub fn work_loop<R: Wait, W: Insert + Drop, H: Halt + Drop, G: Gate>(
     unreachable!()
 }
 
-// Takes a job and runs it. It answers whether there was one.
+// Takes a job and runs that very job. It answers whether there was one.
 fn run_next<R: Wait, W: Insert + Drop, H: Halt + Drop, G: Gate>(
     rt: &R,
     worker: &mut Worker<W, H>,
@@ -47,6 +50,8 @@ fn run_next<R: Wait, W: Insert + Drop, H: Halt + Drop, G: Gate>(
     requires { worker.old.tally.ran < 2 ^ 57 }
     ensures count { H.count worker.old.halt ≤ H.count worker.new.halt }
     ensures worked { HasWorked worker.old taker.old worker.new taker.new }
+    ensures ran { result ≡ true → (job : Job) × (taker.new ≡ after_pop taker.old job)
+        × HasRun H.count W.content worker.old job worker.new }
 {
     match taker.pop(rt) {
         Some(job) => {

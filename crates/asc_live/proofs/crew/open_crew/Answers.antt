@@ -1,22 +1,13 @@
 use Rattle.std.proofs.Common.{◌≡◌, sym, ap, subst, ◌∙◌, ◌+◌, All, length}
-use Rattle.asc_cache.specs.Cache.{ShardReaders, IsOwnReader}
+use Rattle.asc_cache.specs.Cache.{ShardReaders}
 use Rattle.asc_live.proofs.Crews.{own_readers_of}
 use Rattle.asc_work.proofs.Posts.{all_at}
-use Rattle.asc_live.specs.Crew.{HasBoundsOf}
+use Rattle.asc_live.specs.Crew.{HasBoundsOf, IsWriterOf}
 use Rattle.asc_live.proofs.crew.open_crew.Goals as goal
 
 pub returns-clause-ready : goal.returns-clause-ready
 returns-clause-ready g c =
     let opened = c.in_ok-giver.ensures in
-    let writers = c.in_ok-workers.ensures.number ∙ ap length c.split-writers.ensures.writers ∙ c.in_ok-open.ensures.opened.writer_count in record {
-      queue = c.in_ok-team.ensures.queue;
-      parts = opened.parts ∙ ap (λ n. n + 1) (sym (c.in_ok-team.ensures.posts ∙ writers));
-      none_pushed = opened.empty;
-      none_asked = ap (λ (r : ShardReaders). r.tally) c.split-writers.ensures.readers ∙ c.in_ok-open.ensures.tally;
-    }
-
-pub returns-clause-asked : goal.returns-clause-asked
-returns-clause-asked g c =
     let cache = c.in_ok-open.ensures.opened in let halts = c.in_ok-halter.ensures in
     let writers = c.in_ok-workers.ensures.number ∙ ap length c.split-writers.ensures.writers ∙ cache.writer_count in
     let readers = c.split-writers.result.1.readers in
@@ -24,10 +15,14 @@ returns-clause-asked g c =
     let wakers = c.in_ok-team.ensures.wakers ∙ writers in record {
       workers = c.in_ok-team.ensures.posts ∙ writers;
       bounds = all_at (HasBoundsOf c.args.shape c.args.guessing) posts (subst (All (HasBoundsOf c.args.shape c.args.guessing)) (sym manned) c.in_ok-workers.ensures.bounds);
-      capacity = c.in_ok-giver.ensures.bound;
+      queue = c.in_ok-team.ensures.queue;
+      capacity = opened.bound;
+      parts = opened.parts ∙ ap (λ n. n + 1) (sym (c.in_ok-team.ensures.posts ∙ writers));
+      none_pushed = opened.empty;
       shards = ap (λ (r : ShardReaders). length r.readers) c.split-writers.ensures.readers ∙ cache.reader_count;
-      writers = all_at (λ w. IsOwnReader w.writer readers) posts (subst (All (λ w. IsOwnReader w.writer readers)) (sym manned)
-          (c.in_ok-workers.ensures.writers readers (own_readers_of c.args.crew.workers 1024 c.split-writers.result.0.items c.split-writers.result.1 c.split-writers.ensures.writers c.split-writers.ensures.readers cache)));
+      writers = all_at (λ w. IsWriterOf readers w.writer) posts (subst (All (λ w. IsWriterOf readers w.writer)) (sym manned)
+          (c.in_ok-workers.ensures.writers readers (own_readers_of c.args.crew.workers c.split-writers.result.0.items c.split-writers.result.1 c.split-writers.ensures.writers c.split-writers.ensures.readers cache)));
+      none_asked = ap (λ (r : ShardReaders). r.tally) c.split-writers.ensures.readers ∙ c.in_ok-open.ensures.tally;
       running = halts.running;
       flags = all_at (λ w. w.halt.word ≡ c.in_ok-halter.halter.word) posts (subst (All (λ w. w.halt.word ≡ c.in_ok-halter.halter.word)) (sym manned)
           (c.in_ok-workers.ensures.flags c.in_ok-halter.halter.word (λ k d l. ap (λ f. f.word) (halts.each k d l))));

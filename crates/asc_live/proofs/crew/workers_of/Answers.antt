@@ -1,9 +1,8 @@
 use Rattle.std.proofs.Common.{◌≡◌, [], ◌∷◌, ◌++◌, ◌∙◌, All, sym, ap, subst, arith}
 use Rattle.std.proofs.lemmas.List.Elements.{All-push}
-use Rattle.asc_cache.specs.Cache.{IsOwnReader}
 use Rattle.asc_jobs.specs.Tally.{no_jobs}
 use Rattle.asc_work.proofs.Posts.{all_popped, is_popped, one_less}
-use Rattle.asc_live.specs.Crew.{HasBoundsOf}
+use Rattle.asc_live.specs.Crew.{HasBoundsOf, IsWriterOf}
 use Rattle.asc_live.proofs.crew.workers_of.Goals as goal
 
 pub loop-writer-preserved : goal.loop-writer-preserved
@@ -25,10 +24,10 @@ loop-writer-preserved g c =
           (ap (λ w. w.shape) c.in-Ok.ensures.made, ap (λ w. w.laps) c.in-Ok.ensures.made, ap (λ w. w.span) c.in-Ok.ensures.made)),
       λ word h. let s = all_popped (λ f. f.word ≡ word) flags rest_flags c.in-Some-pop.flag popped_flag (inv.4 word h).0 in
           (s.0, subst (All (λ w. w.halt.word ≡ word)) (sym pushed) (All-push (λ w. w.halt.word ≡ word) workers w (inv.4 word h).1 (ap (λ w. w.halt.word) c.in-Ok.ensures.made ∙ s.1))),
-      λ readers h. let s = all_popped (λ w. IsOwnReader w readers) writers rest_writers c.in-Some.writer popped_writer (inv.5 readers h).0 in (
+      λ readers h. let s = all_popped (IsWriterOf readers) writers rest_writers c.in-Some.writer popped_writer (inv.5 readers h).0 in (
         s.0,
-        subst (All (λ w. IsOwnReader w.writer readers)) (sym pushed) (All-push (λ w. IsOwnReader w.writer readers) workers w (inv.5 readers h).1
-            (subst (λ w. IsOwnReader w readers) (sym (ap (λ w. w.writer) c.in-Ok.ensures.made)) s.1)),
+        subst (All (λ w. IsWriterOf readers w.writer)) (sym pushed) (All-push (λ w. IsWriterOf readers w.writer) workers w (inv.5 readers h).1
+            (subst (λ w. IsWriterOf readers w) (sym (ap (λ w. w.writer) c.in-Ok.ensures.made)) s.1)),
       ),
     )
 

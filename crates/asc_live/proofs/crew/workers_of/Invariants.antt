@@ -1,8 +1,8 @@
 use Rattle.std.proofs.Common.{◌≡◌, ◌+◌, List, All, length}
 use Rattle.atomic_table.specs.Seated.{TableId}
-use Rattle.asc_cache.specs.Cache.{ShardReader, IsOwnReader}
+use Rattle.asc_cache.specs.Cache.{ShardReader}
 use Rattle.asc_jobs.specs.Tally.{no_jobs}
-use Rattle.asc_live.specs.Crew.{HasBoundsOf}
+use Rattle.asc_live.specs.Crew.{HasBoundsOf, IsWriterOf}
 use Rattle.asc_live.proofs.crew.workers_of.Given as goal
 
 abbrev pub invariant-loop-writer : goal.invariant-loop-writer
@@ -13,8 +13,8 @@ invariant-loop-writer g l =
     × All (HasBoundsOf l.initial.shape l.initial.guessing) l.workers.items
     × ((word : TableId) → All (λ f. f.word ≡ word) l.initial.flags.items
     → All (λ f. f.word ≡ word) l.flags.items × All (λ w. w.halt.word ≡ word) l.workers.items)
-    × ((readers : List ShardReader) → All (λ w. IsOwnReader w readers) l.initial.writers.items
-    → All (λ w. IsOwnReader w readers) l.writers.items × All (λ w. IsOwnReader w.writer readers) l.workers.items)
+    × ((readers : List ShardReader) → All (IsWriterOf readers) l.initial.writers.items
+    → All (IsWriterOf readers) l.writers.items × All (λ w. IsWriterOf readers w.writer) l.workers.items)
 
 abbrev pub decreases-loop-writer : goal.decreases-loop-writer
 decreases-loop-writer g l = length l.writers.items

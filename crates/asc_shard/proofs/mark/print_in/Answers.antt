@@ -1,8 +1,7 @@
 use Rattle.std.proofs.Common.{◌∙◌, ℕ, ◌+◌, ◌*◌, ◌/◌, ◌%◌, ◌^◌, below_more, get_or, slice_index, take, ap, arith}
 use Rattle.asc_traj.specs.Parts.{all_cells}
 use Rattle.asc_traj.proofs.Parts.{part}
-use Rattle.asc_shard.specs.declared.mark.TheConstants.{FACTORS}
-use Rattle.asc_shard.specs.Marks.{fingerprint}
+use Rattle.asc_shard.specs.Marks.{factor, fingerprint}
 use Rattle.asc_shard.proofs.Marks.{first-of-entry, print-in-more}
 use Rattle.asc_shard.proofs.mark.print_in.Goals as goal
 
@@ -16,8 +15,8 @@ loop-i-preserved c =
       most = omega arith;
       low = below_more _ _ c.loop-i.invariant.low c.if-parts-i-lt512.true;
       print = c.added-print.ensures
-          ∙ ap (λ (n : ℕ). (n + c.of.result * slice_index FACTORS (p.at / 16)) % 2 ^ 64) c.loop-i.invariant.print
-          ∙ ap (λ (n : ℕ). (fingerprint (λ (cell : ℕ × ℕ). slice_index s.bytes cell.0) (all_cells (take i parts)) + n * slice_index FACTORS (p.at / 16)) % 2 ^ 64) c.of.ensures
+          ∙ ap (λ (n : ℕ). (n + c.of.result * factor (p.at / 16)) % 2 ^ 64) c.loop-i.invariant.print
+          ∙ ap (λ (n : ℕ). (fingerprint (λ (cell : ℕ × ℕ). slice_index s.bytes cell.0) (all_cells (take i parts)) + n * factor (p.at / 16)) % 2 ^ 64) c.of.ensures
           ∙ print-in-more s.bytes parts i (part 0 0) c.loop-i-test.true c.shape.ensures.state.bytes;
     }
 

@@ -2,8 +2,7 @@ use Rattle.std.proofs.Common.{◌∙◌, ℕ, ◌+◌, ◌*◌, ◌/◌, ◌%◌
 use Rattle.std.proofs.lemmas.List.{take_all}
 use Rattle.asc_traj.specs.Parts.{all_cells}
 use Rattle.asc_traj.proofs.Parts.{part}
-use Rattle.asc_shard.specs.declared.mark.TheConstants.{FACTORS}
-use Rattle.asc_shard.specs.Marks.{fingerprint}
+use Rattle.asc_shard.specs.Marks.{factor, fingerprint}
 use Rattle.asc_shard.proofs.Marks.{print-more}
 use Rattle.asc_shard.proofs.mark.print_of.Goals as goal
 
@@ -12,7 +11,7 @@ loop-part-preserved c =
     let parts = c.args.parts.now in
     let i = c.loop-part.part-index in
     let p = get_or parts i (part 0 0) in
-    c.added-print.ensures ∙ ap (λ (n : ℕ). (n + p.word * slice_index FACTORS (p.at / 16)) % 2 ^ 64) c.loop-part.invariant
+    c.added-print.ensures ∙ ap (λ (n : ℕ). (n + p.word * factor (p.at / 16)) % 2 ^ 64) c.loop-part.invariant
     ∙ print-more parts i (part 0 0) c.loop-part-test.true (c.requires.parts i (part 0 0) c.loop-part-test.true)
 
 pub returns : goal.returns

@@ -1,37 +1,26 @@
--- What a walk beside workers comes to.
-use Rattle.std.proofs.Common.{◌≡◌, ◌∙◌, sym, ap, subst, inl}
+-- What a line with workers comes to, whose file was read or not.
+use Rattle.std.proofs.Common.{◌≡◌, ℕ, List, Ok, subst, sym, arith}
+use Rattle.asc_outside.specs.Outside.{MayHold}
 use Rattle.asc_calls.specs.World.{faults, outside}
-use Rattle.asc_traj.specs.declared.guessing.Guessing.{Guessing}
-use Rattle.asc_live.specs.Crew.{WentBeside}
-use Rattle.asc_live.specs.declared.crew.Crew.{Crew}
-use Rattle.asc_words.specs.declared.answer.Counts.{Counts}
-use Rattle.asc_words.specs.declared.answer.WorkerCounts.{WorkerCounts}
+use Rattle.asc_words.specs.declared.line.Line.TheVariants as lines
 use Rattle.asc_words.specs.declared.answer.Outcome.{Outcome}
-use Rattle.asc_top.specs.Program.{answer_at}
-use Rattle.asc_top.specs.Numbers.{counts_of, guessing_of, reported_at}
-use Rattle.asc_top.specs.Workers.{workers_of}
-use Rattle.asc_top.specs.Ran.{WalkedBeside}
-use Rattle.asc_top.proofs.Beside.{walked_beside}
+use Rattle.asc_top.specs.Answered.{IsAnswerFor, devices}
+use Rattle.asc_top.proofs.Runs.{answer_of_run}
 use Rattle.asc_top.proofs.run.run_beside.Goals as goal
 
-pub returns : goal.returns
-returns g c =
-    let line = c.args.line.now in
-    let worked = c.in-Ok.worked in
-    let counts = c.counts-walked.result in
-    let told = c.counts-walked.ensures in
-    let old = outside (g.I.Source.left c.args.input.now) (g.O.Sink.given c.args.out.now) (g.E.Sink.given c.args.err.now) c.args.steps.now
+pub returns-in-Ok : goal.returns-in-Ok
+returns-in-Ok g c =
+    let read = c.in-Ok.ensures.read in
+    let file : c.in-Ok.file.items ≡ c.deref.result.now = sym c.deref.ensures.value in
+    answer_of_run c.args.line.now c.deref.result.now _ _ c.run_file_beside.result
+    (subst (λ (f : List ℕ). MayHold (g.F.Store.files c.args.store.now) c.args.line.now.image f) file read.held)
+    (omega (arith, c.deref.ensures.len, read.within)) c.run_file_beside.ensures read.stay read.names read.no_fault
+
+pub returns-in-Err : goal.returns-in-Err
+returns-in-Err g c =
+    let guest = outside (g.I.Source.left c.args.input.now) (g.O.Sink.given c.args.out.now) (g.E.Sink.given c.args.err.now) c.args.steps.now
     (faults (g.I.Source.faults c.args.input.now) (g.O.Sink.faults c.args.out.now) (g.E.Sink.faults c.args.err.now)) in
-    let new = outside (g.I.Source.left c.go_beside.new.input) (g.O.Sink.given c.go_beside.new.out) (g.E.Sink.given c.go_beside.new.err) c.go_beside.new.steps
-    (faults (g.I.Source.faults c.go_beside.new.input) (g.O.Sink.faults c.go_beside.new.out) (g.E.Sink.faults c.go_beside.new.err)) in
-    let went : WentBeside (guessing_of line) line.queue c.args.walk.now c.go_beside.new.walk old new worked =
-    subst (λ (crew : Crew). WentBeside (guessing_of line) crew.queue c.args.walk.now c.go_beside.new.walk old new worked) c.crew_of.ensures
-    (subst (λ (guessing : Guessing). WentBeside guessing c.crew_of.result.queue c.args.walk.now c.go_beside.new.walk old new worked) c.guessing_of.ensures c.in-Ok.ensures.went) in
-    let answer : c.answer_at.result ≡ answer_at worked.ended counts.count = c.answer_at.ensures in
-    let numbers : c.reported_at.result ≡ reported_at line.report worked.ended (counts_of counts worked.made worked.refused) =
-    c.reported_at.ensures ∙ ap (λ (t : Counts). reported_at line.report worked.ended t) c.counts_of-counts.ensures in
-    let workers : c.reported_at-2.result ≡ reported_at line.report worked.ended (workers_of worked) =
-    c.reported_at-2.ensures ∙ ap (λ (t : WorkerCounts). reported_at line.report worked.ended t) c.workers_of.ensures in
-    inl (subst (λ (o : Outcome). WalkedBeside line c.args.walk.now c.go_beside.new.walk old new o)
-    (λ i. record { answer = sym answer i; counts = sym numbers i; workers = sym workers i })
-    (walked_beside line c.args.walk.now c.go_beside.new.walk old new worked counts went told.count told.executed told.skipped told.asked told.hits c.requires.some))
+    subst (λ (outcome : Outcome). IsAnswerFor (Ok (lines.Run c.args.line.now))
+    (devices (g.F.Store.files c.args.store.now) (g.F.Store.asked c.args.store.now) (g.F.Store.faults c.args.store.now) guest)
+    (devices (g.F.Store.files c.file_of.new.store) (g.F.Store.asked c.file_of.new.store) (g.F.Store.faults c.file_of.new.store) guest) outcome) (sym c.of.ensures)
+    (c.in-Err.ensures.unread guest)

@@ -1,10 +1,11 @@
-use Rattle.std.proofs.Common.{◌*◌, refl, subst}
+use Rattle.std.proofs.Common.{ℕ, ◌*◌, Bool, refl, sym, subst}
 use Rattle.asc_model.specs.declared.status.Status.{Status}
 use Rattle.asc_model.specs.declared.status.Status.TheVariants.{Read, Written, ReadWritten}
+use Rattle.asc_shape.specs.Face.{status_at}
 use Rattle.asc_depvec.specs.Tracer.{HaveStatus}
 use Rattle.asc_traj.specs.Inside.{is_read_first, is_written}
 use Rattle.asc_traj.specs.Parts.{all_cells}
-use Rattle.asc_traj.proofs.Splits.{all-bits, no-bits, no-reads, no-writes, pushed-reads, pushed-writes}
+use Rattle.asc_traj.proofs.Splits.{HasBits, all-bits, mask-bits, no-bits, no-reads, no-writes, pushed-reads, pushed-writes}
 use Rattle.asc_traj.proofs.entry.split_word.Goals as goal
 
 pub returns-in-Some-Read-clause-split : goal.returns-in-Some-Read-clause-split
@@ -39,4 +40,17 @@ returns-in-Some-ReadWritten-clause-split c =
       reads = pushed-reads t place 15 c.first_word.result (all_cells old.reads.items) _ (all-bits is_read_first t.statuses ReadWritten place have refl) c.first_word.ensures c.push-in-Some-ReadWritten.ensures.cells;
       writes = pushed-writes t place 15 c.last_word-in-Some-ReadWritten.result (all_cells old.writes.items) _ (all-bits is_written t.statuses ReadWritten place have refl) c.last_word-in-Some-ReadWritten.ensures
           c.push-in-Some-ReadWritten-2.ensures.cells;
+    }
+
+pub returns-in-Some-Untouched-clause-split : goal.returns-in-Some-Untouched-clause-split
+returns-in-Some-Untouched-clause-split c =
+    let t = c.args.tracer.now in
+    let place = 4 * c.args.word in
+    let old = c.args.halves.now in
+    let has = λ (q : Status → Bool) (m : ℕ). HasBits 4 m place (λ p. q (status_at t.statuses p)) in
+    record {
+      reads = pushed-reads t place c.read_mask-read.result c.first_word-in-Some-Untouched.result (all_cells old.reads.items) _
+          (subst (has is_read_first) (sym c.read_mask-read.ensures.mask) (mask-bits is_read_first t.statuses place)) c.first_word-in-Some-Untouched.ensures c.push-in-Some-Untouched.ensures.cells;
+      writes = pushed-writes t place c.written_mask-written.result c.last_word-in-Some-Untouched.result (all_cells old.writes.items) _
+          (subst (has is_written) (sym c.written_mask-written.ensures.mask) (mask-bits is_written t.statuses place)) c.last_word-in-Some-Untouched.ensures c.push-in-Some-Untouched-2.ensures.cells;
     }

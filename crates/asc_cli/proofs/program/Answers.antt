@@ -1,0 +1,10 @@
+-- The status of the words that the system gave, or of their refusal.
+use Rattle.std.proofs.Common.{ap, inr}
+use Rattle.asc_cli.proofs.Handed.{of-given, refused-over-system}
+use Rattle.asc_cli.proofs.program.Goals as goal
+
+pub returns-in-Ok : goal.returns-in-Ok
+returns-in-Ok g c = of-given c.args.given _ _ _ c.deref.ensures.value c.in-Ok.ensures.given c.run.ensures
+
+pub returns-in-Err : goal.returns-in-Err
+returns-in-Err g c = inr (c.in-Err.refusal, c.in-Err.ensures.refused, (_, refused-over-system _ _ _ _ (ap (λ sink. sink.faults) c.new-in-Err.ensures) c.refuse.ensures))

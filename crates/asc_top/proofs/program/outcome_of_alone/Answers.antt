@@ -1,0 +1,33 @@
+-- What a line comes to that asks for no worker.
+use Rattle.std.proofs.Common.{◌≡◌, ◌∙◌, ℕ, Ok, false, nat_lt, ap, subst, sym, arith}
+use Rattle.std.proofs.lemmas.Bool.Decides.{nat_tests}
+use Rattle.asc_calls.specs.World.{faults, outside}
+use Rattle.asc_words.specs.declared.line.Line.{Line}
+use Rattle.asc_words.specs.declared.line.Line.TheVariants as lines
+use Rattle.asc_top.specs.Numbers.{asks_for_workers}
+use Rattle.asc_top.specs.Answered.{IsAnswerFor, devices}
+use Rattle.asc_top.proofs.program.outcome_of_alone.Goals as goal
+
+none_above : (workers : ℕ) → nat_lt 0 workers ≡ false → workers ≡ 0
+none_above workers none = grind (arith, nat_tests)
+
+pub returns-in-Make : goal.returns-in-Make
+returns-in-Make g c =
+    let old = outside (g.I.Source.left c.args.input.now) (g.O.Sink.given c.args.out.now) (g.E.Sink.given c.args.err.now) c.args.steps.now
+    (faults (g.I.Source.faults c.args.input.now) (g.O.Sink.faults c.args.out.now) (g.E.Sink.faults c.args.err.now)) in
+    let new = outside (g.I.Source.left c.args.input.now) (g.O.Sink.given c.make.new.out) (g.E.Sink.given c.args.err.now) c.args.steps.now
+    (faults (g.I.Source.faults c.args.input.now) (g.O.Sink.faults c.make.new.out) (g.E.Sink.faults c.args.err.now)) in
+    subst (λ (line : Line). IsAnswerFor (Ok line) (devices (g.F.Store.files c.args.store.now) (g.F.Store.asked c.args.store.now) (g.F.Store.faults c.args.store.now) old)
+    (devices (g.F.Store.files c.args.store.now) (g.F.Store.asked c.args.store.now) (g.F.Store.faults c.args.store.now) new) c.make.result)
+    (sym c.in-Make.is) (c.make.ensures _ _ _ _ _ _ _ _)
+
+pub returns-in-Trial : goal.returns-in-Trial
+returns-in-Trial g c =
+    let none = none_above c.in-Trial.workers (ap asks_for_workers (sym c.in-Trial.is) ∙ c.requires.none) in
+    let old = outside (g.I.Source.left c.args.input.now) (g.O.Sink.given c.args.out.now) (g.E.Sink.given c.args.err.now) c.args.steps.now
+    (faults (g.I.Source.faults c.args.input.now) (g.O.Sink.faults c.args.out.now) (g.E.Sink.faults c.args.err.now)) in
+    let new = outside (g.I.Source.left c.args.input.now) (g.O.Sink.given c.trial_alone.new.out) (g.E.Sink.given c.args.err.now) c.trial_alone.new.steps
+    (faults (g.I.Source.faults c.args.input.now) (g.O.Sink.faults c.trial_alone.new.out) (g.E.Sink.faults c.args.err.now)) in
+    subst (λ (line : Line). IsAnswerFor (Ok line) (devices (g.F.Store.files c.args.store.now) (g.F.Store.asked c.args.store.now) (g.F.Store.faults c.args.store.now) old)
+    (devices (g.F.Store.files c.args.store.now) (g.F.Store.asked c.args.store.now) (g.F.Store.faults c.args.store.now) new) c.trial_alone.result)
+    (sym (c.in-Trial.is ∙ ap (λ workers. lines.Trial c.in-Trial.n workers) none)) (c.trial_alone.ensures _ _ _ _ _ _ _)
