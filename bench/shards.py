@@ -1,7 +1,7 @@
 #!/usr/bin/env python3
 """Times look-ups in a shard beside a scan of a list of entries, outside the gate.
 
-    python3 bench/shards.py
+    python3 bench/shards.py [--count]
 
 A program over `asc_shard` is added to a copy of the crates under it in a temporary folder, proved and built there with
 `rt run`, and run. It makes 1,024 entries of a loop over 272 bytes of memory, and looks for the longest that matches a
@@ -16,9 +16,14 @@ answer it prints the processor's nanoseconds of a look-up, the least of three ru
     hit   one of the entries matches the state
     miss  none does
 
+With --count it prints the processor's instructions, as `valgrind --tool=callgrind` counts them: of a look-up that finds
+none and of one that finds an entry, by `Shard::find` and by the scan, and of an insertion into the full shard with the
+question whether the entry is held. Long copies of the C library are counted as wide moves.
+
 It ends with an error where an answer is not the one that it must be, or the last entry does not read so many parts of words.
 """
 
+import os
 import resource
 import shutil
 import subprocess
@@ -26,7 +31,10 @@ import sys
 import tempfile
 from pathlib import Path
 
-ROOT = Path(__file__).resolve().parent.parent
+# What is imported leaves no compiled file beside it.
+sys.dont_write_bytecode = True
+
+from loops import ROOT, WIDE
 
 # ---------------------------------------------------------------------------------------------------------------------
 # The program
@@ -44,7 +52,7 @@ ghost use Rattle.asc_traj.specs.Trace.{StandsFor};
 
 use asc_depvec::Tracer;
 use asc_shape::{Guess, Shape, Snapshot, State, Steps};
-use asc_shard::Shard;
+use asc_shard::{Inserted, Shard};
 use asc_traj::{Entry, Never, Stop, Traced, longest_match, trace};
 use std::alloc::Global;
 use std::env;
@@ -141,6 +149,8 @@ fn fill(alloc: Global, mode: u64, shard: &mut Shard, list: &mut Vec<Arc<Entry>>)
     Some(reads)
 }
 
+/// The kind of entries, what is done, whether it hits, and how often it is done. It answers how often it was found or
+/// stored, and how many parts the last entry reads.
 fn measured<L: Ledger>(alloc: Global, blank: Blank, given: [u64; 4]) -> Option<(u64, usize)>
     requires name { blank.name ≡ L.name }
     requires parts { blank.parts ≡ L.parts }
@@ -150,6 +160,10 @@ fn measured<L: Ledger>(alloc: Global, blank: Blank, given: [u64; 4]) -> Option<(
     let mut shard = Shard::new(alloc, 1024).ok()?;
     let mut list: Vec<Arc<Entry>> = Vec::new(alloc);
     let reads = fill(alloc, given[0], &mut shard, &mut list)?;
+    if given[1] >= 2 {
+        let stored = inserted(alloc, given[0], given[1] == 2, given[3], &mut shard)?;
+        return Some((stored, reads));
+    }
     let k = if given[2] == 1 { 1000 } else { 3000 };
     let mut state = start(alloc, given[0], k)?;
     let mut total: u64 = 0;
@@ -163,6 +177,23 @@ fn measured<L: Ledger>(alloc: Global, blank: Blank, given: [u64; 4]) -> Option<(
         total = total.wrapping_add(u64::from(found));
     }
     Some((total, reads))
+}
+
+/// Makes so many entries more, and inserts them where that is wanted.
+fn inserted(alloc: Global, mode: u64, wanted: bool, rounds: u64, shard: &mut Shard) -> Option<u64> {
+    let mut more: Vec<Arc<Entry>> = Vec::new(alloc);
+    for k in 0..rounds {
+        let state = start(alloc, mode, u32::wrapping_add(1024, (k % 1024) as u32))?;
+        more.push(entry_of(alloc, &state)?).ok()?;
+    }
+    let mut total: u64 = 0;
+    for made in &more {
+        let entry = Arc::try_clone(made).ok()?;
+        if wanted && !shard.holds(&entry) && shard.insert(entry) == Inserted::Stored {
+            total = total.wrapping_add(1);
+        }
+    }
+    Some(total)
 }
 
 fn numbers(rt: &HostRuntime) -> Option<[u64; 4]> {
@@ -218,38 +249,68 @@ def build(folder):
 # ---------------------------------------------------------------------------------------------------------------------
 # Measuring
 
-SCAN, FIND = range(2)
+SCAN, FIND, INSERT, MAKE = range(4)
+
+KINDS = ("one", "own", "same", "many", "some")
 
 # How many parts of words the last entry of each kind reads.
 READS = (79, 79, 79, 82, 83)
+
+def written(command, answer):
+    """What a run prints, which must be this answer, and what stands beside it."""
+    done = subprocess.run(command, capture_output=True, check=True, text=True, env={**os.environ, **WIDE})
+    if done.stdout.split() != answer.split():
+        sys.exit(f"{' '.join(command[-4:])}: {done.stdout.strip()}, and not {answer}")
+    return done.stderr
 
 def seconds(command, answer):
     """The processor's seconds of a run that must write this answer, the least of three."""
     least = None
     for _ in range(3):
         before = resource.getrusage(resource.RUSAGE_CHILDREN)
-        written = subprocess.run(command, capture_output=True, check=True, text=True).stdout
+        written(command, answer)
         after = resource.getrusage(resource.RUSAGE_CHILDREN)
-        if written.split() != answer.split():
-            sys.exit(f"{' '.join(command[1:])}: {written.strip()}, and not {answer}")
         taken = after.ru_utime - before.ru_utime + after.ru_stime - before.ru_stime
         least = taken if least is None else min(least, taken)
     return least
 
-def nanoseconds(path, kind, what, hits, rounds):
+def instructions(command, answer):
+    """The processor's instructions of a run that must write this answer."""
+    tool = ["valgrind", "--tool=callgrind", f"--callgrind-out-file={os.devnull}"]
+    shown = next(line for line in written(tool + command, answer).splitlines() if "Collected" in line)
+    return int(shown.split(":")[1])
+
+def looked(cost, path, kind, what, hits, rounds):
     """What a look-up costs beyond the program's beginning."""
     words = lambda count: [str(path), *map(str, (kind, what, hits, count))]
     answer = lambda count: f"{count * hits} {READS[kind]}"
-    return (seconds(words(rounds), answer(rounds)) - seconds(words(0), answer(0))) / rounds * 1e9
+    return (cost(words(rounds), answer(rounds)) - cost(words(0), answer(0))) / rounds
+
+def inserted(path, kind, rounds):
+    """The instructions of an insertion."""
+    words = lambda what: [str(path), *map(str, (kind, what, 0, rounds))]
+    done = instructions(words(INSERT), f"{rounds} {READS[kind]}")
+    return (done - instructions(words(MAKE), f"0 {READS[kind]}")) / rounds
+
+def count(path):
+    print("        none found    found  insertion  by the scan: none found    found")
+    for kind, name in enumerate(KINDS):
+        find = [looked(instructions, path, kind, FIND, hits, 1000) for hits in (0, 1)]
+        scan = [looked(instructions, path, kind, SCAN, hits, 100) for hits in (0, 1)]
+        print(f"{name:4}{find[0]:14.0f}{find[1]:9.0f}{inserted(path, kind, 500):11.0f}{scan[0]:25.0f}{scan[1]:9.0f}",
+              flush=True)
 
 def main():
     with tempfile.TemporaryDirectory() as folder:
         path = build(folder)
+        if "--count" in sys.argv[1:]:
+            return count(path)
         print("               scan    find  ratio")
-        for kind, name in enumerate(("one", "own", "same", "many", "some")):
+        for kind, name in enumerate(KINDS):
             for hits, answer in ((1, "hit"), (0, "miss")):
-                scan = nanoseconds(path, kind, SCAN, hits, 5000)
-                find = nanoseconds(path, kind, FIND, hits, 2000 if name == "many" else 50000)
+                nanoseconds = lambda what, rounds: looked(seconds, path, kind, what, hits, rounds) * 1e9
+                scan = nanoseconds(SCAN, 5000)
+                find = nanoseconds(FIND, 2000 if name == "many" else 50000)
                 print(f"{name:4}  {answer:6}{scan:8.0f}{find:8.0f}{scan / find:7.1f}", flush=True)
 
 if __name__ == "__main__":

@@ -12,11 +12,12 @@ use std::sync::Wait;
 use std::test::Fail;
 use std::thread::Threads;
 
-/// Compares what `asc run image` answers and reports where the image is this file, also with guesses and workers. Nothing
-/// is put to out or err.
-fn check_image<R: Abort + Threads + Wait + Sync + Copy + Drop + Send>(
+/// Compares what a line answers and reports where the image is this file, also with guesses at an address and workers.
+/// Nothing is put to out or err.
+fn check_line<R: Abort + Threads + Wait + Sync + Copy + Drop + Send>(
     rt: &R,
     alloc: Global,
+    (line, address): (&str, &str),
     file: &[u8],
     answer: Answer,
     report: &'static str,
@@ -26,15 +27,19 @@ fn check_image<R: Abort + Threads + Wait + Sync + Copy + Drop + Send>(
         report,
         ..QUIET
     };
-    check_guessed(
-        rt,
-        alloc,
-        "asc run image",
-        " --pc 10000",
-        file,
-        &SOUND,
-        &want,
-    )
+    check_guessed(rt, alloc, line, address, file, &SOUND, &want)
+}
+
+/// The same of `asc run image`, and of an image that is entered at 0x10000.
+fn check_image<R: Abort + Threads + Wait + Sync + Copy + Drop + Send>(
+    rt: &R,
+    alloc: Global,
+    file: &[u8],
+    answer: Answer,
+    report: &'static str,
+) -> Result<(), AllocError> {
+    let line = ("asc run image", " --pc 10000");
+    check_line(rt, alloc, line, file, answer, report)
 }
 
 // Words over `FIRST`: e_phoff, e_phnum with e_phentsize, p_offset, p_offset without file bytes, p_vaddr and e_entry, the
@@ -116,6 +121,103 @@ fn hostile_images(rt: HostRuntime) -> Result<(), Fail> {
     Ok(())
 }
 
+// A place in `FIRST`, a word that is put over it, and the fault that then stands first.
+static FAULTS: [(Patch, ElfFault, &str); 7] = [
+    // another first byte
+    (
+        Patch {
+            at: 0,
+            word: 0x464C_4500,
+        },
+        ElfFault::Magic,
+        "asc: image fault 2\n",
+    ),
+    // e_type 3, a shared object
+    (
+        Patch {
+            at: 16,
+            word: 0x00F3_0003,
+        },
+        ElfFault::FileType,
+        "asc: image fault 6\n",
+    ),
+    // e_flags 1, compressed forms
+    (
+        Patch { at: 36, word: 1 },
+        ElfFault::Flags,
+        "asc: image fault 8\n",
+    ),
+    // p_type 3, an interpreter
+    (
+        Patch { at: 52, word: 3 },
+        ElfFault::Interp,
+        "asc: image fault 11\n",
+    ),
+    // p_memsz one less than p_filesz
+    (
+        Patch { at: 72, word: 11 },
+        ElfFault::Segment(0),
+        "asc: image fault 12 header 0\n",
+    ),
+    // e_phnum 0
+    (
+        Patch { at: 44, word: 0 },
+        ElfFault::NoLoad,
+        "asc: image fault 13\n",
+    ),
+    // e_entry 0x10002
+    (
+        Patch {
+            at: 24,
+            word: 0x0001_0002,
+        },
+        ElfFault::Entry,
+        "asc: image fault 15\n",
+    ),
+];
+
+#[test]
+fn first_faults(rt: HostRuntime) -> Result<(), Fail> {
+    let alloc = rt.alloc();
+    for (patch, fault, report) in &FAULTS {
+        let file = patched(alloc, &[*patch])?;
+        check_image(&rt, alloc, &file, Answer::Image(*fault), report)?;
+    }
+    Ok(())
+}
+
+/// A segment of `FIRST` in 64 KiB of memory that ends 64 bytes below their end, and one of a byte more.
+#[test]
+fn segment_up_to_the_stack(rt: HostRuntime) -> Result<(), Fail> {
+    let alloc = rt.alloc();
+    for (size, answer, report) in [
+        (65_472, Answer::Exit(7), ""),
+        (
+            65_473,
+            Answer::Image(ElfFault::TooLarge),
+            "asc: image fault 14\n",
+        ),
+    ] {
+        let line = ("asc run image --memory 64", " --pc 10000");
+        let file = patched(alloc, &[Patch { at: 72, word: size }])?;
+        check_line(&rt, alloc, line, &file, answer, report)?;
+    }
+    Ok(())
+}
+
+/// Behind the header that loads the code stands one of type GNU_STACK, 0x6474E551, which loads nothing.
+#[test]
+fn header_that_loads_nothing(rt: HostRuntime) -> Result<(), Fail> {
+    let alloc = rt.alloc();
+    let mut file = two_headers(alloc)?;
+    put_header(&mut file, HEADER, 116, 0x10000, 12);
+    for (at, word) in [(CODE, 0x6474_E551), (CODE + 4, 0), (CODE + 8, 0)] {
+        put_word(&mut file, at, word);
+    }
+    check_image(&rt, alloc, &file, Answer::Exit(7), "")?;
+    Ok(())
+}
+
 /// `FIRST` at 0xFFFF0000, with memory that ends at the last address, and with memory that would pass it.
 #[test]
 fn last_addresses(rt: HostRuntime) -> Result<(), Fail> {
@@ -130,20 +232,8 @@ fn last_addresses(rt: HostRuntime) -> Result<(), Fail> {
         ),
     ] {
         let moved = [Patch { at: 60, word: base }, Patch { at: 24, word: base }];
-        let want = Want {
-            answer,
-            report,
-            ..QUIET
-        };
-        check_guessed(
-            &rt,
-            alloc,
-            line,
-            " --pc ffff0000",
-            &patched(alloc, &moved)?,
-            &SOUND,
-            &want,
-        )?;
+        let line = (line, " --pc ffff0000");
+        check_line(&rt, alloc, line, &patched(alloc, &moved)?, answer, report)?;
     }
     Ok(())
 }

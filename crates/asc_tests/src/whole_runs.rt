@@ -778,7 +778,7 @@ const ECHO: &[u32] = &[
 
 // The line, the calls of the store, the input, out, err and the report that fail, and then the answer, out and the
 // report. The program does 34 steps, and asks the input four times and out three times, for at most three bytes.
-static ECHOES: [(&str, [u64; 5], Answer, &str, &str); 22] = [
+static ECHOES: [(&str, [u64; 5], Answer, &str, &str); 25] = [
     ("asc run image", [0; 5], Answer::Exit(0), "abcdefg", ""),
     (
         "asc run image",
@@ -919,6 +919,27 @@ static ECHOES: [(&str, [u64; 5], Answer, &str, &str); 22] = [
         Answer::WriteFault,
         "abc",
         "asc: output failed\n",
+    ),
+    (
+        "asc run image --report",
+        [0, 0, 0, 0, 1],
+        Answer::ReportFault,
+        "abcdefg",
+        "",
+    ),
+    (
+        "asc run image --report --pc 10000 --guess both",
+        [0, 0, 0, 0, 1],
+        Answer::ReportFault,
+        "abcdefg",
+        "",
+    ),
+    (
+        "asc run image --report --pc 10000 --guess both --workers 2",
+        [0, 0, 0, 0, 1],
+        Answer::ReportFault,
+        "abcdefg",
+        "",
     ),
     (
         "asc run image --report",

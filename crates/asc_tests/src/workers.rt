@@ -30,10 +30,15 @@ const FOUR: &str = "asc run image --pc 10008 --guess stride --ahead 2 --report -
 
 /// The walk's end is held up until a job is done.
 fn end_until(job: u64) -> Hold {
+    end_until_at(Point::Done, job)
+}
+
+/// The walk's end is held up until a job comes to a point.
+fn end_until_at(until: Point, job: u64) -> Hold {
     Hold {
         at: Point::Ended,
         ticket: 0,
-        until: Point::Done,
+        until,
         other: job,
     }
 }
@@ -89,7 +94,7 @@ fn count_held<R: Abort + Threads + Wait + Sync + Copy + Drop + Send>(
     let gate = HoldGate::new(alloc, held.holds, TURNS).expect(rt, "memory");
     let got = run_gated(rt, alloc, held.line, wrap(alloc, COUNTS)?, &SOUND, &gate)?;
     let report = str::from_utf8(got.report.bytes()).expect(rt, "text");
-    assert!(rt; !gate.ran_out(), "a hold ran out at {report}");
+    assert!(rt; gate.all_held(), "a hold did not hold at {report}");
     assert_eq!(rt; got.answer, Answer::Exit(0), "at {report}");
     let told = numbers(report);
     let (executed, skipped, asked) = (told[0], told[1], told[2]);
@@ -161,7 +166,23 @@ fn held_workers(rt: HostRuntime) -> Result<(), Fail> {
     Ok(())
 }
 
-/// The points at which a worker is held up until the walk has ended, each with every job.
+/// Workers run where no numbers are reported too: the walk's end is held up until one is done with a job.
+#[test]
+fn unreported_workers(rt: HostRuntime) -> Result<(), Fail> {
+    let alloc = rt.alloc();
+    let line = "asc run image --pc 10008 --guess stride --ahead 2 --workers 2";
+    let gate = HoldGate::new(alloc, &[end_until(0)], TURNS).expect(&rt, "memory");
+    let got = run_gated(&rt, alloc, line, wrap(alloc, COUNTS)?, &SOUND, &gate)?;
+    assert!(rt; gate.all_held(), "no worker ran");
+    assert_eq!(rt;
+        (got.answer, got.report.bytes().len()),
+        (Answer::Exit(0), 0)
+    );
+    Ok(())
+}
+
+/// The points at which a worker is held up until the walk has ended, each with every job. The walk's end waits until it
+/// has come to that point.
 static UNTIL_END: [Point; 3] = [Point::Taken, Point::Traced, Point::Done];
 
 #[test]
@@ -170,8 +191,8 @@ fn held_until_the_end(rt: HostRuntime) -> Result<(), Fail> {
         for ticket in 0..4 {
             let held = Held {
                 line: TWO,
-                holds: &[until_end(at, ticket)],
-                least: 0,
+                holds: &[until_end(at, ticket), end_until_at(at, ticket)],
+                least: 1,
                 begins: "asc: executed ",
                 ends: "\n",
             };
