@@ -129,14 +129,14 @@ comes-chosen limit profile least address notes old now n within whole chosen way
     })
 
 -- a turn that ends a program in its first counts
-pub ends-early : (limit profile least : ℕ) (Q : Course → Type 0) (old now new : World) (n d k : ℕ) (ended : Ended) (a : Aid) → n < limit → n < profile → k ≡ 0
+pub ends-early : (limit profile least : ℕ) (Q : Course → Type 0) (old now new : World) (n d : ℕ) (ended : Ended) (a : Aid) → n < limit → n < profile
     → Reaches Q old.calls.low old.calls.high old.state old now n 0
     → (device_of ended ≡ None → Turns now new n d (Some ended)) → ((device : Device) → device_of ended ≡ Some device → TurnFails now new device) → ((device : Device) → device_of ended ≡ Some device → d ≡ n)
-    → GoesHelped limit (is_mark (recognised.Chosen profile least)) old new a a d k ended
-ends-early limit profile least Q old now new n d k ended a below early none way turn fails count = record {
+    → GoesHelped limit (is_mark (recognised.Chosen profile least)) old new a a d 0 ended
+ends-early limit profile least Q old now new n d ended a below early way turn fails count = record {
   visits = [];
   helped = Helped-none a;
-  goes = rw none (record {
+  goes = record {
     follows = λ h. Follows-turn Q _ limit old now new n d 0 ended way below (turn h) (λ run r e at off q. visits_none limit run (λ m _ l. elim (cases_lt m profile) [
       | inl x ↦ first_count profile least run m x
       | inr x ↦ ended_count profile least run m (off m (omega arith))
@@ -144,7 +144,7 @@ ends-early limit profile least Q old now new n d k ended a below early none way 
     stops = λ device h.
         subst (λ x. StopsAt limit (HasVisits limit (is_mark (recognised.Chosen profile least)) old.state [] a a (x + 1)) old new x 0 device) (sym (count device h))
         (StopsAt-fails Q _ limit old now new n 0 device way below (fails device h) (λ run _ _ _ q. visits_none (n + 1) run (λ m _ l. first_count profile least run m (omega arith))));
-  });
+  };
 }
   where
     visits_none : (to : ℕ) (run : Course) → HasNoMark (is_mark (recognised.Chosen profile least) run) 0 to → HasVisits limit (is_mark (recognised.Chosen profile least)) old.state [] a a to run

@@ -31,9 +31,8 @@ abbrev pub tally : (asked given hits : ℕ) → Tally
 tally asked given hits = record { asked = asked; given = given; hits = hits }
 
 -- a program that has done no step, whose break stands at low, and which has not found the end of its input
-pub record HasNotBegun (count : ℕ) (t : Tally) (calls : CallState) : Type 0 where
+pub record HasNotBegun (count : ℕ) (calls : CallState) : Type 0 where
   pub none : count ≡ 0
-  pub none_told : t ≡ tally 0 0 0
   pub brk : calls.brk ≡ calls.low
   pub going : calls.ended ≡ false
 

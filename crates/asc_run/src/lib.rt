@@ -13,6 +13,7 @@ mod serial;
 mod serial_tests;
 #[cfg(test)]
 mod tests;
+mod visited;
 mod walk;
 
 pub use helper::{Bare, Helper};
@@ -20,6 +21,7 @@ pub use laws::{
     progress_is_plain, replies_determine_visits, rows_are_computed, serial_runs_are_one,
 };
 pub use made::Made;
+pub use process::Process;
 pub use recognised::Recognised;
 pub use serial::{MOST_AHEAD, MOST_JOBS, Serial};
 pub use walk::{Counts, Ended, MOST_STEPS, Settings, Walk};

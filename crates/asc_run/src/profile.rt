@@ -17,7 +17,7 @@ impl Process {
     ghost use Rattle.asc_run.specs.Visits.{HasBounds, is_mark, noted_counts, profile_of};
     ghost use Rattle.asc_run.specs.Helped.{Aid};
     ghost use Rattle.asc_run.specs.Way.{ComesUnmarked, Reaches};
-    ghost use Rattle.asc_run.specs.Walk.{tally, HasNotBegun, GoesHelped};
+    ghost use Rattle.asc_run.specs.Walk.{HasNotBegun, GoesHelped};
 
     /// The address at which a program that has not begun is visited from where it then stands. Where one is to be chosen,
     /// the first steps are taken, and the error is how the program ended in them.
@@ -31,8 +31,7 @@ impl Process {
         steps: &mut Steps<L>,
     ) -> Result<Option<u32>, Ended>
         requires bounds { HasBounds settings.recognised }
-        requires start { HasNotBegun self.old.count (tally self.old.asked self.old.skipped self.old.hits)
-            self.old.calls }
+        requires start { HasNotBegun self.old.count self.old.calls }
         requires none_noted { notes.old.items ≡ [] }
         requires room { noted_counts settings.recognised ≤ vec_capacity notes.old }
         ensures going { IfOk result (λ address. ComesUnmarked settings.limit (is_mark settings.recognised) address
@@ -45,10 +44,9 @@ impl Process {
             (faults (I.faults input.old) (O.faults out.old) (E.faults err.old)))
             (world self.new.state self.new.calls (I.left input.new) (O.given out.new) (E.given err.new) steps.new
             (faults (I.faults input.new) (O.faults out.new) (E.faults err.new)))
-            a a self.new.count self.new.skipped ended) }
+            a a self.new.count 0 ended) }
         ensures nowhere { settings.recognised ≡ Recognised.Nowhere → result ≡ Ok None }
         ensures limit { self.new.count ≤ settings.limit }
-        ensures tally { tally self.new.asked self.new.skipped self.new.hits ≡ tally 0 0 0 }
         ensures sound { IfOk result (λ _. faults (I.faults input.new) (O.faults out.new) (E.faults err.new)
             ≡ faults (I.faults input.old) (O.faults out.old) (E.faults err.old)) }
         ensures faults { IfErr result (λ ended. BlamesOnly (device_of ended)
@@ -80,8 +78,7 @@ impl Process {
         steps: &mut Steps<L>,
     ) -> Option<Ended>
         requires stop { stop ≤ 2 ^ 16 }
-        requires start { HasNotBegun self.old.count (tally self.old.asked self.old.skipped self.old.hits)
-            self.old.calls }
+        requires start { HasNotBegun self.old.count self.old.calls }
         requires none_noted { notes.old.items ≡ [] }
         requires room { stop ≤ vec_capacity notes.old }
         ensures stop { IsNone result → self.new.count ≡ stop }
@@ -98,11 +95,10 @@ impl Process {
             (faults (I.faults input.old) (O.faults out.old) (E.faults err.old)))
             (world self.new.state self.new.calls (I.left input.new) (O.given out.new) (E.given err.new) steps.new
             (faults (I.faults input.new) (O.faults out.new) (E.faults err.new)))
-            a a self.new.count self.new.skipped ended) }
+            a a self.new.count 0 ended) }
         ensures rise { IsNone result → CountsRise notes.new.items }
         ensures few { vec_len notes.new ≤ stop }
         ensures limit { self.new.count ≤ stop }
-        ensures tally { tally self.new.asked self.new.skipped self.new.hits ≡ tally 0 0 0 }
         ensures faults { BlamesOnly (device_of_turn result)
             (faults (I.faults input.old) (O.faults out.old) (E.faults err.old))
             (faults (I.faults input.new) (O.faults out.new) (E.faults err.new)) }

@@ -3,9 +3,9 @@ ghost use Rattle.std.specs.Prelude.{◌≡◌, ◌≤◌, ◌+◌, ◌^◌, List
 use crate::helper::Helper;
 use crate::process::Process;
 use crate::recognised::Recognised;
-use asc_calls::Calls;
+use crate::visited::Visited;
 use asc_elf::Image;
-use asc_shape::{Memory, Sink, Source, State, Steps};
+use asc_shape::{Memory, Shape, Sink, Source, Steps};
 use asc_step::Fault;
 use std::alloc::Global;
 use std::marker::Model;
@@ -73,7 +73,7 @@ pub struct Counts {
 /// One run of a program, from its image's first state.
 #[derive(Drop)]
 pub struct Walk {
-    process: Process,
+    visited: Visited,
     settings: Settings,
     /// Where the program stood in its first steps, of which an address is chosen.
     notes: Vec<(u32, u64)>,
@@ -88,18 +88,18 @@ impl Model for Walk {
     ghost Value = { model.Walk };
 
     ghost view = { λ w. record {
-      state = w.process.state;
-      calls = w.process.calls;
+      state = w.visited.process.state;
+      calls = w.visited.process.calls;
       settings = w.settings;
-      count = w.process.count;
-      tally = model.tally w.process.asked w.process.skipped w.process.hits;
+      count = w.visited.process.count;
+      tally = model.tally w.visited.asked w.visited.skipped w.visited.hits;
       ended = w.ended;
     } };
 
-    ghost invariant = { λ w. (w.settings.limit ≤ 2 ^ 40) × (w.process.count ≤ w.settings.limit)
-        × (w.process.skipped ≤ w.process.count) × HasBounds w.settings.recognised
-        × (w.ended ≡ None → model.HasNotBegun w.process.count
-        (model.tally w.process.asked w.process.skipped w.process.hits) w.process.calls
+    ghost invariant = { λ w. (w.settings.limit ≤ 2 ^ 40) × (w.visited.process.count ≤ w.settings.limit)
+        × (w.visited.skipped ≤ w.visited.process.count) × HasBounds w.settings.recognised
+        × (w.ended ≡ None → model.HasNotBegun w.visited.process.count w.visited.process.calls
+        × (model.tally w.visited.asked w.visited.skipped w.visited.hits ≡ model.tally 0 0 0)
         × (w.notes.items ≡ []) × (noted_counts w.settings.recognised ≤ vec_capacity w.notes)) };
 }
 
@@ -116,14 +116,11 @@ impl Walk {
         ensures walk { IfOk result (λ walk. walk ≡ new_walk image.now settings) }
         ensures new { IfOk result (λ walk. IsNone walk.ended) }
     {
-        let mut state = State::new(alloc, image.shape())?;
-        image.put(&mut state);
+        let process = Process::new(alloc, image)?;
         let notes = Vec::with_capacity(alloc, settings.recognised.noted_counts() as usize)?;
         Ok(Walk {
-            process: Process {
-                state,
-                calls: Calls::new(image.low(), image.high()),
-                count: 0,
+            visited: Visited {
+                process,
                 skipped: 0,
                 asked: 0,
                 hits: 0,
@@ -182,7 +179,8 @@ impl Walk {
             return ended;
         }
         let settings = self.settings;
-        let process = &mut self.process;
+        let visited = &mut self.visited;
+        let process = &mut visited.process;
         let address = match process.recognise(settings, &mut self.notes, input, out, err, steps) {
             Ok(address) => address,
             Err(ended) => {
@@ -190,9 +188,16 @@ impl Walk {
                 return ended;
             }
         };
-        let ended = process.run(settings.limit, address, helper, input, out, err, steps);
+        let ended = visited.run(settings.limit, address, helper, input, out, err, steps);
         self.ended = Some(ended);
         ended
+    }
+
+    /// The shape of its state.
+    pub fn shape(&self) -> Shape
+        ensures { result ≡ self.now.state.shape }
+    {
+        self.visited.process.state.shape()
     }
 
     /// The numbers so far.
@@ -203,13 +208,14 @@ impl Walk {
         ensures asked { result.asked ≡ self.now.tally.asked }
         ensures hits { result.hits ≡ self.now.tally.hits }
     {
-        let process = &self.process;
+        let visited = &self.visited;
+        let count = visited.process.count;
         Counts {
-            count: process.count,
-            executed: process.count - process.skipped,
-            skipped: process.skipped,
-            asked: process.asked,
-            hits: process.hits,
+            count,
+            executed: count - visited.skipped,
+            skipped: visited.skipped,
+            asked: visited.asked,
+            hits: visited.hits,
         }
     }
 }

@@ -9,8 +9,9 @@ use crate::answer::Answer;
 use crate::lap::{Lap, trace_lap};
 use crate::request::{Request, request_of};
 use crate::text::entry_text;
-use crate::visit::Process;
+use crate::visit::Visitor;
 use asc_elf::read;
+use asc_run::Process;
 use asc_shape::{CountSink, Failed, Loaded, Sink, Source, Steps, Store, StoreFault, put_all};
 use asc_words::LineFault;
 use std::alloc::Global;
@@ -78,11 +79,12 @@ pub fn show_file<I: Source, O: Sink, L: Ledger>(
         Ok(image) => image,
         Err(fault) => return Answer::Image(fault),
     };
-    let Ok(mut process) = Process::new(alloc, &image) else {
+    let Ok(process) = Process::new(alloc, &image) else {
         return Answer::Memory;
     };
+    let mut visitor = Visitor { process, visits: 0 };
     let (mut guest_out, mut guest_err) = (CountSink::new(), CountSink::new());
-    if let Some(ended) = process.come(
+    if let Some(ended) = visitor.come(
         request.pc,
         request.visit,
         line.limit,
@@ -91,9 +93,15 @@ pub fn show_file<I: Source, O: Sink, L: Ledger>(
         &mut guest_err,
         steps,
     ) {
-        return Answer::Ended(ended, process.visits);
+        return Answer::Ended(ended, visitor.visits);
     }
-    match trace_lap(alloc, &process.state, request.pc, line.laps, line.span) {
+    match trace_lap(
+        alloc,
+        &visitor.process.state,
+        request.pc,
+        line.laps,
+        line.span,
+    ) {
         Ok(lap) => show_lap(alloc, &lap, out),
         Err(_) => Answer::Memory,
     }

@@ -3,7 +3,6 @@ use Rattle.std.proofs.Common.{◌≡◌, ◌-◌, ◌≤◌, length, vec_capacit
 use Rattle.asc_calls.specs.World.{world, faults}
 use Rattle.asc_run.specs.Visits.{profile_of}
 use Rattle.asc_run.specs.Way.{Reaches}
-use Rattle.asc_run.specs.Walk.{tally}
 use Rattle.asc_run.proofs.Profiled.{AreNumbered}
 use Rattle.asc_run.proofs.process.Process.note.Given as goal
 
@@ -18,7 +17,6 @@ invariant-loop-self g l = record {
   long : length l.notes.items ≡ l.self.count;
   numbered : AreNumbered l.notes.items;
   capacity : l.stop ≤ vec_capacity l.notes;
-  tally : tally l.self.asked l.self.skipped l.self.hits ≡ tally 0 0 0;
   faults : faults (g.I.Source.faults l.input) (g.O.Sink.faults l.out) (g.E.Sink.faults l.err)
       ≡ faults (g.I.Source.faults l.fn.input) (g.O.Sink.faults l.fn.out) (g.E.Sink.faults l.fn.err);
 }

@@ -6,33 +6,33 @@ use Rattle.asc_run.specs.Helped.{aid, Plans}
 use Rattle.asc_run.specs.Seen.{SeesAll}
 use Rattle.asc_run.specs.Way.{ComesUnmarked}
 use Rattle.asc_run.proofs.Walking.{WalksOn}
-use Rattle.asc_run.proofs.process.Process.run.Given as goal
+use Rattle.asc_run.proofs.visited.Visited.run.Given as goal
 
 abbrev pub invariant-loop-self : goal.invariant-loop-self
 invariant-loop-self g l = record {
   walk : (mark : Course → ℕ → Bool) (start : World)
-      → ComesUnmarked l.limit mark l.pc start (world l.fn.self.state l.fn.self.calls (g.I.Source.left l.fn.input) (g.O.Sink.given l.fn.out) (g.E.Sink.given l.fn.err) l.fn.steps
-      (faults (g.I.Source.faults l.fn.input) (g.O.Sink.faults l.fn.out) (g.E.Sink.faults l.fn.err))) l.fn.self.count
-      → WalksOn l.limit mark l.pc l.fn.self.count start
-      (world l.self.state l.self.calls (g.I.Source.left l.input) (g.O.Sink.given l.out) (g.E.Sink.given l.err) l.steps
+      → ComesUnmarked l.limit mark l.pc start (world l.fn.self.process.state l.fn.self.process.calls (g.I.Source.left l.fn.input) (g.O.Sink.given l.fn.out) (g.E.Sink.given l.fn.err) l.fn.steps
+      (faults (g.I.Source.faults l.fn.input) (g.O.Sink.faults l.fn.out) (g.E.Sink.faults l.fn.err))) l.fn.self.process.count
+      → WalksOn l.limit mark l.pc l.fn.self.process.count start
+      (world l.self.process.state l.self.process.calls (g.I.Source.left l.input) (g.O.Sink.given l.out) (g.E.Sink.given l.err) l.steps
       (faults (g.I.Source.faults l.input) (g.O.Sink.faults l.out) (g.E.Sink.faults l.err)))
-      l.self.count l.self.count l.self.skipped l.self.asked
+      l.self.process.count l.self.process.count l.self.skipped l.self.asked
       (aid (g.H.Finder.tally l.fn.helper) (g.H.Finder.replies l.fn.helper) (g.H.Finder.plan l.fn.helper) (g.H.Finder.machine l.fn.helper))
       (aid (g.H.Finder.tally l.helper) (g.H.Finder.replies l.helper) (g.H.Finder.plan l.helper) (g.H.Finder.machine l.helper));
-  grows : l.fn.self.count ≤ l.self.count;
-  within : l.self.count ≤ l.limit;
+  grows : l.fn.self.process.count ≤ l.self.process.count;
+  within : l.self.process.count ≤ l.limit;
   given : (g.H.Finder.tally l.helper).given ≡ (g.H.Finder.tally l.fn.helper).given + l.self.skipped;
   asked : (g.H.Finder.tally l.helper).asked ≡ (g.H.Finder.tally l.fn.helper).asked + l.self.asked;
   hits : (g.H.Finder.tally l.helper).hits ≡ (g.H.Finder.tally l.fn.helper).hits + l.self.hits;
   plans : Plans l.self.asked (g.H.Finder.plan l.fn.helper) (g.H.Finder.plan l.helper);
   seen : SeesAll l.self.asked (g.H.Finder.plan l.fn.helper) (g.H.Finder.plan l.helper);
-  visits : l.self.asked ≤ l.self.count;
-  skips : l.self.skipped ≤ l.self.count;
-  hit : l.self.hits ≤ l.self.count;
+  visits : l.self.asked ≤ l.self.process.count;
+  skips : l.self.skipped ≤ l.self.process.count;
+  hit : l.self.hits ≤ l.self.process.count;
   unset : IsNone l.pc → l.helper ≡ l.fn.helper;
   faults : faults (g.I.Source.faults l.input) (g.O.Sink.faults l.out) (g.E.Sink.faults l.err)
       ≡ faults (g.I.Source.faults l.fn.input) (g.O.Sink.faults l.fn.out) (g.E.Sink.faults l.fn.err);
 }
 
 abbrev pub decreases-loop-self : goal.decreases-loop-self
-decreases-loop-self g l = l.limit - l.self.count
+decreases-loop-self g l = l.limit - l.self.process.count

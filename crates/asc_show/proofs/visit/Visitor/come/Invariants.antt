@@ -2,22 +2,22 @@
 use Rattle.std.proofs.Common.{◌≡◌, ◌-◌, ◌≤◌, ◌<◌}
 use Rattle.asc_calls.specs.World.{world, faults}
 use Rattle.asc_show.proofs.Visits.{WalksTo}
-use Rattle.asc_show.proofs.visit.Process.come.Given as goal
+use Rattle.asc_show.proofs.visit.Visitor.come.Given as goal
 
 abbrev pub invariant-loop-self : goal.invariant-loop-self
 invariant-loop-self g l = record {
   way : WalksTo l.pc
-      (world l.fn.self.state l.fn.self.calls (g.I.Source.left l.fn.input) (g.O.Sink.given l.fn.out) (g.E.Sink.given l.fn.err) l.fn.steps
+      (world l.fn.self.process.state l.fn.self.process.calls (g.I.Source.left l.fn.input) (g.O.Sink.given l.fn.out) (g.E.Sink.given l.fn.err) l.fn.steps
       (faults (g.I.Source.faults l.fn.input) (g.O.Sink.faults l.fn.out) (g.E.Sink.faults l.fn.err)))
-      (world l.self.state l.self.calls (g.I.Source.left l.input) (g.O.Sink.given l.out) (g.E.Sink.given l.err) l.steps
+      (world l.self.process.state l.self.process.calls (g.I.Source.left l.input) (g.O.Sink.given l.out) (g.E.Sink.given l.err) l.steps
       (faults (g.I.Source.faults l.input) (g.O.Sink.faults l.out) (g.E.Sink.faults l.err)))
-      l.self.visits l.self.count l.self.count;
-  within : l.self.count ≤ l.limit;
-  few : l.self.visits ≤ l.self.count;
+      l.self.visits l.self.process.count l.self.process.count;
+  within : l.self.process.count ≤ l.limit;
+  few : l.self.visits ≤ l.self.process.count;
   before : l.self.visits < l.visit;
   faults : faults (g.I.Source.faults l.input) (g.O.Sink.faults l.out) (g.E.Sink.faults l.err)
       ≡ faults (g.I.Source.faults l.fn.input) (g.O.Sink.faults l.fn.out) (g.E.Sink.faults l.fn.err);
 }
 
 abbrev pub decreases-loop-self : goal.decreases-loop-self
-decreases-loop-self g l = l.limit - l.self.count
+decreases-loop-self g l = l.limit - l.self.process.count

@@ -1,7 +1,7 @@
 -- What the visit made, the jump leaves.
 use Rattle.std.proofs.Common.{◌+◌, sym, subst}
 use Rattle.asc_run.specs.Seen.{Sees}
-use Rattle.asc_run.proofs.process.Process.land.Goals as goal
+use Rattle.asc_run.proofs.visited.Visited.land.Goals as goal
 
 pub returns-in-Some-clause-seen : goal.returns-in-Some-clause-seen
 returns-in-Some-clause-seen g c = λ _.

@@ -1,0 +1,122 @@
+//! A program that is visited where it stands at an address.
+ghost use Rattle.std.specs.Prelude.{◌≡◌, ◌≤◌, ◌<◌, ◌+◌, ◌^◌, ℕ, Bool, length, [], None, IsNone, true, false};
+
+use crate::helper::Helper;
+use crate::process::Process;
+use crate::walk::Ended;
+use asc_shape::{Sink, Source, Steps};
+use std::sync::ledger::Ledger;
+
+/// A program on its way, and how it was visited.
+#[derive(Drop)]
+pub(crate) struct Visited {
+    /// Its count has the steps done and the steps jumped over.
+    pub(crate) process: Process,
+    /// Steps jumped over.
+    pub(crate) skipped: u64,
+    /// Visits, at each of which a jump was asked for.
+    pub(crate) asked: u64,
+    /// Jumps.
+    pub(crate) hits: u64,
+}
+
+impl Visited {
+    ghost use Rattle.asc_calls.specs.World.{World, world, faults, BlamesOnly};
+    ghost use Rattle.asc_traj.specs.Finder.{IsJump};
+    ghost use Rattle.asc_run.specs.Execution.{device_of};
+    ghost use Rattle.asc_run.specs.Visits.{Course, is_at, with_landing};
+    ghost use Rattle.asc_run.specs.Helped.{aid, HasRoom, Helped, Lands};
+    ghost use Rattle.asc_run.specs.Seen.{Sees, SeesAll};
+    ghost use Rattle.asc_run.specs.Way.{ComesUnmarked};
+    ghost use Rattle.asc_run.specs.Walk.{tally, GoesHelped, IsRaisedBy};
+
+    /// Runs a program until it ends, a device fails, or `limit` steps are done or jumped over. Where it stands at `pc`,
+    /// the helper is visited, and asked for a jump. Nothing was jumped over before.
+    pub(crate) fn run<H: Helper, I: Source, O: Sink, E: Sink, L: Ledger>(
+        &mut self,
+        limit: u64,
+        pc: Option<u32>,
+        helper: &mut H,
+        input: &mut I,
+        out: &mut O,
+        err: &mut E,
+        steps: &mut Steps<L>,
+    ) -> Ended
+        requires limit { limit ≤ 2 ^ 40 }
+        requires count { self.old.process.count ≤ limit }
+        requires none_told { tally self.old.asked self.old.skipped self.old.hits ≡ tally 0 0 0 }
+        requires room { HasRoom (2 ^ 61)
+            (aid (H.tally helper.old) (H.replies helper.old) (H.plan helper.old) (H.machine helper.old)) }
+        ensures run { (mark : Course → ℕ → Bool) (start : World) → ComesUnmarked limit mark pc start
+            (world self.old.process.state self.old.process.calls (I.left input.old) (O.given out.old) (E.given err.old) steps.old
+            (faults (I.faults input.old) (O.faults out.old) (E.faults err.old))) self.old.process.count
+            → GoesHelped limit mark start
+            (world self.new.process.state self.new.process.calls (I.left input.new) (O.given out.new) (E.given err.new) steps.new
+            (faults (I.faults input.new) (O.faults out.new) (E.faults err.new)))
+            (aid (H.tally helper.old) (H.replies helper.old) (H.plan helper.old) (H.machine helper.old))
+            (aid (H.tally helper.new) (H.replies helper.new) (H.plan helper.new) (H.machine helper.new))
+            self.new.process.count self.new.skipped result }
+        ensures helper { IsRaisedBy (tally self.new.asked self.new.skipped self.new.hits)
+            (H.tally helper.old) (H.tally helper.new) }
+        ensures seen { SeesAll self.new.asked (H.plan helper.old) (H.plan helper.new) }
+        ensures unset { IsNone pc → helper.new ≡ helper.old }
+        ensures limit { self.new.process.count ≤ limit }
+        ensures skipped { self.new.skipped ≤ self.new.process.count }
+        ensures faults { BlamesOnly (device_of result)
+            (faults (I.faults input.old) (O.faults out.old) (E.faults err.old))
+            (faults (I.faults input.new) (O.faults out.new) (E.faults err.new)) }
+    {
+        loop {
+            if self.process.count == limit {
+                return Ended::Limit;
+            }
+            let landed = self.process.count;
+            if let Some(n) = self.land(pc, helper, limit - landed) {
+                self.process.count += n;
+                self.skipped += n;
+                self.hits += 1;
+                continue;
+            }
+            let stopped = self.process.go_on(pc, limit - landed, steps);
+            if self.process.count == landed {
+                if let Some(ended) = self.process.stop(stopped, input, out, err, steps) {
+                    return ended;
+                }
+            }
+        }
+    }
+
+    /// Where the program stands at `pc`, tells the helper of its state, and asks for a jump.
+    fn land<H: Helper>(&mut self, pc: Option<u32>, helper: &mut H, left: u64) -> Option<u64>
+        requires left { left ≤ 2 ^ 40 }
+        requires number { self.old.asked < 2 ^ 40 }
+        requires room { HasRoom (2 ^ 62)
+            (aid (H.tally helper.old) (H.replies helper.old) (H.plan helper.old) (H.machine helper.old)) }
+        ensures jump { IsJump result left self.old.process.state self.new.process.state }
+        ensures kept { self.new ≡ record self.old {
+          process = record self.old.process { state = self.new.process.state };
+          asked = self.new.asked;
+        } }
+        ensures passed { is_at pc self.old.process.state ≡ false → result ≡ None }
+        ensures unset { IsNone pc → helper.new ≡ helper.old }
+        ensures number { self.new.asked ≡ self.old.asked
+            + length (with_landing (is_at pc self.old.process.state) self.old.process.count result []) }
+        ensures helped { Helped (with_landing (is_at pc self.old.process.state) self.old.process.count result [])
+            (aid (H.tally helper.old) (H.replies helper.old) (H.plan helper.old) (H.machine helper.old))
+            (aid (H.tally helper.new) (H.replies helper.new) (H.plan helper.new) (H.machine helper.new)) }
+        ensures seen { is_at pc self.old.process.state ≡ true
+            → Sees (self.old.asked + 1) (H.plan helper.old) (H.plan helper.new) }
+        ensures machine { Lands (is_at pc self.old.process.state) self.old.asked self.old.process.state left result
+            (aid (H.tally helper.old) (H.replies helper.old) (H.plan helper.old) (H.machine helper.old))
+            (aid (H.tally helper.new) (H.replies helper.new) (H.plan helper.new) (H.machine helper.new)) }
+    {
+        match pc {
+            Some(pc) if self.process.state.pc() == pc => {
+                self.asked += 1;
+                helper.visit(&mut self.process.state, self.asked);
+                helper.jump(&mut self.process.state, left)
+            }
+            _ => None,
+        }
+    }
+}
