@@ -80,7 +80,6 @@ pub fn go_beside<
     rt: &R,
     alloc: Global,
     walk: &mut Walk,
-    shape: Shape,
     guessing: Guessing,
     crew: Crew,
     gate: &G,
@@ -105,7 +104,7 @@ pub fn go_beside<
     ensures memory { OnErr result ((walk.new ≡ walk.old) × (input.new ≡ input.old) × (out.new ≡ out.old)
         × (err.new ≡ err.old) × (steps.new ≡ steps.old)) }
 {
-    let ready = open_crew(alloc, *rt, shape, guessing, crew)?;
+    let ready = open_crew(alloc, *rt, walk.shape(), guessing, crew)?;
     Ok(go_with(rt, alloc, walk, ready, gate, input, out, err, steps))
 }
 
@@ -214,7 +213,7 @@ fn go_with<
         visit_wakers,
         end_wakers,
     } = ready;
-    let workers = readers.shards();
+    let workers = team.len();
     let mut live = Live::new(alloc, rt, gate, readers, giver, visit_wakers, guessing);
     let ended = go_served(
         rt,

@@ -54,7 +54,6 @@ fn count_beside<L: Ledger, R: Abort + Threads + Wait + Sync + Copy + Drop + Send
         rt,
         alloc,
         &mut walk,
-        image.shape(),
         guessing,
         Crew { workers, queue: 4 },
         &Open,

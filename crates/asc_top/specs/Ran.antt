@@ -1,6 +1,6 @@
 -- What the functions of this crate promise that run a program.
 use Rattle.std.specs.Prelude.{◌≡◌, ◌≢◌, ◌⊎◌, ◌↔◌, ℕ, Bool, IsTrue, ◌+◌, ◌≤◌, List, length, Option, Some, None, Ok, IsSome, IfSome}
-use Rattle.asc_model.specs.Shape.{Shape, IsShape}
+use Rattle.asc_model.specs.Shape.{IsShape}
 use Rattle.asc_outside.specs.Outside.{File, AsksFor, MayHold}
 use Rattle.asc_elf.specs.Image as loader
 use Rattle.asc_calls.specs.GuestCall.{Device}
@@ -34,7 +34,7 @@ pub record Ran (old new : Outside) (line : RunLine) (content : List ℕ) (outcom
   pub limit : IfSome outcome.counts (λ counts. counts.executed + counts.skipped ≤ line.limit)
   pub faults : BlamesOnly (device_of_answer outcome.answer) old.faults new.faults
 
--- A file that a line names was read whole, of a store that was told so before and after.
+-- The file that a line names was read whole: the store's files stay, it was asked for that name, and it did not fail.
 pub record IsRead (line : RunLine) (content : List ℕ) (files : Option (List File)) (asked : Option (List (List ℕ)))
     (faults : ℕ) (files_after : Option (List File)) (asked_after : Option (List (List ℕ))) (faults_after : ℕ) : Type 0 where
   pub held : MayHold files line.image content
@@ -43,12 +43,11 @@ pub record IsRead (line : RunLine) (content : List ℕ) (files : Option (List Fi
   pub names : AsksFor line.image asked asked_after
   pub no_fault : faults_after ≡ faults
 
--- a walk is the new one of a file's image, which has this shape, as a line asks
-pub record IsWalkOf (line : RunLine) (content : List ℕ) (shape : Shape) (walk : Walk) : Type 0 where
+-- a walk is the new one of a file's image, as a line asks
+pub record IsWalkOf (line : RunLine) (content : List ℕ) (walk : Walk) : Type 0 where
   pub image : loader.Image
   pub loads : load_of line content ≡ Ok image
   pub good : IsShape image.start.shape
-  pub shape_is : shape ≡ image.start.shape
   pub walk_is : walk ≡ new_walk image (settings_of line)
 
 -- A walk that had not begun went to its end with a helper, which came from first to last, and the outcome tells how, with

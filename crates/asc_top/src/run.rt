@@ -13,7 +13,7 @@ use crate::settings::{crew_of, guessing_of, makes_guesses, settings_of};
 use asc_elf::read;
 use asc_live::go_beside;
 use asc_run::{Bare, Helper, Serial, Walk};
-use asc_shape::{Gate, Loaded, Memory, Shape, Sink, Source, Steps, Store, StoreFault};
+use asc_shape::{Gate, Loaded, Memory, Sink, Source, Steps, Store, StoreFault};
 use asc_traj::Nothing;
 use asc_words::{Answer, Line, Outcome, RunLine};
 use std::alloc::Global;
@@ -126,15 +126,15 @@ pub(crate) fn run_file_alone<I: Source, O: Sink, E: Sink, L: Ledger>(
         (outside (I.left input.new) (O.given out.new) (E.given err.new) steps.new
         (faults (I.faults input.new) (O.faults out.new) (E.faults err.new))) line.now file.now result }
 {
-    let (shape, mut walk) = match walk_of(alloc, line, file) {
-        Ok(begun) => begun,
+    let mut walk = match walk_of(alloc, line, file) {
+        Ok(walk) => walk,
         Err(answer) => return Outcome::of(answer),
     };
     if !makes_guesses(line) {
         let mut helper = Bare::new(Nothing::new());
         return run_with(line.report, &mut walk, &mut helper, input, out, err, steps);
     }
-    match Serial::new(alloc, shape, guessing_of(line)) {
+    match Serial::new(alloc, walk.shape(), guessing_of(line)) {
         Ok(mut helper) => run_with(line.report, &mut walk, &mut helper, input, out, err, steps),
         Err(Memory) => Outcome::of(Answer::Memory),
     }
@@ -169,28 +169,27 @@ pub(crate) fn run_file_beside<
         (faults (I.faults input.new) (O.faults out.new) (E.faults err.new))) line.now file.now result }
 {
     match walk_of(alloc, line, file) {
-        Ok((shape, mut walk)) => walk_beside(
-            rt, alloc, line, shape, &mut walk, gate, input, out, err, steps,
-        ),
+        Ok(mut walk) => walk_beside(rt, alloc, line, &mut walk, gate, input, out, err, steps),
         Err(answer) => Outcome::of(answer),
     }
 }
 
-/// The new walk of a file, as a line asks, and its shape, or the answer where there is none.
-fn walk_of(alloc: Global, line: &RunLine, file: &[u8]) -> Result<(Shape, Walk), Answer>
+/// The new walk of a file, as a line asks, or the answer where there is none.
+fn walk_of(alloc: Global, line: &RunLine, file: &[u8]) -> Result<Walk, Answer>
     requires line { IsRunWithin line.now }
     requires file { length file.now ≤ file_limit }
-    ensures walk { IfOk result (λ begun. IsWalkOf line.now file.now begun.0 begun.1) }
-    ensures new { IfOk result (λ begun. IsNone begun.1.ended) }
+    ensures walk { IfOk result (IsWalkOf line.now file.now) }
+    ensures new { IfOk result (λ walk. IsNone walk.ended) }
     ensures none { IfErr result (λ answer. (guest : Outside) → Ran guest guest line.now file.now (outcome_of answer)) }
 {
     let image = match read(file, 1024 * line.memory, line.version) {
         Ok(image) => image,
         Err(fault) => return Err(Answer::Image(fault)),
     };
-    let shape = image.shape();
+    // That its state has a good shape.
+    let _ = image.shape();
     match Walk::new(alloc, &image, settings_of(line)) {
-        Ok(walk) => Ok((shape, walk)),
+        Ok(walk) => Ok(walk),
         Err(Memory) => Err(Answer::Memory),
     }
 }
@@ -238,7 +237,6 @@ fn walk_beside<
     rt: &T,
     alloc: Global,
     line: &RunLine,
-    shape: Shape,
     walk: &mut Walk,
     gate: &G,
     input: &mut I,
@@ -259,7 +257,6 @@ fn walk_beside<
         rt,
         alloc,
         walk,
-        shape,
         guessing_of(line),
         crew_of(line),
         gate,

@@ -23,7 +23,7 @@ pub record HasWorked {W H : Type 0} (w : Worker W H) (t : Taker) (v : Worker W H
   pub laps : v.laps ≡ w.laps
   pub span : v.span ≡ w.span
 
--- A worker at its post took jobs and ran them, until its halt said to stop.
+-- A worker at its post took jobs and counted as many in its tally, until its halt said to stop.
 pub record HasServed {W H : Type 0} (count : H → ℕ) (p q : Post W H) : Type 0 where
   pub halted : HasRisen (count p.worker.halt) (count q.worker.halt)
   pub worked : HasWorked p.worker p.taker q.worker q.taker

@@ -62,7 +62,7 @@ impl HoldGate {
     }
 
     /// Whether a hold has lasted for all turns.
-    pub fn ran_out(&self) -> bool {
+    fn ran_out(&self) -> bool {
         self.given_up.load(Ordering::SeqCst)
     }
 

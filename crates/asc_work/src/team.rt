@@ -55,6 +55,13 @@ impl<W: Insert + Drop, H: Halt + Drop> Team<W, H> {
         Ok((Team { posts }, wakers))
     }
 
+    /// How many workers there are.
+    pub fn len(&self) -> usize
+        ensures { result ≡ length self.now.posts }
+    {
+        self.posts.len()
+    }
+
     /// Runs the workers beside a walk, and answers what the walk answers. The walk has to end with the halt of all
     /// workers, and to wake them then: this returns only once each has stopped.
     ///

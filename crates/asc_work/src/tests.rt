@@ -189,3 +189,55 @@ fn two_workers_of<R: Abort + Wait + Copy + Drop>(
     workers.push(second).expect(rt, "memory");
     workers
 }
+
+/// Runs a walk of two jobs beside a team.
+fn serve<R: Abort + Threads + Wait + Sync + Drop + Send>(
+    rt: &R,
+    team: &mut Team<ShardWriter<R>, Flag>,
+    giver: &mut Giver,
+    halter: &mut Halter,
+    wakers: &[Unparker],
+    gate: &HoldGate,
+    last: &Arc<Snapshot>,
+)
+    ensures count { length team.new.posts ≡ length team.old.posts }
+    ensures team { team.new.queue ≡ team.old.queue }
+    ensures queue { giver.new.queue ≡ giver.old.queue }
+    ensures opened { giver.new.opened ≡ giver.old.opened }
+{
+    team.beside(
+        rt,
+        gate,
+        &mut || { walk(rt, giver, halter, wakers, gate, last) },
+    );
+}
+
+/// Two workers beside a walk that pushes two jobs of one state: each runs one of them.
+fn run_two<R: Abort + Threads + Wait + Sync + Copy + Drop + Send>(rt: &R, alloc: Global) {
+    let last = counting(rt, alloc, 0x10008, 0);
+    let (mut halter, flags) = Halter::open(alloc, 2).expect(rt, "memory");
+    let (mut giver, takers) = Jobs::open(alloc, 4, 2).expect(rt, "memory");
+    let workers = two_workers_of(rt, alloc, last.shape(), flags);
+    let (mut team, wakers) = Team::new(alloc, &giver, workers, takers).expect(rt, "memory");
+    let gate = HoldGate::new(alloc, &holds(), 1_000_000).expect(rt, "memory");
+    serve(
+        rt,
+        &mut team,
+        &mut giver,
+        &mut halter,
+        &wakers,
+        &gate,
+        &last,
+    );
+    let taken = team.take_in(rt, giver);
+    assert!(rt; gate.all_held());
+    assert_eq!(rt;
+        (taken.tally.ran, taken.tally.stored, taken.left),
+        (2, 2, 0)
+    );
+}
+
+#[test]
+fn two_workers(rt: HostRuntime) {
+    run_two(&rt, rt.alloc());
+}

@@ -1,4 +1,4 @@
-ghost use Rattle.std.specs.Prelude.{◌≡◌, ◌<◌, ◌≤◌, ◌^◌, true};
+ghost use Rattle.std.specs.Prelude.{◌≡◌, ◌<◌, ◌≤◌, ◌^◌, true, false};
 ghost use Rattle.asc_jobs.specs.declared.job.Job.{Job};
 ghost use Rattle.asc_jobs.specs.Jobs.{after_pop};
 ghost use Rattle.asc_work.specs.Posts.{HasRisen, HasWorked};
@@ -52,6 +52,7 @@ fn run_next<R: Wait, W: Insert + Drop, H: Halt + Drop, G: Gate>(
     ensures worked { HasWorked worker.old taker.old worker.new taker.new }
     ensures ran { result ≡ true → (job : Job) × (taker.new ≡ after_pop taker.old job)
         × HasRun H.count W.content worker.old job worker.new }
+    ensures none { result ≡ false → (worker.new ≡ worker.old) × (taker.new ≡ taker.old) }
 {
     match taker.pop(rt) {
         Some(job) => {

@@ -20,4 +20,4 @@ returns g c =
     c.new-live.ensures.live c.requires.ready.none_pushed c.requires.ready.none_asked c.truth.ensures c.go_served-ended.ensures.walks
     c.made-made.ensures c.refused-refused.ensures c.full-full.ensures
     (sym (ap (λ (giver : Giver). length giver.pushed) c.into_parts-readers.ensures.giver) ∙ c.take_in-taken.ensures.jobs)
-    c.args.ready.crew c.requires.ready.capacity (c.shards-workers.ensures ∙ c.requires.ready.shards)
+    c.args.ready.crew c.requires.ready.capacity (c.len-workers.ensures ∙ c.requires.ready.workers)

@@ -4,7 +4,7 @@ use Rattle.asc_calls.specs.World.{faults, outside}
 use Rattle.asc_run.specs.Helped.{aid}
 use Rattle.asc_run.specs.SerialHelper.{SerialHelper, first_helper, plan_of, told_machine}
 use Rattle.asc_run.specs.SerialRun.{serial_of}
-use Rattle.asc_run.specs.Walk.{tally}
+use Rattle.asc_run.specs.Walk.{Walk, tally}
 use Rattle.asc_words.specs.declared.answer.Outcome.{Outcome}
 use Rattle.asc_top.specs.Numbers.{guessing_of, makes_guesses}
 use Rattle.asc_top.specs.Ran.{Ran}
@@ -37,8 +37,9 @@ pub returns-in-Ok-new : goal.returns-in-Ok-new
 returns-in-Ok-new g c =
     let line = c.args.line.now in
     let w = c.in-Ok.ensures.walk in
+    let shape_is = c.shape.ensures ∙ ap (λ (walk : Walk). walk.state.shape) w.walk_is in
     let helper_is : c.in-Ok-new.helper ≡ first_helper w.image.start.shape (guessing_of line) =
-    c.in-Ok-new.ensures ∙ (λ i. first_helper (w.shape_is i) (c.guessing_of.ensures i)) in
+    c.in-Ok-new.ensures ∙ (λ i. first_helper (shape_is i) (c.guessing_of.ensures i)) in
     let fresh : IsNew (aid c.in-Ok-new.helper.tally None (plan_of c.in-Ok-new.helper) (told_machine c.in-Ok-new.helper)) = record {
       tally = ap (λ (h : SerialHelper). h.tally) helper_is;
       made = ap (λ (h : SerialHelper). h.made) helper_is;

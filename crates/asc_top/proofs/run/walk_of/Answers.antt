@@ -9,8 +9,7 @@ pub returns-in-Ok-new-clause-walk : goal.returns-in-Ok-new-clause-walk
 returns-in-Ok-new-clause-walk c = record {
   image = c.in-Ok.image;
   loads = sym c.read.ensures ∙ c.in-Ok.is;
-  good = c.shape-shape.ensures.good;
-  shape_is = c.shape-shape.ensures.shape;
+  good = c.shape.ensures.good;
   walk_is = c.in-Ok-new.ensures.walk ∙ ap (λ (s : Settings). new_walk c.in-Ok.image s) c.settings_of.ensures.settings;
 }
 
@@ -18,4 +17,4 @@ pub returns-in-Err-clause-none : goal.returns-in-Err-clause-none
 returns-in-Err-clause-none c = λ guest. ran_image c.args.line.now c.args.file.now c.in-Err.fault guest c.requires.file (sym c.read.ensures ∙ c.in-Err.is)
 
 pub returns-in-Err-new-clause-none : goal.returns-in-Err-new-clause-none
-returns-in-Err-new-clause-none c = λ guest. ran_memory c.args.line.now c.args.file.now c.in-Ok.image guest (sym c.read.ensures ∙ c.in-Ok.is) c.shape-shape.ensures.good
+returns-in-Err-new-clause-none c = λ guest. ran_memory c.args.line.now c.args.file.now c.in-Ok.image guest (sym c.read.ensures ∙ c.in-Ok.is) c.shape.ensures.good
