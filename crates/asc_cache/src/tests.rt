@@ -146,15 +146,19 @@ static ROWS: [Row; 5] = [
     },
 ];
 
-/// Where an insertion was refused, nothing more is stored, and what is seen stays.
+/// Where an insertion was refused, nothing is stored; the next one is stored, or is refused too.
 fn refused<R: Wait + Drop, Q: Abort>(
     rt: &Q,
     alloc: Global,
     writer: &mut ShardWriter<R>,
+    stored: u64,
 ) -> Result<(), Memory> {
-    let stored = writer.stored();
-    assert!(rt; writer.insert(lap_from(alloc, 9)?).is_err());
     assert_eq!(rt; writer.stored(), stored);
+    let next = writer.insert(lap_from(alloc, 9)?);
+    assert_eq!(rt;
+        writer.stored(),
+        stored.wrapping_add(u64::from(next.is_ok()))
+    );
     Ok(())
 }
 
@@ -170,8 +174,9 @@ fn play_row<R: Wait + Drop, Q: Abort>(
     requires { IsOwnReader writer.old readers.old.readers }
     ensures { IfOk result (λ _. IsOwnReader writer.new readers.new.readers) }
 {
+    let stored = writer.stored();
     let Ok(became) = writer.insert(lap_from(alloc, row.x5)?) else {
-        refused(rt, alloc, writer)?;
+        refused(rt, alloc, writer, stored)?;
         return Err(Memory);
     };
     assert_eq!(rt; became, row.became);

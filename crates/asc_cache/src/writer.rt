@@ -111,7 +111,8 @@ fn store<R: Wait>(
 impl<R: Wait + Drop> ShardWriter<R> {
     /// Stores an entry, unless one that is the same is held, and publishes it. Where memory is wanting nothing is
     /// stored: if it was wanting before the entry was appended, all stands as before, and the next insertion is tried. If
-    /// the publication was refused, the entry is pending, and this writer answers `Memory` from then on.
+    /// it was wanting for the entry's list or its publication, the entry is pending, and this writer answers `Memory` from
+    /// then on.
     pub fn insert(&mut self, entry: Arc<Entry, Global>) -> Result<Inserted, Memory>
         ensures outcome { IfOk result (λ i. i ≡ outcome_of (shard_of self.old).held (arc_value entry)) }
         ensures stored { IfOk result (λ i. self.new ≡ writer_after self.old i (arc_value entry)) }
@@ -168,9 +169,6 @@ impl<R: Wait + Drop> ShardWriter<R> {
     {
         self.handle.published().shard.truth();
     }
-
-    /// Ends the writer, as dropping it does. Both instances of the shard are freed once its reader is dropped too.
-    pub fn end(self) {}
 }
 
 impl<R: Wait + Drop> Drop for ShardWriter<R> {

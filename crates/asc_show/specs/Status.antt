@@ -26,16 +26,26 @@ pub record IsStatusOf (before after : Given) (faults now : ℕ) (answer : Answer
 
 -- ---- over the system
 
+-- nothing is told of what a stream of the system was given
+abbrev pub untold : Given
+untold = record { bytes = None; number = None }
+
 -- the streams of the system: nothing is told of them, none has failed, and no step was counted
 abbrev pub of_system : Outer
-of_system = outer None (record { bytes = None; number = None }) 0 0
+of_system = outer None untold 0 0
 
--- the status is the code of an answer to these words over the system, whose files are not told
+-- an answer was put to its standard error, and the status is the answer's code
+pub record IsToldOver (answer : Answer) (status : ℕ) : Type 0 where
+  pub after : Given
+  pub faults : ℕ
+  pub told : IsStatusOf untold after 0 faults answer status
+
+-- the status is that of an answer to these words over the system, whose files are not told
 pub record IsStatusOver (words : List (List ℕ)) (status : ℕ) : Type 0 where
   pub answer : Answer
   pub new : Outer
   pub says : Answers words None of_system new answer
-  pub code : status ≡ code_of answer
+  pub told : IsToldOver answer status
 
 -- ---- the words of the system
 
@@ -53,4 +63,4 @@ IsRefusal (Err error) refusal = IsRefusalOf (error_kind error) refusal
 abbrev pub IsStatusFor : {A : Type 0} → Result (IntoIter (String A) A) Error → ℕ → Type 0
 IsStatusFor given status =
     IsOkAnd given (λ words. IsStatusOver (map string_bytes (into_iter_items words)) status)
-    ⊎ ((refusal : Answer) × IsRefusal given refusal × (status ≡ code_of refusal))
+    ⊎ ((refusal : Answer) × IsRefusal given refusal × IsToldOver refusal status)
