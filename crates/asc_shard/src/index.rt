@@ -8,6 +8,8 @@ ghost use Rattle.asc_shard.specs.Inside.{IsIndexed, IsPlace, by_all, mark_of, no
 use crate::heads::{Beginning, Head, beginning_of, lower, raise};
 use crate::mark::{Mark, mark_of};
 use crate::order::compare_alike;
+#[cfg(test)]
+use crate::order::compare_groups;
 use crate::prints::range_of;
 use asc_traj::Entry;
 use std::cmp::Ordering;
@@ -54,6 +56,22 @@ impl Index {
         ensures { result ≡ slice_index_or (positions_of self.now) at 0 }
     {
         self.numbers[at].wrapping_sub(self.oldest) as usize
+    }
+
+    /// How often an entry stands first or behind one of another group.
+    #[cfg(test)]
+    pub fn groups(&self, entries: &[Arc<Entry>]) -> usize
+        requires index { IsIndexed (map arc_value entries.now) self.now }
+    {
+        let mut groups: usize = 0;
+        for at in 0..self.numbers.len() {
+            if at == 0
+                || compare_groups(self.entry(entries, at - 1), self.entry(entries, at)).is_ne()
+            {
+                groups = groups.saturating_add(1);
+            }
+        }
+        groups
     }
 }
 

@@ -142,6 +142,12 @@ impl Shard {
         search(&self.entries, &self.index, state, left, probes)
     }
 
+    /// How many groups its index has, where none stands in two places.
+    #[cfg(test)]
+    pub(crate) fn groups(&self) -> usize {
+        self.index.groups(&self.entries)
+    }
+
     /// How many entries it holds.
     pub fn len(&self) -> usize
         ensures { result ≡ length self.now.held }

@@ -55,9 +55,15 @@ fn counting<R: Abort>(rt: &R, alloc: Global, size: u32, x5: u32, x6: u32) -> Sta
 
 /// A load of a word, which is at x10.
 fn loading<R: Abort>(rt: &R, alloc: Global, x10: u32, word: u32) -> State {
-    let mut state = state_of(rt, alloc, 65_536, &[0x0005_2303]);
-    assert!(rt; state.holds(x10, 4));
-    state.write(x10, &word.to_le_bytes());
+    loading_behind(rt, alloc, x10, 0, word)
+}
+
+/// A load of a word, which is so many bytes behind x10.
+fn loading_behind<R: Abort>(rt: &R, alloc: Global, x10: u32, behind: u32, word: u32) -> State {
+    let mut state = state_of(rt, alloc, 65_536, &[0x0005_2303 | (behind << 20)]);
+    let at = x10.wrapping_add(behind);
+    assert!(rt; state.holds(at, 4));
+    state.write(at, &word.to_le_bytes());
     state.set_reg(10, x10);
     state
 }
@@ -165,15 +171,26 @@ fn looked(shard: &Shard, state: &State, left: u64) -> (Option<usize>, u64) {
 #[test]
 fn grouped(rt: HostRuntime) {
     let alloc = rt.alloc();
-    let mut shard = shard_of(&rt, alloc, 8);
+    let mut shard = shard_of(&rt, alloc, 24);
+    // Laps of one loop read the same places.
     for x5 in 0..8 {
         shard.insert(laps_from(&rt, alloc, x5, 100, 1));
+        assert_eq!(rt; shard.groups(), 1);
     }
     let state = counting(&rt, alloc, 65_536, 5, 100);
     let (found, probes) = looked(&shard, &state, 2);
     assert_eq!(rt; found, Some(5));
     assert!(rt; probes <= 5);
     assert_eq!(rt; looked(&shard, &state, 1).0, None);
+    // Another lap reads others, and so does one that loads the next word: that has the same fingerprint.
+    for (behind, groups) in [(0, 2), (4, 3)] {
+        for word in 0..8 {
+            let state = loading_behind(&rt, alloc, 0x10100, behind, word);
+            shard.insert(entry_of(&rt, alloc, &state, 9, 1));
+            assert_eq!(rt; shard.groups(), groups);
+        }
+    }
+    assert_eq!(rt; shard.len(), 24);
 }
 
 #[test]
