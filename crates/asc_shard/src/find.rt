@@ -79,11 +79,37 @@ pub fn search<P: Probes>(
         × (P.count probes.new ≡ raised P.more (sum_by (λ a. a.probes) asked) (P.count probes.old)) }
 {
     // With many lists what the words count is looked up.
-    let products = if index.heads.len() < 4 {
-        None
+    if index.heads.len() < 4 {
+        search_lists(entries, index, state, None, left, probes)
     } else {
-        Some(products_of(state))
-    };
+        search_lists(
+            entries,
+            index,
+            state,
+            Some(&products_of(state)),
+            left,
+            probes,
+        )
+    }
+}
+
+/// The same, with what each of the first words of the state counts, where that is known.
+#[inline(never)]
+fn search_lists<P: Probes>(
+    entries: &[Arc<Entry>],
+    index: &Index,
+    state: &State,
+    products: Option<&[u64; 32]>,
+    left: u64,
+    probes: &mut P,
+) -> Option<usize>
+    requires index { IsIndexed (map arc_value entries.now) index.now }
+    requires products { IfSome products (λ p. AreProducts state.now p.now) }
+    ensures none { IfNone result (longest (map arc_value entries.now) state.now left ≡ None) }
+    ensures some { IfSome result (IsFound (map arc_value entries.now) state.now left) }
+    ensures probes { (asked : List Asked) × AreAsked (map arc_value entries.now) state.now asked
+        × (P.count probes.new ≡ raised P.more (sum_by (λ a. a.probes) asked) (P.count probes.old)) }
+{
     let mut best = Best {
         position: None,
         steps: 0,
@@ -91,7 +117,7 @@ pub fn search<P: Probes>(
     let mut from = 0;
     for head in &index.heads {
         let next = from + head.count;
-        let print = print_for(head, state, products.as_ref(), entries, index, from);
+        let print = print_for(head, state, products, entries, index, from);
         let (low, high) = range_of(index, from, next, print);
         best = search_some(
             entries, index, low, high, head.len, state, left, best, probes,

@@ -13,20 +13,49 @@ pub fn range_of(index: &Index, from: usize, next: usize, print: u64) -> (usize, 
     ensures inside { (i : ℕ) → result.0 ≤ i → i < result.1 → slice_index_or index.now.prints.items i 0 ≡ print }
     ensures behind { (i : ℕ) → result.1 ≤ i → i < next → print < slice_index_or index.now.prints.items i 0 }
 {
-    let low = first_from(index, from, next, print);
+    if from == next {
+        return (from, from);
+    }
+    let last = last_from(index, from, next, print);
     // Mostly there is none.
-    if low == next || index.prints[low] != print {
+    if index.prints[last] != print {
+        let low = if index.prints[last] < print {
+            last + 1
+        } else {
+            last
+        };
         return (low, low);
     }
     // And seldom more than one.
-    if low + 1 == next || index.prints[low + 1] != print {
-        return (low, low + 1);
+    if last == from || index.prints[last - 1] != print {
+        return (last, last + 1);
     }
-    (low, first_behind(index, low, next, print))
+    (first_from(index, from, last, print), last + 1)
+}
+
+/// The last place from one to another of at most this fingerprint, or else the first.
+#[inline]
+fn last_from(index: &Index, from: usize, next: usize, print: u64) -> usize
+    requires range { (from < next) × (next ≤ length index.now.prints.items) }
+    requires rise { (i j : ℕ) → from ≤ i → i ≤ j → j < next
+        → slice_index_or index.now.prints.items i 0 ≤ slice_index_or index.now.prints.items j 0 }
+    ensures range { (from ≤ result) × (result < next) }
+    ensures most { from < result → slice_index_or index.now.prints.items result 0 ≤ print }
+    ensures behind { (i : ℕ) → result < i → i < next → print < slice_index_or index.now.prints.items i 0 }
+{
+    let mut last = from;
+    let mut count = next - from;
+    while count > 1 {
+        let half = count / 2;
+        if index.prints[last + half] <= print {
+            last += half;
+        }
+        count -= half;
+    }
+    last
 }
 
 /// The first place from one to another of at least this fingerprint.
-#[inline]
 fn first_from(index: &Index, from: usize, next: usize, print: u64) -> usize
     requires range { (from ≤ next) × (next ≤ length index.now.prints.items) }
     requires rise { (i j : ℕ) → from ≤ i → i ≤ j → j < next
@@ -40,28 +69,6 @@ fn first_from(index: &Index, from: usize, next: usize, print: u64) -> usize
     while low < high {
         let middle = low + (high - low) / 2;
         if index.prints[middle] < print {
-            low = middle + 1;
-        } else {
-            high = middle;
-        }
-    }
-    low
-}
-
-/// The first place from one to another of a greater fingerprint.
-fn first_behind(index: &Index, from: usize, next: usize, print: u64) -> usize
-    requires range { (from ≤ next) × (next ≤ length index.now.prints.items) }
-    requires rise { (i j : ℕ) → from ≤ i → i ≤ j → j < next
-        → slice_index_or index.now.prints.items i 0 ≤ slice_index_or index.now.prints.items j 0 }
-    ensures range { (from ≤ result) × (result ≤ next) }
-    ensures before { (i : ℕ) → from ≤ i → i < result → slice_index_or index.now.prints.items i 0 ≤ print }
-    ensures rest { (i : ℕ) → result ≤ i → i < next → print < slice_index_or index.now.prints.items i 0 }
-{
-    let mut low = from;
-    let mut high = next;
-    while low < high {
-        let middle = low + (high - low) / 2;
-        if index.prints[middle] <= print {
             low = middle + 1;
         } else {
             high = middle;

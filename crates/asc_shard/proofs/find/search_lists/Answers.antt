@@ -11,7 +11,7 @@ use Rattle.asc_shard.specs.Inside.{IsFrom, count_at, mark_of, mask_at, no_head, 
 use Rattle.asc_shard.proofs.Longest.{longest-none, longest-some}
 use Rattle.asc_shard.proofs.Searching.{asked-both, head-masked, froms-both, most-next, raised-both, wanted-matches, wanted-same}
 use Rattle.asc_shard.proofs.Placing.{head-lower, head-mask, head-range, head-same, prints-size, prints-up, total-size}
-use Rattle.asc_shard.proofs.find.search.Goals as goal
+use Rattle.asc_shard.proofs.find.search_lists.Goals as goal
 
 pub loop-head-init : goal.loop-head-init
 loop-head-init g c =

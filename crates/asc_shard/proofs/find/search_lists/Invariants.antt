@@ -3,7 +3,7 @@ use Rattle.std.specs.Prelude.{All, sum_by}
 use Rattle.std.specs.Arc.{arc_value}
 use Rattle.asc_shard.specs.Groups.{AreAsked, Asked}
 use Rattle.asc_shard.specs.Inside.{IsBest, IsFrom, IsMost, raised, sorted_in, total}
-use Rattle.asc_shard.proofs.find.search.Given as goal
+use Rattle.asc_shard.proofs.find.search_lists.Given as goal
 
 abbrev pub invariant-loop-head : goal.invariant-loop-head
 invariant-loop-head g l = record {
