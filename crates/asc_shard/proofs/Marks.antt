@@ -8,7 +8,7 @@ use Rattle.std.proofs.lemmas.List.{map-append, take_more}
 use Rattle.std.proofs.lemmas.List.Elements.{All-append, All-cons, All-head, All-nil, All-tail, All-filter, All-weaker, filter-append, filter_passes, All-map}
 use Rattle.std.proofs.lemmas.List.Kept.{IsStrictlyIncreasing-filter}
 use Rattle.std.proofs.lemmas.List.Sums.{AllPass-from_list_all, sum_by-append, sum_by-cons}
-use Rattle.std.proofs.lemmas.Bool.{agree_below_at, and_parts, eqb-true, eq-eqb, ne_eqb, cases_Bool, cases_eq, cond-true, cond-false, ltb-true, le-ltb, lt-ltb}
+use Rattle.std.proofs.lemmas.Bool.{and_parts, eqb-true, eq-eqb, ne_eqb, cases_Bool, cases_eq, cond-true, cond-false, ltb-true, le-ltb, lt-ltb}
 use Rattle.asc_model.specs.declared.version.Version.{Version}
 use Rattle.asc_model.specs.declared.version.Version.TheVariants.{One, Two}
 use Rattle.asc_model.specs.Number.{AreBytes, number_at, word_at}
@@ -22,7 +22,6 @@ use Rattle.asc_traj.specs.declared.part.Part.{Part}
 use Rattle.asc_traj.specs.Content.{matches}
 use Rattle.asc_traj.specs.Parts.{IsPart, all_cells, kept, masked, part_cells, word_place}
 use Rattle.asc_traj.proofs.Parts.{cells-push, here, kept-suc, kept-zero, masked-suc, masked-zero, part_cells-is}
-use Rattle.asc_shard.specs.declared.mark.TheConstants.{FACTORS}
 use Rattle.asc_shard.specs.Marks.{factor, fingerprint, first_reads_of, may_match, print_in, print_of, weight}
 use Rattle.asc_shard.specs.Inside.{bits_of, mark_of, mask_of, places_of}
 
@@ -230,11 +229,6 @@ first-of-entry e parts i d true_e is are most before next =
     ∙ ap (filter (λ cell. nat_lt cell.0 128)) is
 
 -- ---- what a word counts
-
--- the factors as code has them
-pub factor-at : (word : ℕ) → word < 32 → slice_index FACTORS word ≡ factor word
-unfolding factor
-factor-at word lt = eqb-true (slice_index FACTORS word) (factor word) (agree_below_at (λ w. slice_index FACTORS w == factor w) (λ w. true) 32 word refl lt)
 
 weight-at : (index k : ℕ) → k < 4 → weight (index * 4 + k) ≡ factor index * 256 ^ k
 unfolding weight

@@ -5,7 +5,7 @@ use Rattle.std.specs.List.{AllPairs}
 use Rattle.std.proofs.lemmas.Bool.{cases_lt, eq-eqb, eqb-true, false_from_ne_true}
 use Rattle.std.proofs.lemmas.List.Elements.{All-head, All-tail, All-append, All-get_or, All-weaker}
 use Rattle.std.proofs.lemmas.List.Kept.{AllPairs-cons}
-use Rattle.std.proofs.lemmas.List.Sums.{sum_by-append}
+use Rattle.std.proofs.lemmas.List.Sums.{sum_by-append, sum_by_more}
 use Rattle.asc_model.specs.State.{State}
 use Rattle.asc_model.specs.Entry.{Entry, IsTrueEntry}
 use Rattle.asc_traj.specs.Content.{matches}
@@ -13,8 +13,8 @@ use Rattle.asc_shard.specs.declared.heads.Head.{Head}
 use Rattle.asc_shard.specs.declared.index.Index.{Index}
 use Rattle.asc_shard.specs.Groups.{AreAsked, Asked, IsAsked, is_of_group}
 use Rattle.asc_shard.specs.Marks.{may_match, print_in, print_of}
-use Rattle.asc_shard.specs.Inside.{IsFrom, IsIndex, IsIndexed, IsMost, count_at, mark_of, mask_of, no_entry, positions_of, raised, sorted_in, sorted_of, total}
-use Rattle.asc_shard.proofs.Placing.{head-range, head-same, mark-is, print-is}
+use Rattle.asc_shard.specs.Inside.{IsFrom, IsIndex, IsIndexed, IsMost, count_at, mark_of, mask_at, mask_of, no_entry, no_head, positions_of, raised, sorted_in, sorted_of, total}
+use Rattle.asc_shard.proofs.Placing.{head-lower, head-mask, head-range, mark-is, print-is}
 use Rattle.asc_shard.proofs.Marks.{none-hidden, places-filter, same-print}
 use Rattle.asc_shard.proofs.Slots.{nth, position-in, sorted-at}
 use Rattle.asc_shard.proofs.Ranges.{froms-more, group-places, raised-add, test-group}
@@ -125,25 +125,45 @@ raised-both more new old now between before is was =
     is ∙ ap (raised more (sum_by (λ a. a.probes) new)) was ∙ raised-add more (sum_by (λ a. a.probes) new) (sum_by (λ a. a.probes) old) before
     ∙ ap (λ n. raised more n before) (sym (sum_by-append (λ (a : Asked). a.probes) new old))
 
--- what is known where code has found the state's fingerprint among the entries of a head
-pub head-masked : (held : List Entry) (index : Index) (s : State) (h from count low high print : ℕ) (list : List Head) (is : IsIndexed held index) → h < length list → list ≡ index.heads.items
-    → from ≡ total (take h index.heads.items) → count ≡ count_at list h → print ≡ print_in s (nth (sorted_in held index) from)
-    → (from ≤ low) × (low ≤ high) × (high ≤ from + count)
+-- What is known of the entries of the head at a place of a list, which begin at a place of the index.
+pub record IsHere (held : List Entry) (index : Index) (list : List Head) (h from : ℕ) : Type 0 where
+  pub some : from < from + count_at list h
+  pub most : from + count_at list h ≤ length held
+  pub next : from + count_at list h ≡ total (take (h + 1) index.heads.items)
+  pub mask : (i : ℕ) → from ≤ i → i < from + count_at list h → (mark_of (nth (sorted_in held index) i)).mask ≡ mask_at list h
+  pub lower : (i j : ℕ) → i < from → from ≤ j → j < length (positions_of index) → (mark_of (nth (sorted_in held index) i)).mask < (mark_of (nth (sorted_in held index) j)).mask
+
+pub head-here : (held : List Entry) (index : Index) (list : List Head) (h from : ℕ) → IsIndexed held index → h < length list → list ≡ index.heads.items
+    → from ≡ total (take h index.heads.items) → IsHere held index list h from
+head-here held index list h from is lt_list same begins =
+    let heads = index.heads.items in
+    let lt : h < length heads = omega (arith, lt_list, ap length same) in
+    let range = head-range held index is h lt in
+    let count = ap (λ (l : List Head). count_at l h) same in
+    record {
+      some = omega (arith, begins, count, range.0);
+      most = omega (arith, begins, count, range.1);
+      next = omega (arith, begins, count, sum_by_more (λ (head : Head). head.count) heads h no_head lt);
+      mask = λ i least below. head-mask held index is h lt i (omega (arith, least, begins)) (omega (arith, below, begins, count)) ∙ sym (ap (λ (l : List Head). mask_at l h) same);
+      lower = λ i j before behind below. head-lower held index is h lt i j (omega (arith, before, begins)) (omega (arith, behind, begins)) (omega (arith, below, is.entries.size));
+    }
+
+-- and where code has found the state's fingerprint among them
+pub head-masked : (held : List Entry) (index : Index) (s : State) (list : List Head) (h from low high print : ℕ) → IsIndexed held index → IsHere held index list h from
+    → print ≡ print_in s (nth (sorted_in held index) from)
+    → (from ≤ low) × (low ≤ high) × (high ≤ from + count_at list h)
     → ((i : ℕ) → from ≤ i → i < low → get_or index.prints.items i 0 < print)
     → ((i : ℕ) → low ≤ i → i < high → get_or index.prints.items i 0 ≡ print)
-    → ((i : ℕ) → high ≤ i → i < from + count → print < get_or index.prints.items i 0)
-    → IsMasked held (positions_of index) s from low high (from + count) print
-head-masked held index s h from count low high print list is lt_list same begins counts state range before inside behind =
-    let lt : h < length index.heads.items = omega (arith, lt_list, ap length same) in
-    let here = head-range held index is h lt in
-    let end = counts ∙ ap (λ (l : List Head). count_at l h) same in
-    let at = λ (i : ℕ) (below : i < from + count). print-is held index is i (omega (arith, below, begins, end, here.1)) in
+    → ((i : ℕ) → high ≤ i → i < from + count_at list h → print < get_or index.prints.items i 0)
+    → IsMasked held (positions_of index) s from low high (from + count_at list h) print
+head-masked held index s list h from low high print is here state range before inside behind =
+    let at = λ (i : ℕ) (below : i < from + count_at list h). print-is held index is i (omega (arith, below, here.most)) in
     record {
       index = is.entries;
-      some = omega (arith, begins, end, here.0);
-      most = omega (arith, begins, end, here.1, is.entries.size);
+      some = here.some;
+      most = omega (arith, here.most, is.entries.size);
       range = range;
-      same = λ i least below. head-same held index is h lt i (omega (arith, least, begins)) (omega (arith, below, begins, end)) ∙ ap (λ k. (mark_of (nth (sorted_in held index) k)).mask) (sym begins);
+      same = λ i least below. here.mask i least below ∙ sym (here.mask from (omega arith) here.some);
       state = state;
       before = λ i least below. omega (arith, before i least below, at i (omega (arith, below, range.1, range.2)));
       inside = λ i least below. sym (at i (omega (arith, below, range.2))) ∙ inside i least below;

@@ -1,8 +1,6 @@
-use Rattle.std.proofs.Common.{rules, ◌*◌, ◌<◌, ◌∙◌, map, ap, arith}
+use Rattle.std.proofs.Common.{rules, ◌*◌, ◌∙◌, map, arith}
 use Rattle.std.specs.Arc.{arc_value}
 use Rattle.asc_model.proofs.Numbers.{word_at-below}
-use Rattle.asc_model.specs.Entry.{IsTrueEntry}
-use Rattle.asc_shard.specs.Marks.{print_in}
 use Rattle.asc_shard.specs.Inside.{AreProducts, positions_of, sorted_in}
 use Rattle.asc_shard.proofs.Searching.{true-at}
 use Rattle.asc_shard.proofs.Slots.{nth}

@@ -1,5 +1,11 @@
-use Rattle.asc_shard.proofs.Marks.{factor-at}
+use Rattle.std.proofs.Common.{true, slice_index, ◌==◌, refl}
+use Rattle.std.proofs.lemmas.Bool.{agree_below_at, eqb-true}
+use Rattle.asc_shard.specs.declared.mark.TheConstants.{FACTORS}
+use Rattle.asc_shard.specs.Marks.{factor}
 use Rattle.asc_shard.proofs.mark.factor.Goals as goal
 
+-- each of the table is what its place says
 pub returns : goal.returns
-returns c = factor-at c.args.word c.requires
+unfolding factor
+returns c =
+    eqb-true (slice_index FACTORS c.args.word) (factor c.args.word) (agree_below_at (λ w. slice_index FACTORS w == factor w) (λ w. true) 32 c.args.word refl c.requires)

@@ -1,4 +1,4 @@
-use Rattle.std.proofs.Common.{◌∙◌, ℕ, ◌+◌, ◌*◌, ◌/◌, ◌%◌, ◌^◌, get_or, slice_index, ap}
+use Rattle.std.proofs.Common.{◌∙◌, ℕ, ◌+◌, ◌*◌, ◌/◌, ◌%◌, ◌^◌, get_or, ap}
 use Rattle.std.proofs.lemmas.List.{take_all}
 use Rattle.asc_traj.specs.Parts.{all_cells}
 use Rattle.asc_traj.proofs.Parts.{part}

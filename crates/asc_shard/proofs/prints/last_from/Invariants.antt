@@ -1,5 +1,5 @@
 -- The last place of at most the fingerprint, or else the first, is one of those that are left.
-use Rattle.std.proofs.Common.{◌+◌, ◌<◌, ◌≤◌, ℕ, get_or, length}
+use Rattle.std.proofs.Common.{◌+◌, ◌<◌, ◌≤◌, ℕ, get_or}
 use Rattle.asc_shard.proofs.prints.last_from.Given as goal
 
 abbrev pub invariant-loop-count : goal.invariant-loop-count
