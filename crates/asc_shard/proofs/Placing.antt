@@ -352,9 +352,6 @@ module _ (held : List Entry) (index : Index) (is : IsIndexed held index) (h : �
   pub head-mask : (i : ℕ) → begin ≤ i → i < end → (mark_of (at held index is i)).mask ≡ mask_at index.heads.items h
   head-mask i least below = sym (mask-is held index is i (omega (arith, below, head-range.1))) ∙ runs-at index.heads.items h i lt least below
 
-  pub head-same : (i : ℕ) → begin ≤ i → i < end → (mark_of (at held index is i)).mask ≡ (mark_of (at held index is begin)).mask
-  head-same i least below = head-mask i least below ∙ sym (head-mask begin (omega arith) head-range.0)
-
   -- masks before are lower
   pub head-lower : (i j : ℕ) → i < begin → begin ≤ j → j < length held → (mark_of (at held index is i)).mask < (mark_of (at held index is j)).mask
   head-lower i j before behind below =

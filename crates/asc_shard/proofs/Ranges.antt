@@ -274,11 +274,27 @@ raised-add more zero n count = ap (λ k. raised more k count) (let e : n ≡ 0 +
 raised-add more (suc times) n count =
     ap more (raised-add more times n count) ∙ ap (λ k. raised more k count) (let e : suc (times + n) ≡ suc times + n = omega arith in e)
 
-pub raised-one : (more : ℕ → ℕ) (e : Entry) (times : ℕ) (asked : List Asked) (now between before : ℕ) → now ≡ raised more times between
+raised-one : (more : ℕ → ℕ) (e : Entry) (times : ℕ) (asked : List Asked) (now between before : ℕ) → now ≡ raised more times between
     → between ≡ raised more (sum_by (λ a. a.probes) asked) before → now ≡ raised more (sum_by (λ a. a.probes) (record { entry = e; probes = times } ∷ asked)) before
 raised-one more e times asked now between before is was =
     is ∙ ap (raised more times) was ∙ raised-add more times (sum_by (λ a. a.probes) asked) before
     ∙ ap (λ k. raised more k before) (sym (sum_by-cons (λ (a : Asked). a.probes) (record { entry = e; probes = times }) asked))
+
+-- what is asked with one group more
+pub probes-one : (more : ℕ → ℕ) (held : List Entry) (slots : List ℕ) (s : State) (low from end times now between before : ℕ) → IsIndex held slots → low ≤ from → from < end → end ≤ length slots
+    → ((i : ℕ) → low ≤ i → i < from → by_group (nth (sorted_of held slots) i) (nth (sorted_of held slots) from) ≡ Less)
+    → ((i : ℕ) → from ≤ i → i < end → by_group (nth (sorted_of held slots) from) (nth (sorted_of held slots) i) ≡ Equal)
+    → may_match s (nth (sorted_of held slots) from) ≡ true
+    → IsFew times (end - from) × (now ≡ raised more times between)
+    → (asked : List Asked) × AreAsked held s asked × All (λ a. IsFrom (sorted_of held slots) low from a.entry) asked × (between ≡ raised more (sum_by (λ a. a.probes) asked) before)
+    → (asked : List Asked) × AreAsked held s asked × All (λ a. IsFrom (sorted_of held slots) low end a.entry) asked × (now ≡ raised more (sum_by (λ a. a.probes) asked) before)
+probes-one more held slots s low from end times now between before index least some most lower same may new old =
+    let first = nth (sorted_of held slots) from in (
+      record { entry = first; probes = times } ∷ old.0,
+      asked-one held slots s low from end times old.0 index least some most lower same may new.0 old.1 old.2,
+      froms-one (sorted_of held slots) low from end times old.0 least some old.2,
+      raised-one more first times old.0 now between before new.1 old.3,
+    )
 
 pub raised-by-one : (times count : ℕ) → raised (λ n. n + 1) times count ≡ count + times
 raised-by-one zero count = sym (add-zero count)

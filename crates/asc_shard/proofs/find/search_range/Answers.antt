@@ -1,4 +1,4 @@
-use Rattle.std.proofs.Common.{◌≡◌, ◌<◌, ◌≤◌, length, [], ◌∷◌, ◌∙◌, refl, map, sym, ap, subst, arith, rules}
+use Rattle.std.proofs.Common.{◌≡◌, ◌<◌, ◌≤◌, length, [], ◌∙◌, refl, map, sym, ap, subst, arith, rules}
 use Rattle.std.specs.Arc.{arc_value}
 use Rattle.asc_model.specs.Entry.{Entry}
 use Rattle.asc_traj.specs.Content.{matches}
@@ -6,7 +6,7 @@ use Rattle.asc_shard.specs.Inside.{IsFrom, IsMost, positions_of, sorted_of}
 use Rattle.asc_shard.specs.Groups.{Asked, IsAsked}
 use Rattle.std.proofs.lemmas.List.Elements.{All-nil}
 use Rattle.asc_shard.proofs.Slots.{nth, position-in, sorted-at}
-use Rattle.asc_shard.proofs.Ranges.{apart-more, asked-one, best-longer, froms-more, froms-one, most-apart, most-more, raised-one, tail-rising}
+use Rattle.asc_shard.proofs.Ranges.{apart-more, best-longer, froms-more, most-apart, most-more, probes-one, tail-rising}
 use Rattle.asc_shard.proofs.find.search_range.Goals as goal
 
 pub group_end-end-requires-clause-marks : goal.group_end-end-requires-clause-marks
@@ -59,14 +59,9 @@ loop-from-preserved-in-Some g c =
       found = most-more xs s c.args.left c.args.low from end c.loop-from.now.steps c.longer_of-now.result.steps v.found rises some;
       rises = let before = v.rises in omega arith;
       apart = apart-more xs c.args.low from end c.args.high (omega arith) v.apart c.group_end-end.ensures.same c.group_end-end.ensures.rest;
-      probes = (
-        record { entry = nth xs from; probes = p.0 } ∷ v.probes.0,
-        asked-one held slots s c.args.low from end p.0 v.probes.0 c.requires.index.entries (omega arith) (omega arith) (omega arith)
-            (λ i least lt. v.apart i from least lt (omega arith) (omega arith)) c.group_end-end.ensures.same
-            (c.requires.prints from (omega arith) (omega arith)) p.1 v.probes.1 v.probes.2,
-        froms-one xs c.args.low from end p.0 v.probes.0 (omega arith) (omega arith) v.probes.2,
-        raised-one g.P.Probes.more (nth xs from) p.0 v.probes.0 (g.P.Probes.count c.last_match.new.probes) (g.P.Probes.count c.loop-from.probes) (g.P.Probes.count c.args.probes.now) p.2 v.probes.3,
-      );
+      probes = probes-one g.P.Probes.more held slots s c.args.low from end p.0 (g.P.Probes.count c.last_match.new.probes) (g.P.Probes.count c.loop-from.probes) (g.P.Probes.count c.args.probes.now)
+          c.requires.index.entries (omega arith) (omega arith) (omega arith) (λ i least lt. v.apart i from least lt (omega arith) (omega arith)) c.group_end-end.ensures.same
+          (c.requires.prints from (omega arith) (omega arith)) (p.1, p.2) v.probes;
     }
 
 pub loop-from-preserved-in_default : goal.loop-from-preserved-in_default
@@ -90,14 +85,9 @@ loop-from-preserved-in_default g c =
       found = most-more xs s c.args.left c.args.low from end c.loop-from.now.steps c.loop-from.now.steps v.found (omega arith) none;
       rises = v.rises;
       apart = apart-more xs c.args.low from end c.args.high (omega arith) v.apart c.group_end-end.ensures.same c.group_end-end.ensures.rest;
-      probes = (
-        record { entry = nth xs from; probes = p.0 } ∷ v.probes.0,
-        asked-one held slots s c.args.low from end p.0 v.probes.0 c.requires.index.entries (omega arith) (omega arith) (omega arith)
-            (λ i least lt. v.apart i from least lt (omega arith) (omega arith)) c.group_end-end.ensures.same
-            (c.requires.prints from (omega arith) (omega arith)) p.1 v.probes.1 v.probes.2,
-        froms-one xs c.args.low from end p.0 v.probes.0 (omega arith) (omega arith) v.probes.2,
-        raised-one g.P.Probes.more (nth xs from) p.0 v.probes.0 (g.P.Probes.count c.last_match.new.probes) (g.P.Probes.count c.loop-from.probes) (g.P.Probes.count c.args.probes.now) p.2 v.probes.3,
-      );
+      probes = probes-one g.P.Probes.more held slots s c.args.low from end p.0 (g.P.Probes.count c.last_match.new.probes) (g.P.Probes.count c.loop-from.probes) (g.P.Probes.count c.args.probes.now)
+          c.requires.index.entries (omega arith) (omega arith) (omega arith) (λ i least lt. v.apart i from least lt (omega arith) (omega arith)) c.group_end-end.ensures.same
+          (c.requires.prints from (omega arith) (omega arith)) (p.1, p.2) v.probes;
     }
 
 pub loop-from-preserved : goal.loop-from-preserved
