@@ -1,13 +1,13 @@
 -- Lemmas on pages.
-use Rattle.std.proofs.Common.{◌≡◌, inl, inr, ℕ, ◌+◌, ◌*◌, ◌-◌, ◌/◌, ◌%◌, ◌≤◌, ◌<◌, Bool, true, false, Option, None, Some, List, [], ◌∷◌, ◌++◌, length, take, drop, replicate, refl, sym, ap, ◌∙◌, arith, max, min, subst, slice_index, slice_index_or, length-append}
-use Rattle.std.proofs.lemmas.List.{get_or_past, get_or_append_left, get_or-append_right, get_or-replicate, get_or-drop, length-replicate}
+use Rattle.std.proofs.Common.{◌≡◌, inl, inr, ℕ, zero, suc, ◌+◌, ◌*◌, ◌-◌, ◌/◌, ◌%◌, ◌≤◌, ◌<◌, Bool, true, Option, None, Some, List, [], ◌∷◌, ◌++◌, length, take, drop, replicate, refl, sym, ap, ◌∙◌, arith, max, min, subst, slice_index, slice_index_or, length-append, length-take}
+use Rattle.std.proofs.lemmas.List.{get_or_past, get_or_append_left, get_or-append_right, get_or-replicate, get_or-drop, get_or-take, length-replicate}
 use Rattle.std.specs.Global.{Vec}
 use Rattle.std.proofs.lemmas.List.FromFn.{length-map-range_with_len, get_or-map-range_with_len}
 use Rattle.std.proofs.lemmas.Bool.{cases_lt}
 use Rattle.asc_model.specs.Number.{word_at}
 use Rattle.asc_model.proofs.Numbers.{word_at-from_le_bytes}
 use Rattle.asc_pages.specs.Marks.{IsUnmarked}
-use Rattle.asc_pages.specs.Pages.{Page, Group, held, page_bytes, page_in, byte_in, bytes_in, IsPage, ArePages, KeptPages, Tells, Keeps, IsShared}
+use Rattle.asc_pages.specs.Pages.{Page, Group, held, page_bytes, page_in, group_in, byte_in, bytes_in, IsPage, ArePages, AreGroups, KeptPages, KeptGroups, Tells, Keeps, IsShared}
 
 -- ---- what is left out
 
@@ -17,26 +17,45 @@ none_in k = ap (λ (page : Option Page). page_bytes page) (get_or_past [] k None
 pub past_in : (pages : List (Option Page)) (k : ℕ) → length pages ≤ k → page_in pages k ≡ []
 past_in pages k past = ap (λ (page : Option Page). page_bytes page) (get_or_past pages k None past)
 
-byte_past : (groups : List (Option Group)) (i : ℕ) → length groups ≤ i / 1024 / 32 → byte_in groups i ≡ 0
-byte_past groups i past =
-    ap (λ (group : Option Group). slice_index (page_in (held group) (i / 1024 % 32)) (i % 1024)) (get_or_past groups (i / 1024 / 32) None past)
-    ∙ ap (λ (l : List ℕ). slice_index l (i % 1024)) (none_in (i / 1024 % 32)) ∙ get_or_past [] (i % 1024) 0 (omega arith)
+-- a group behind the first one
+group_behind : (first : List (Option Page)) (groups : List (Option Group)) (g h : ℕ) → h ≡ g + 1 → group_in first groups h ≡ held (slice_index_or groups g None)
+group_behind first groups g zero is = absurd (let h : ⊥ = omega arith in h)
+group_behind first groups g (suc h) is = ap (λ k. held (slice_index_or groups k None)) (let e : h ≡ g = omega arith in e)
+
+-- one of those that are read by their own number
+pub group_at_more : (first : List (Option Page)) (groups : List (Option Group)) (g : ℕ) (pages : List (Option Page)) → 0 < g → pages ≡ held (slice_index_or groups (g - 1) None)
+    → pages ≡ group_in first groups g
+group_at_more first groups g pages some is = is ∙ sym (group_behind first groups (g - 1) g (omega arith))
+
+byte_past : (first : List (Option Page)) (groups : List (Option Group)) (i : ℕ) → 32768 * (length first + 2 * length groups) ≤ i → byte_in first groups i ≡ 0
+byte_past first groups i past =
+    let k = i / 1024 % 32 in
+    elim (cases_lt (i / 1024 / 32) 1) [
+      | inl none ↦ ap (λ g. slice_index (page_in (group_in first groups g) k) (i % 1024)) (let e : i / 1024 / 32 ≡ 0 = omega arith in e)
+          ∙ ap (λ (l : List ℕ). slice_index l (i % 1024)) (past_in first k (omega arith)) ∙ get_or_past [] (i % 1024) 0 (omega arith)
+      | inr some ↦
+          let g = i / 1024 / 32 - 1 in
+          ap (λ (pages : List (Option Page)). slice_index (page_in pages k) (i % 1024))
+          (group_behind first groups g (i / 1024 / 32) (omega arith) ∙ ap (λ (group : Option Group). held group) (get_or_past groups g None (omega arith)))
+          ∙ ap (λ (l : List ℕ). slice_index l (i % 1024)) (none_in k) ∙ get_or_past [] (i % 1024) 0 (omega arith)
+    ]
 
 -- the byte at a place, also behind the last group
-pub byte-bytes_in : (groups : List (Option Group)) (i : ℕ) → slice_index (bytes_in groups) i ≡ byte_in groups i
+pub byte-bytes_in : (first : List (Option Page)) (groups : List (Option Group)) (i : ℕ) → slice_index (bytes_in first groups) i ≡ byte_in first groups i
 unfolding bytes_in
-byte-bytes_in groups i = elim (cases_lt i (32768 * length groups)) [
-  | inl within ↦ get_or-map-range_with_len (byte_in groups) 0 (32768 * length groups) i i 0 within (omega arith)
-  | inr past ↦ get_or_past (bytes_in groups) i 0 (omega (arith, length-map-range_with_len (byte_in groups) 0 (32768 * length groups))) ∙ sym (byte_past groups i (omega arith))
+byte-bytes_in first groups i = elim (cases_lt i (32768 * (length first + 2 * length groups))) [
+  | inl within ↦ get_or-map-range_with_len (byte_in first groups) 0 (32768 * (length first + 2 * length groups)) i i 0 within (omega arith)
+  | inr past ↦ get_or_past (bytes_in first groups) i 0 (omega (arith, length-map-range_with_len (byte_in first groups) 0 (32768 * (length first + 2 * length groups))))
+      ∙ sym (byte_past first groups i past)
 ]
 
 -- a page as it is read
-pub page_read : (bytes : List ℕ) (groups : List (Option Group)) (pages : List (Option Page)) (page : List ℕ) (p : ℕ) → bytes_in groups ≡ bytes
-    → pages ≡ held (slice_index_or groups (p / 32) None) → page ≡ page_in pages (p % 32)
+pub page_read : (bytes : List ℕ) (first : List (Option Page)) (groups : List (Option Group)) (pages : List (Option Page)) (page : List ℕ) (p : ℕ) → bytes_in first groups ≡ bytes
+    → pages ≡ group_in first groups (p / 32) → page ≡ page_in pages (p % 32)
     → (i : ℕ) → i / 1024 ≡ p → slice_index bytes i ≡ slice_index page (i % 1024)
-page_read bytes groups pages page p is group here i at =
-    ap (λ (l : List ℕ). slice_index l i) (sym is) ∙ byte-bytes_in groups i
-    ∙ ap (λ q. slice_index (page_in (held (slice_index_or groups (q / 32) None)) (q % 32)) (i % 1024)) at
+page_read bytes first groups pages page p is group here i at =
+    ap (λ (l : List ℕ). slice_index l i) (sym is) ∙ byte-bytes_in first groups i
+    ∙ ap (λ q. slice_index (page_in (group_in first groups (q / 32)) (q % 32)) (i % 1024)) at
     ∙ ap (λ (l : List (Option Page)). slice_index (page_in l (p % 32)) (i % 1024)) (sym group)
     ∙ ap (λ (l : List ℕ). slice_index l (i % 1024)) (sym here)
 
@@ -72,19 +91,35 @@ zeros-at n k = elim (cases_lt k n) [
   | inr past ↦ get_or_past (replicate n 0) k 0 (omega (arith, length-replicate {A = ℕ} n 0))
 ]
 
--- no groups have no bytes
-pub bytes_of_none : bytes_in [] ≡ []
+-- bytes over the first zeros of a page
+pub written_over : (page bytes new : List ℕ) (n k : ℕ) → page ≡ replicate 1024 0 → n ≡ min (length bytes) 1024 → k ≡ n → new ≡ take k bytes → (i : ℕ) → i < 1024
+    → slice_index (new ++ drop k page) i ≡ slice_index bytes i
+written_over page bytes new n k blank least same is i within =
+    let size : length new ≡ k = ap (λ (l : List ℕ). length l) is ∙ (let e : length (take k bytes) ≡ k = omega (arith, length-take k bytes) in e) in
+    elim (cases_lt i k) [
+      | inl below ↦ get_or_append_left new (drop k page) 0 i (omega arith) ∙ ap (λ (l : List ℕ). slice_index l i) is ∙ get_or-take k bytes i 0 below
+      | inr above ↦ get_or-append_right new (drop k page) k i 0 size above ∙ get_or-drop k page (i - k) 0
+          ∙ ap (λ (l : List ℕ). slice_index l (k + (i - k))) blank ∙ zeros-at 1024 (k + (i - k)) ∙ sym (get_or_past bytes i 0 (omega arith))
+    ]
+
+-- no groups have zeros alone
+pub bytes_of_none : bytes_in [] [] ≡ []
 unfolding bytes_in
 bytes_of_none = refl
 
 -- pages that are kept, as a group of them is read
-pub kept_pages : (marks : List Bool) (pages bytes : List ℕ) (groups : List (Option Group)) (g : ℕ) → bytes_in groups ≡ pages → Keeps marks pages bytes
-    → KeptPages marks bytes (32 * g) (held (slice_index_or groups g None))
-kept_pages marks pages bytes groups g is kept k within free i far inside here =
+pub kept_pages : (marks : List Bool) (pages bytes : List ℕ) (first : List (Option Page)) (groups : List (Option Group)) (g : ℕ) → bytes_in first groups ≡ pages → Keeps marks pages bytes
+    → KeptPages marks bytes (32 * g) (group_in first groups g)
+kept_pages marks pages bytes first groups g is kept k within free i far inside here =
     kept i far inside (ap (λ p. slice_index_or marks p true) here ∙ free)
-    ∙ page_read pages groups (held (slice_index_or groups g None)) (page_in (held (slice_index_or groups g None)) k) (32 * g + k) is
-    (ap (λ h. held (slice_index_or groups h None)) (let e : g ≡ (32 * g + k) / 32 = omega arith in e))
-    (ap (λ j. page_in (held (slice_index_or groups g None)) j) (let e : k ≡ (32 * g + k) % 32 = omega arith in e)) i here
+    ∙ page_read pages first groups (group_in first groups g) (page_in (group_in first groups g) k) (32 * g + k) is
+    (ap (λ h. group_in first groups h) (let e : g ≡ (32 * g + k) / 32 = omega arith in e))
+    (ap (λ j. page_in (group_in first groups g) j) (let e : k ≡ (32 * g + k) % 32 = omega arith in e)) i here
+
+pub kept_groups : (marks : List Bool) (pages bytes : List ℕ) (first : List (Option Page)) (groups : List (Option Group)) → bytes_in first groups ≡ pages → Keeps marks pages bytes
+    → KeptGroups marks bytes groups
+kept_groups marks pages bytes first groups is kept g =
+    subst (λ (l : List (Option Page)). KeptPages marks bytes (32 * (g + 1)) l) (group_behind first groups g (g + 1) refl) (kept_pages marks pages bytes first groups (g + 1) is kept)
 
 -- the pages of a group that is kept whole, or of which no page is marked
 pub kept_group : (marks : List Bool) (bytes : List ℕ) (g : ℕ) (kept pages : List (Option Page)) → length marks ≡ length bytes / 1024 + 1
@@ -111,17 +146,31 @@ group_made marks bytes g used kept pages size free so count each k within = elim
   | inr past ↦ page_behind marks bytes g used k kept pages size free so within past count
 ]
 
--- the pages of all groups
-pub groups_made : (marks : List Bool) (pages bytes : List ℕ) (before groups : List (Option Group)) (used : ℕ) → length marks ≡ length bytes / 1024 + 1
-    → bytes_in before ≡ pages → Keeps marks pages bytes → IsUnmarked marks (32 * used) (length marks)
-    → length groups ≡ min (max used (length before)) ((length marks - 1) / 32 + 1)
-    → ((k : ℕ) → k < length groups → ArePages bytes (32 * k) (held (slice_index_or groups k None))) → Tells (bytes_in groups) bytes
-groups_made marks pages bytes before groups used size is kept free count each i far inside = elim (cases_lt (i / 1024 / 32) (length groups)) [
-  | inl there ↦ each (i / 1024 / 32) there (i / 1024 % 32) (omega arith) i far inside (omega arith) ∙ sym (byte-bytes_in groups i)
-  | inr past ↦ kept i far inside (free (i / 1024) (omega arith) (omega arith) (omega arith))
-      ∙ ap (λ (l : List ℕ). slice_index l i) (sym is) ∙ byte-bytes_in before i ∙ byte_past before i (omega arith)
-      ∙ sym (byte-bytes_in groups i ∙ byte_past groups i past)
+-- the pages of the groups behind the first one
+pub groups_made : (marks : List Bool) (bytes : List ℕ) (before groups : List (Option Group)) (used rest : ℕ) → length marks ≡ length bytes / 1024 + 1
+    → KeptGroups marks bytes before → IsUnmarked marks (32 * used) (length marks) → used ≤ rest + 1
+    → length groups ≡ min (max rest (length before)) ((length marks - 1) / 32)
+    → ((k : ℕ) → k < length groups → ArePages bytes (32 * (k + 1)) (held (slice_index_or groups k None))) → AreGroups bytes groups
+groups_made marks bytes before groups used rest size kept free least count each g = elim (cases_lt g (length groups)) [
+  | inl there ↦ each g there
+  | inr past ↦ λ k within i far inside here. kept g k within (free (32 * (g + 1) + k) (omega arith) (omega arith) (omega arith)) i far inside here
+      ∙ ap (λ (group : Option Group). slice_index (page_in (held group) k) (i % 1024)) (get_or_past before g None (omega arith) ∙ sym (get_or_past groups g None past))
 ]
+
+-- the pages of all groups
+pub pages_told : (bytes : List ℕ) (first : List (Option Page)) (groups : List (Option Group)) → ArePages bytes 0 first → AreGroups bytes groups → Tells (bytes_in first groups) bytes
+pages_told bytes first groups low high i far inside =
+    let k = i / 1024 % 32 in
+    elim (cases_lt (i / 1024 / 32) 1) [
+      | inl none ↦ low k (omega arith) i far inside (omega arith)
+          ∙ ap (λ g. slice_index (page_in (group_in first groups g) k) (i % 1024)) (let e : 0 ≡ i / 1024 / 32 = omega arith in e)
+          ∙ sym (byte-bytes_in first groups i)
+      | inr some ↦
+          let g = i / 1024 / 32 - 1 in
+          high g k (omega arith) i far inside (omega arith)
+          ∙ ap (λ (pages : List (Option Page)). slice_index (page_in pages k) (i % 1024)) (sym (group_behind first groups g (i / 1024 / 32) (omega arith)))
+          ∙ sym (byte-bytes_in first groups i)
+    ]
 
 -- where no page is marked the pages are those that are kept
 pub all_kept : (marks : List Bool) (pages bytes same : List ℕ) → length marks ≡ length bytes / 1024 + 1 → IsUnmarked marks 0 (length marks) → Keeps marks pages bytes → same ≡ pages

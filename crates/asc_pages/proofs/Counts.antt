@@ -1,6 +1,7 @@
 -- Lemmas on how many pages and groups may have marks.
-use Rattle.std.proofs.Common.{◌≡◌, ◌≢◌, inl, inr, ℕ, ◌+◌, ◌*◌, ◌-◌, ◌/◌, ◌%◌, ◌≤◌, ◌<◌, Bool, true, false, List, ◌++◌, length-append, length, replicate, take, drop, max, min, refl, sym, ap, ◌∙◌, arith, slice_index, slice_index_or, slice_set, length-take, length-drop}
-use Rattle.std.proofs.lemmas.List.{get_or_past, get_or-replicate, length-replicate, get_or-set_same, get_or-set_other, length-set, ext_get_or, get_or_append_left, get_or-append_right, get_or-drop, with_items_is}
+use Rattle.std.proofs.Common.{◌≡◌, ◌⊎◌, inl, inr, ℕ, ◌+◌, ◌*◌, ◌-◌, ◌/◌, ◌%◌, ◌≤◌, ◌<◌, Bool, true, false, List, length, replicate, take, drop, max, sym, ap, ◌∙◌, arith, slice_index, slice_index_or, slice_set, length-take, length-drop}
+use Rattle.std.proofs.lemmas.List.{get_or_past, get_or-replicate, length-replicate, get_or-set_same, get_or-set_other, length-set, ext_get_or, get_or_append_left, get_or-append_right, get_or-drop, get_or-take, with_items_is}
+use borrow.Rule.Slice.PartMut.{put_mid}
 use Rattle.std.specs.Vec.{with_items}
 use Rattle.std.specs.Global.{Vec}
 use Rattle.std.proofs.lemmas.Bool.{cases_eq, cases_lt}
@@ -73,37 +74,36 @@ unmarked_groups used groups pages so p least most within =
     let none = so.rest (p / 32) (omega arith) in
     so.free p within (omega arith)
 
--- the first of a list filled, where those behind are so already
-pub filled : {A : Type 0} (list : List A) (item other : A) (count : ℕ) → count ≤ length list → ((k : ℕ) → count ≤ k → k < length list → slice_index_or list k other ≡ item)
-    → replicate count item ++ drop count list ≡ replicate (length list) item
-filled {A} list item other count within rest =
-    let front : length (replicate count item) ≡ count = length-replicate count item in
-    let size : length (replicate count item ++ drop count list) ≡ length list = omega (arith, front, length-append (replicate count item) (drop count list), length-drop count list) in
-    ext_get_or other (replicate count item ++ drop count list) (replicate (length list) item) (size ∙ sym (length-replicate (length list) item))
-    (λ k inside. elim (cases_lt k count) [
-      | inl first ↦ get_or_append_left (replicate count item) (drop count list) other k (omega arith) ∙ get_or-replicate count k item other first
-          ∙ sym (get_or-replicate (length list) k item other (omega arith))
-      | inr behind ↦ get_or-append_right (replicate count item) (drop count list) count k other front behind ∙ get_or-drop count list (k - count) other
-          ∙ ap (λ j. slice_index_or list j other) (let e : count + (k - count) ≡ k = omega arith in e)
-          ∙ rest k behind (omega arith) ∙ sym (get_or-replicate (length list) k item other (omega arith))
-    ])
+-- a part of a list that was filled
+pub filled_part : {A : Type 0} (list new : List A) (item other : A) (at k i : ℕ) → new ≡ replicate (length (take k (drop at list))) item → at + k ≤ length list → at ≤ i → i < at + k
+    → slice_index_or (put_mid at k list new) i other ≡ item
+filled_part {A} list new item other at k i is within least most =
+    let front : length (take at list) ≡ at = omega (arith, length-take at list) in
+    let count : length (take k (drop at list)) ≡ k = omega (arith, length-take k (drop at list), length-drop at list) in
+    let size : length new ≡ k = ap (λ (l : List A). length l) is ∙ length-replicate _ item ∙ count in
+    get_or-append_right (take at list) _ at i other front least ∙ get_or_append_left new _ other (i - at) (omega arith)
+    ∙ ap (λ (l : List A). slice_index_or l (i - at) other) is ∙ get_or-replicate _ (i - at) item other (omega arith)
 
--- all marks taken away
-pub pages_cleared : (used count : ℕ) (groups : List ℕ) (pages : List Bool) → AreCounted used groups pages → count ≡ min (length pages) (32 * used)
-    → replicate count false ++ drop count pages ≡ replicate (length pages) false
-pages_cleared used count groups pages so size =
-    filled pages false true count (omega arith) (λ k behind within. let none = so.rest (k / 32) (omega arith) in so.free k within (omega arith))
+-- and what lies beside it
+pub filled_beside : {A : Type 0} (list new : List A) (item other : A) (at k i : ℕ) → new ≡ replicate (length (take k (drop at list))) item → at + k ≤ length list → (i < at) ⊎ (at + k ≤ i)
+    → slice_index_or (put_mid at k list new) i other ≡ slice_index_or list i other
+filled_beside {A} list new item other at k i is within outside =
+    let front : length (take at list) ≡ at = omega (arith, length-take at list) in
+    let count : length (take k (drop at list)) ≡ k = omega (arith, length-take k (drop at list), length-drop at list) in
+    let size : length new ≡ k = ap (λ (l : List A). length l) is ∙ length-replicate _ item ∙ count in
+    elim outside [
+      | inl below ↦ get_or_append_left (take at list) _ other i (omega arith) ∙ get_or-take at list i other below
+      | inr above ↦ get_or-append_right (take at list) _ at i other front (omega arith) ∙ get_or-append_right new (drop k (drop at list)) k (i - at) other size (omega arith)
+          ∙ get_or-drop k (drop at list) (i - at - k) other ∙ get_or-drop at list (k + (i - at - k)) other
+          ∙ ap (λ j. slice_index_or list j other) (let e : at + (k + (i - at - k)) ≡ i = omega arith in e)
+    ]
 
-pub groups_cleared : (used : ℕ) (groups : List ℕ) (pages : List Bool) → AreCounted used groups pages → replicate used 0 ++ drop used groups ≡ replicate (length groups) 0
-groups_cleared used groups pages so = filled groups 0 0 used so.within (λ k behind within. so.rest k behind)
+-- a list whose elements are all one
+pub all_same : {A : Type 0} (list : List A) (item other : A) (count : ℕ) → length list ≡ count → ((k : ℕ) → k < count → slice_index_or list k other ≡ item) → list ≡ replicate count item
+all_same list item other count size each =
+    ext_get_or other list (replicate count item) (size ∙ sym (length-replicate count item))
+    (λ k inside. each k (omega arith) ∙ sym (get_or-replicate count k item other (omega arith)))
 
 -- what a `Vec` holds once all of it was written over
 pub items_over : {A : Type 0} (v : Vec A) (new : List A) → length new ≡ length v.items → (with_items v new).items ≡ new
 items_over v new same = with_items_is v new (same ∙ sym v.ok.0)
-
--- a part of a list that was filled
-pub part_filled : {A : Type 0} (new list : List A) (item : A) (count part : ℕ) → count ≤ length list → part ≡ count → new ≡ replicate (length (take part list)) item
-    → new ++ drop part list ≡ replicate count item ++ drop count list
-part_filled {A} new list item count part within same is =
-    ap (λ (l : List A). l ++ drop part list) (is ∙ ap (λ n. replicate n item) (let e : length (take part list) ≡ count = omega (arith, length-take part list) in e))
-    ∙ ap (λ n. replicate count item ++ drop n list) same

@@ -1,5 +1,5 @@
 -- Pages: 1024 places each. Groups: 32 pages each. The first 136 places are of no account.
-use Rattle.std.specs.Prelude.{◌≡◌, ℕ, ◌+◌, ◌*◌, ◌/◌, ◌%◌, ◌<◌, ◌≤◌, Bool, true, false, List, [], length, map, slice_index, slice_index_or, Option, Some, None}
+use Rattle.std.specs.Prelude.{◌≡◌, ℕ, zero, suc, ◌+◌, ◌*◌, ◌/◌, ◌%◌, ◌<◌, ◌≤◌, Bool, true, false, List, [], length, map, slice_index, slice_index_or, Option, Some, None}
 use Rattle.std.specs.List.{range_with_len}
 use Rattle.std.specs.declared.sync.Arc.{Arc}
 use Rattle.std.specs.Global.{Vec, Global}
@@ -26,13 +26,18 @@ page_bytes (Some page) = page.value
 abbrev pub page_in : List (Option Page) → ℕ → List ℕ
 page_in pages k = page_bytes (slice_index_or pages k None)
 
--- the byte at a place of groups
-abbrev pub byte_in : List (Option Group) → ℕ → ℕ
-byte_in groups i = slice_index (page_in (held (slice_index_or groups (i / 1024 / 32) None)) (i / 1024 % 32)) (i % 1024)
+-- the pages of group g: those of the first group stand by themselves, and the groups behind it are listed
+abbrev pub group_in : List (Option Page) → List (Option Group) → ℕ → List (Option Page)
+group_in first groups zero = first
+group_in first groups (suc g) = held (slice_index_or groups g None)
 
--- the bytes of groups
-unfoldable pub bytes_in : List (Option Group) → List ℕ
-bytes_in groups = map (byte_in groups) (range_with_len 0 (32768 * length groups))
+-- the byte at a place of groups
+abbrev pub byte_in : List (Option Page) → List (Option Group) → ℕ → ℕ
+byte_in first groups i = slice_index (page_in (group_in first groups (i / 1024 / 32)) (i / 1024 % 32)) (i % 1024)
+
+-- the bytes of groups; there are none where there is no page
+unfoldable pub bytes_in : List (Option Page) → List (Option Group) → List ℕ
+bytes_in first groups = map (byte_in first groups) (range_with_len 0 (32768 * (length first + 2 * length groups)))
 
 -- this is page p of these bytes
 abbrev pub IsPage : List ℕ → ℕ → List ℕ → Type 0
@@ -42,10 +47,17 @@ IsPage bytes p page = (i : ℕ) → 136 ≤ i → i < length bytes → i / 1024 
 abbrev pub ArePages : List ℕ → ℕ → List (Option Page) → Type 0
 ArePages bytes from pages = (k : ℕ) → k < 32 → IsPage bytes (from + k) (page_in pages k)
 
+-- these are the groups of these bytes behind the first one
+abbrev pub AreGroups : List ℕ → List (Option Group) → Type 0
+AreGroups bytes groups = (g : ℕ) → ArePages bytes (32 * (g + 1)) (held (slice_index_or groups g None))
+
 -- where they are not marked
 abbrev pub KeptPages : List Bool → List ℕ → ℕ → List (Option Page) → Type 0
 KeptPages marks bytes from pages =
     (k : ℕ) → k < 32 → slice_index_or marks (from + k) true ≡ false → IsPage bytes (from + k) (page_in pages k)
+
+abbrev pub KeptGroups : List Bool → List ℕ → List (Option Group) → Type 0
+KeptGroups marks bytes groups = (g : ℕ) → KeptPages marks bytes (32 * (g + 1)) (held (slice_index_or groups g None))
 
 -- pages have these bytes, from place 136 on
 abbrev pub Tells : List ℕ → List ℕ → Type 0

@@ -1,5 +1,5 @@
-ghost use Rattle.std.specs.Prelude.{◌≡◌, ◌+◌, ◌*◌, ◌-◌, ◌^◌, ◌<◌, ◌≤◌, ◌++◌, true, false, drop, IfOk, length, replicate, slice_index_or, slice_set};
-ghost use Rattle.asc_pages.specs.Marks.{IsUnmarked};
+ghost use Rattle.std.specs.Prelude.{◌≡◌, ◌≢◌, ℕ, ◌+◌, ◌*◌, ◌-◌, ◌/◌, ◌^◌, ◌<◌, ◌≤◌, true, false, IfOk, length, replicate, slice_index_or, slice_set};
+ghost use Rattle.asc_pages.specs.Marks.{AreCounted, IsUnmarked};
 
 use crate::pages::GROUP;
 use asc_outside::Memory;
@@ -123,27 +123,36 @@ impl Marks {
         requires { length self.old < 2 ^ 32 }
         ensures { self.new ≡ replicate (length self.old) false }
     {
-        let pages = self.pages.len().min(GROUP * self.used);
-        unmark_first(&mut self.pages, pages);
-        empty_first(&mut self.groups, self.used);
+        clear_groups(&mut self.pages, &mut self.groups, self.used);
         self.used = 0;
     }
 }
 
-// Takes the first so many marks away.
-#[inline]
-fn unmark_first(pages: &mut [bool], count: usize)
-    requires { count ≤ length pages.old }
-    ensures { pages.new ≡ replicate count false ++ drop count pages.old }
+// Takes the marks of the first so many groups away. Those behind have none.
+fn clear_groups(pages: &mut [bool], groups: &mut [usize], used: usize)
+    requires few { length pages.old < 2 ^ 32 }
+    requires counted { AreCounted used groups.old pages.old }
+    ensures pages { pages.new ≡ replicate (length pages.old) false }
+    ensures groups { groups.new ≡ replicate (length groups.old) 0 }
 {
-    pages[0..count].fill(false);
+    for g in 0..used {
+        if groups[g] != 0 {
+            unmark_group(pages, g);
+            groups[g] = 0;
+        }
+    }
 }
 
-// Makes the first so many numbers 0.
+// Takes the marks of group g away.
 #[inline]
-fn empty_first(groups: &mut [usize], count: usize)
-    requires { count ≤ length groups.old }
-    ensures { groups.new ≡ replicate count 0 ++ drop count groups.old }
+fn unmark_group(pages: &mut [bool], g: usize)
+    requires few { length pages.old < 2 ^ 32 }
+    requires group { 32 * g < length pages.old }
+    ensures size { length pages.new ≡ length pages.old }
+    ensures here { (p : ℕ) → p / 32 ≡ g → p < length pages.old → slice_index_or pages.new p true ≡ false }
+    ensures others { (p : ℕ) → p / 32 ≢ g → slice_index_or pages.new p true ≡ slice_index_or pages.old p true }
 {
-    groups[0..count].fill(0);
+    let from = g * GROUP;
+    let to = pages.len().min(from + GROUP);
+    pages[from..to].fill(false);
 }

@@ -1,6 +1,6 @@
-ghost use Rattle.std.specs.Prelude.{◌≡◌, ◌+◌, ◌*◌, ◌/◌, ◌%◌, ◌^◌, ◌<◌, ◌≤◌, ℕ, [], max, min, false, IfOk, None, length, slice_index, slice_index_or};
+ghost use Rattle.std.specs.Prelude.{◌≡◌, ◌+◌, ◌*◌, ◌/◌, ◌%◌, ◌^◌, ◌<◌, ◌≤◌, ℕ, [], max, min, false, IfOk, None, length, replicate, slice_index, slice_index_or};
 ghost use Rattle.asc_model.specs.Number.{word_at};
-ghost use Rattle.asc_pages.specs.Pages.{IsPage, ArePages, KeptPages, Keeps, Tells, IsShared, base_bytes, held, page_bytes, page_in};
+ghost use Rattle.asc_pages.specs.Pages.{IsPage, ArePages, AreGroups, KeptPages, KeptGroups, Keeps, Tells, IsShared, base_bytes, group_in, held, page_bytes, page_in};
 
 use crate::Marks;
 use asc_outside::Memory;
@@ -23,13 +23,21 @@ type Page = Option<Arc<[u8; PAGE]>>;
 // A group of pages that is left out is blank.
 type Group = Option<Arc<Vec<Page>>>;
 
+// The pages of the first group stand by themselves: they take fewer pieces of memory so.
+#[derive(Drop)]
+struct Top {
+    first: Vec<Page>,
+    // The groups behind the first one.
+    groups: Vec<Group>,
+}
+
 /// Pages of bytes that do not change. They can be shared, also by threads, and share what they have in common with
 /// others.
 ///
 /// Contracts see them as their bytes. Behind the last one all are 0.
 #[derive(Drop)]
 pub struct Pages {
-    groups: Arc<Vec<Group>>,
+    top: Arc<Top>,
 }
 
 impl Model for Pages {
@@ -38,7 +46,7 @@ impl Model for Pages {
 
     ghost Value = { List ℕ };
 
-    ghost view = { λ s. bytes_in s.groups.value.items };
+    ghost view = { λ s. bytes_in s.top.value.first.items s.top.value.groups.items };
 }
 
 impl Pages {
@@ -46,9 +54,12 @@ impl Pages {
     pub fn none(alloc: Global) -> Result<Pages, Memory>
         ensures { IfOk result (λ pages. pages ≡ []) }
     {
-        let groups = Vec::with_capacity(alloc, 0)?;
+        let top = Top {
+            first: Vec::new(alloc),
+            groups: Vec::new(alloc),
+        };
         Ok(Pages {
-            groups: Arc::new(alloc, groups)?,
+            top: Arc::new(alloc, top)?,
         })
     }
 
@@ -58,7 +69,7 @@ impl Pages {
         ensures { IfOk result (λ pages. pages ≡ self.now) }
     {
         Ok(Pages {
-            groups: Arc::try_clone(&self.groups)?,
+            top: Arc::try_clone(&self.top)?,
         })
     }
 
@@ -94,7 +105,7 @@ impl Pages {
         self.copied(alloc, bytes, changed)
     }
 
-    // The same, group by group.
+    // The same, where a page is marked.
     #[inline(never)]
     fn copied(&self, alloc: Global, bytes: &[u8], changed: &Marks) -> Result<Pages, Memory>
         requires most { length bytes.now < 2 ^ 32 }
@@ -102,14 +113,10 @@ impl Pages {
         requires kept { Keeps changed.now self.now bytes.now }
         ensures { IfOk result (λ pages. Tells pages bytes.now) }
     {
-        let count = (changed.len() - 1) / GROUP + 1;
-        let used = used_of(changed.used_groups(), self.groups.len(), count);
-        let mut groups = Vec::with_capacity(alloc, used)?;
-        for g in 0..used {
-            groups.push_reserved(group_of(alloc, bytes, changed, &self.groups, g)?);
-        }
+        let first = pages_of(alloc, bytes, changed, &self.top.first, 0)?;
+        let groups = groups_of(alloc, bytes, changed, &self.top.groups)?;
         Ok(Pages {
-            groups: Arc::new(alloc, groups)?,
+            top: Arc::new(alloc, Top { first, groups })?,
         })
     }
 
@@ -132,7 +139,7 @@ impl Pages {
         ensures page { (i : ℕ) → i / 1024 ≡ p → slice_index self.now i ≡ slice_index result.now (i % 1024) }
         ensures size { 0 < length result.now → length result.now ≡ 1024 }
     {
-        page_at(group_at(&self.groups, p / GROUP), p % GROUP)
+        page_at(pages_in(&self.top, p / GROUP), p % GROUP)
     }
 }
 
@@ -168,6 +175,18 @@ fn used_of(one: usize, other: usize, count: usize) -> usize
 
 // The pages of group g, or none where it is left out.
 #[inline]
+fn pages_in(top: &Top, g: usize) -> &[Page]
+    ensures { result.now ≡ group_in top.now.first.items top.now.groups.items g }
+{
+    if g == 0 {
+        &top.first[..]
+    } else {
+        group_at(&top.groups, g - 1)
+    }
+}
+
+// The pages of part g of a list of groups, or none where it is left out.
+#[inline]
 fn group_at(groups: &[Group], g: usize) -> &[Page]
     ensures { result.now ≡ held (slice_index_or groups.now g None) }
 {
@@ -200,7 +219,29 @@ fn share_part<T>(parts: &[Option<Arc<T>>], k: usize) -> Result<Option<Arc<T>>, M
     }
 }
 
-// Group g of bytes: that of those that are kept, shared, where no page of it is changed.
+// The groups of bytes behind the first one.
+#[inline]
+fn groups_of(
+    alloc: Global,
+    bytes: &[u8],
+    changed: &Marks,
+    kept: &[Group],
+) -> Result<Vec<Group>, Memory>
+    requires most { length bytes.now < 2 ^ 32 }
+    requires marks { length changed.now ≡ length bytes.now / 1024 + 1 }
+    requires kept { KeptGroups changed.now bytes.now kept.now }
+    ensures { IfOk result (λ groups. AreGroups bytes.now groups.items) }
+{
+    let count = (changed.len() - 1) / GROUP;
+    let used = used_of(changed.used_groups().saturating_sub(1), kept.len(), count);
+    let mut groups = Vec::with_capacity(alloc, used)?;
+    for g in 0..used {
+        groups.push_reserved(group_of(alloc, bytes, changed, kept, g)?);
+    }
+    Ok(groups)
+}
+
+// Part g of the groups of bytes: that of those that are kept, shared, where no page of it is changed.
 #[inline]
 fn group_of(
     alloc: Global,
@@ -211,30 +252,31 @@ fn group_of(
 ) -> Result<Group, Memory>
     requires most { length bytes.now < 2 ^ 32 }
     requires marks { length changed.now ≡ length bytes.now / 1024 + 1 }
-    requires group { 32 * g < length changed.now }
-    requires kept { KeptPages changed.now bytes.now (32 * g) (held (slice_index_or kept.now g None)) }
-    ensures { IfOk result (λ group. ArePages bytes.now (32 * g) (held group)) }
+    requires group { 32 * (g + 1) < length changed.now }
+    requires kept { KeptPages changed.now bytes.now (32 * (g + 1)) (held (slice_index_or kept.now g None)) }
+    ensures { IfOk result (λ group. ArePages bytes.now (32 * (g + 1)) (held group)) }
 {
-    if changed.used_pages(g) == 0 {
+    if changed.used_pages(g + 1) == 0 {
         return share_part(kept, g);
     }
-    copied_group(alloc, bytes, changed, group_at(kept, g), g)
+    let pages = pages_of(alloc, bytes, changed, group_at(kept, g), g + 1)?;
+    Ok(Some(Arc::new(alloc, pages)?))
 }
 
-// Group g of bytes: copies of the pages that are changed, and the others of those that are kept, shared.
+// The pages of group g of bytes: copies of those that are changed, and the others of those that are kept, shared.
 #[inline(never)]
-fn copied_group(
+fn pages_of(
     alloc: Global,
     bytes: &[u8],
     changed: &Marks,
     kept: &[Page],
     g: usize,
-) -> Result<Group, Memory>
+) -> Result<Vec<Page>, Memory>
     requires most { length bytes.now < 2 ^ 32 }
     requires marks { length changed.now ≡ length bytes.now / 1024 + 1 }
     requires group { 32 * g < length changed.now }
     requires kept { KeptPages changed.now bytes.now (32 * g) kept.now }
-    ensures { IfOk result (λ group. ArePages bytes.now (32 * g) (held group)) }
+    ensures { IfOk result (λ pages. ArePages bytes.now (32 * g) pages.items) }
 {
     let (from, to) = part_ends(g, changed.len());
     let used = used_of(changed.used_pages(g), kept.len(), to - from);
@@ -242,7 +284,7 @@ fn copied_group(
     for p in from..from + used {
         pages.push_reserved(page_of(alloc, bytes, p, changed.is_marked(p), kept, p - from)?);
     }
-    Ok(Some(Arc::new(alloc, pages)?))
+    Ok(pages)
 }
 
 // Page p of bytes: a copy where it is changed, and else page k of those that are kept, shared.
@@ -268,27 +310,27 @@ fn page_of(
 
 // A page of the first bytes of a list, and zeros behind those that there are.
 //
-// It stands out of the loop over a group's pages, which then has no page of its own to keep.
+// It stands out of the loop over a group's pages, which then has no page of its own to keep. The bytes are written into
+// the page where it lies: one that is made first is copied twice.
 #[inline(never)]
 fn copy_of(alloc: Global, bytes: &[u8]) -> Result<Arc<[u8; PAGE]>, Memory>
     ensures { IfOk result (λ page. (i : ℕ) → i < 1024 → slice_index page.value i ≡ slice_index bytes.now i) }
 {
-    match bytes.first_chunk() {
-        Some(page) => Ok(Arc::new(alloc, *page)?),
-        None => Ok(Arc::new(alloc, padded(bytes))?),
+    let mut page = Arc::new(alloc, [0; PAGE])?;
+    match Arc::get_mut(&mut page) {
+        Some(zeros) => write_over(zeros, bytes),
+        // It is nobody else's yet.
+        None => return Err(Memory),
     }
+    Ok(page)
 }
 
-// The same of fewer bytes than a page has.
-#[cold]
-#[inline(never)]
-fn padded(bytes: &[u8]) -> [u8; PAGE]
-    requires { length bytes.now < 1024 }
-    ensures { (i : ℕ) → slice_index result i ≡ slice_index bytes.now i }
+// Writes the first bytes of a list over a page of zeros.
+#[inline]
+fn write_over(page: &mut [u8; PAGE], bytes: &[u8])
+    requires { page.old ≡ replicate 1024 0 }
+    ensures { (i : ℕ) → i < 1024 → slice_index page.new i ≡ slice_index bytes.now i }
 {
-    let mut page = [0; PAGE];
-    for i in 0..bytes.len() {
-        page[i] = bytes[i];
-    }
-    page
+    let len = bytes.len().min(PAGE);
+    page[0..len].copy_from_slice(&bytes[0..len]);
 }

@@ -1,4 +1,4 @@
-use Rattle.std.proofs.Common.{◌≡◌, List, Option, None, ℕ, slice_index_or, sym, subst}
+use Rattle.std.proofs.Common.{List, Option, None, ℕ, slice_index_or, sym, subst}
 use Rattle.std.proofs.lemmas.Result.{IfOk-weaker}
 use Rattle.asc_pages.specs.Pages.{Page, IsPage, IsShared, page_bytes}
 use Rattle.asc_pages.proofs.Copies.{shared_page}

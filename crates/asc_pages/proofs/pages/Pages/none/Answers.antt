@@ -1,8 +1,11 @@
-use Rattle.std.proofs.Common.{◌∙◌, Option, ap}
-use Rattle.std.specs.Global.{Vec}
-use Rattle.asc_pages.specs.Pages.{Group, bytes_in}
+use Rattle.std.proofs.Common.{◌∙◌, List, Option, [], ap}
+use Rattle.asc_pages.specs.declared.pages.Top.{Top}
+use Rattle.asc_pages.specs.Pages.{Page, Group, bytes_in}
 use Rattle.asc_pages.proofs.Copies.{bytes_of_none}
 use Rattle.asc_pages.proofs.pages.Pages.none.Goals as goal
 
 pub returns : goal.returns
-returns c = ap (λ (v : Vec (Option Group)). bytes_in v.items) c.in_ok-new.ensures.ok ∙ ap bytes_in c.in_ok-groups.ensures.items ∙ bytes_of_none
+returns c =
+    ap (λ (t : Top). bytes_in t.first.items t.groups.items) c.in_ok-new.ensures.ok
+    ∙ ap (λ (l : List (Option Page)). bytes_in l c.new-2.result.items) c.new.ensures.items
+    ∙ ap (λ (l : List (Option Group)). bytes_in [] l) c.new-2.ensures.items ∙ bytes_of_none

@@ -1,8 +1,7 @@
 use Rattle.std.proofs.Common.{◌≡◌, ◌∙◌, ◌+◌, ◌*◌, ◌-◌, Option, length, sym, ap, subst, arith, true, slice_index_or}
-use Rattle.std.specs.Global.{Vec}
-use Rattle.asc_pages.specs.Pages.{Page, IsPage, ArePages, page_bytes, page_in}
+use Rattle.asc_pages.specs.Pages.{Page, IsPage, page_bytes, page_in}
 use Rattle.asc_pages.proofs.Copies.{each_more, group_made}
-use Rattle.asc_pages.proofs.pages.copied_group.Goals as goal
+use Rattle.asc_pages.proofs.pages.pages_of.Goals as goal
 
 pub page_of-requires-clause-kept : goal.page_of-requires-clause-kept
 page_of-requires-clause-kept c free =
@@ -22,7 +21,5 @@ loop-p-preserved c =
 
 pub returns : goal.returns
 returns c =
-    let bytes = c.args.bytes.now in
-    subst (λ (v : Vec (Option Page)). ArePages bytes (32 * c.args.g) v.items) (sym c.in_ok-new.ensures.ok)
-    (group_made c.args.changed.now bytes c.args.g c.used_pages.result c.args.kept.now c.loop-p.pages.items c.requires.marks c.used_pages.ensures c.requires.kept
-    (omega (arith, c.loop-p.invariant.count, c.used_of-used.ensures, c.part_ends-from.ensures.from, c.part_ends-from.ensures.to, c.len.ensures)) c.loop-p.invariant.each)
+    group_made c.args.changed.now c.args.bytes.now c.args.g c.used_pages.result c.args.kept.now c.loop-p.pages.items c.requires.marks c.used_pages.ensures c.requires.kept
+    (omega (arith, c.loop-p.invariant.count, c.used_of-used.ensures, c.part_ends-from.ensures.from, c.part_ends-from.ensures.to, c.len.ensures)) c.loop-p.invariant.each

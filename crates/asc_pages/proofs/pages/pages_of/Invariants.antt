@@ -1,6 +1,6 @@
 use Rattle.std.proofs.Common.{◌≡◌, ◌≤◌, ◌<◌, ◌+◌, ◌*◌, ℕ, None, length, slice_index_or, vec_capacity}
 use Rattle.asc_pages.specs.Pages.{IsPage, page_bytes}
-use Rattle.asc_pages.proofs.pages.copied_group.Given as goal
+use Rattle.asc_pages.proofs.pages.pages_of.Given as goal
 
 -- the pages so far, and room for the others
 abbrev pub invariant-loop-p : goal.invariant-loop-p
