@@ -1,11 +1,10 @@
 -- Lemmas on how many pages and groups may have marks.
-use Rattle.std.proofs.Common.{◌≡◌, ◌⊎◌, inl, inr, ℕ, ◌+◌, ◌*◌, ◌-◌, ◌/◌, ◌%◌, ◌≤◌, ◌<◌, Bool, true, false, List, length, replicate, take, drop, max, sym, ap, ◌∙◌, arith, slice_index, slice_index_or, slice_set, length-take, length-drop}
-use Rattle.std.proofs.lemmas.List.{get_or_past, get_or-replicate, length-replicate, get_or-set_same, get_or-set_other, length-set, ext_get_or, get_or_append_left, get_or-append_right, get_or-drop, get_or-take, with_items_is}
-use borrow.Rule.Slice.PartMut.{put_mid}
+use Rattle.std.proofs.Common.{◌≡◌, inl, inr, ℕ, ◌+◌, ◌*◌, ◌-◌, ◌/◌, ◌%◌, ◌≤◌, ◌<◌, Bool, true, false, List, [], ◌∷◌, ◌++◌, length, replicate, max, sym, ap, ◌∙◌, arith, slice_index, slice_index_or, slice_set, length-append, refl}
+use Rattle.std.proofs.lemmas.List.{get_or_past, get_or-replicate, length-replicate, get_or-set_same, get_or-set_other, length-set, ext_get_or, get_or_append_left, get_or-append_right, with_items_is}
 use Rattle.std.specs.Vec.{with_items}
 use Rattle.std.specs.Global.{Vec}
 use Rattle.std.proofs.lemmas.Bool.{cases_eq, cases_lt}
-use Rattle.asc_pages.specs.Marks.{AreCounted, IsUnmarked}
+use Rattle.asc_pages.specs.Marks.{AreCounted, AreListed, IsUnmarked}
 
 -- where page p is marked
 pub counted_more : (used u : ℕ) (groups : List ℕ) (pages : List Bool) (p g many : ℕ) → AreCounted used groups pages → p < length pages → g ≡ p / 32
@@ -74,30 +73,6 @@ unmarked_groups used groups pages so p least most within =
     let none = so.rest (p / 32) (omega arith) in
     so.free p within (omega arith)
 
--- a part of a list that was filled
-pub filled_part : {A : Type 0} (list new : List A) (item other : A) (at k i : ℕ) → new ≡ replicate (length (take k (drop at list))) item → at + k ≤ length list → at ≤ i → i < at + k
-    → slice_index_or (put_mid at k list new) i other ≡ item
-filled_part {A} list new item other at k i is within least most =
-    let front : length (take at list) ≡ at = omega (arith, length-take at list) in
-    let count : length (take k (drop at list)) ≡ k = omega (arith, length-take k (drop at list), length-drop at list) in
-    let size : length new ≡ k = ap (λ (l : List A). length l) is ∙ length-replicate _ item ∙ count in
-    get_or-append_right (take at list) _ at i other front least ∙ get_or_append_left new _ other (i - at) (omega arith)
-    ∙ ap (λ (l : List A). slice_index_or l (i - at) other) is ∙ get_or-replicate _ (i - at) item other (omega arith)
-
--- and what lies beside it
-pub filled_beside : {A : Type 0} (list new : List A) (item other : A) (at k i : ℕ) → new ≡ replicate (length (take k (drop at list))) item → at + k ≤ length list → (i < at) ⊎ (at + k ≤ i)
-    → slice_index_or (put_mid at k list new) i other ≡ slice_index_or list i other
-filled_beside {A} list new item other at k i is within outside =
-    let front : length (take at list) ≡ at = omega (arith, length-take at list) in
-    let count : length (take k (drop at list)) ≡ k = omega (arith, length-take k (drop at list), length-drop at list) in
-    let size : length new ≡ k = ap (λ (l : List A). length l) is ∙ length-replicate _ item ∙ count in
-    elim outside [
-      | inl below ↦ get_or_append_left (take at list) _ other i (omega arith) ∙ get_or-take at list i other below
-      | inr above ↦ get_or-append_right (take at list) _ at i other front (omega arith) ∙ get_or-append_right new (drop k (drop at list)) k (i - at) other size (omega arith)
-          ∙ get_or-drop k (drop at list) (i - at - k) other ∙ get_or-drop at list (k + (i - at - k)) other
-          ∙ ap (λ j. slice_index_or list j other) (let e : at + (k + (i - at - k)) ≡ i = omega arith in e)
-    ]
-
 -- a list whose elements are all one
 pub all_same : {A : Type 0} (list : List A) (item other : A) (count : ℕ) → length list ≡ count → ((k : ℕ) → k < count → slice_index_or list k other ≡ item) → list ≡ replicate count item
 all_same list item other count size each =
@@ -107,3 +82,39 @@ all_same list item other count size each =
 -- what a `Vec` holds once all of it was written over
 pub items_over : {A : Type 0} (v : Vec A) (new : List A) → length new ≡ length v.items → (with_items v new).items ≡ new
 items_over v new same = with_items_is v new (same ∙ sym v.ok.0)
+
+-- ---- listed pages
+
+-- nothing marked, nothing listed
+pub listed_none : (listed groups : List ℕ) (pages : List Bool) (count : ℕ) → listed ≡ [] → groups ≡ replicate count 0 → pages ≡ replicate (length pages) false → AreListed listed groups pages
+listed_none listed groups pages count none each free = record {
+  within = λ j inside. absurd (let size : length listed ≡ 0 = ap (λ (l : List ℕ). length l) none in omega arith);
+  page = λ p inside other. ap (λ (l : List Bool). slice_index_or l p true) free ∙ get_or-replicate (length pages) p false true inside;
+  group = λ g other. ap (λ (l : List ℕ). slice_index l g) each ∙ (elim (cases_lt g count) [
+    | inl inside ↦ get_or-replicate count g 0 0 inside
+    | inr past ↦ get_or_past (replicate count 0) g 0 (omega (arith, length-replicate {A = ℕ} count 0))
+  ]);
+}
+
+-- one page more, marked and listed
+pub listed_more : (listed new groups : List ℕ) (pages : List Bool) (p g many : ℕ) → AreListed listed groups pages → p < length pages → g ≡ p / 32 → new ≡ listed ++ p ∷ []
+    → AreListed new (slice_set groups g many) (slice_set pages p true)
+listed_more listed new groups pages p g many so inside here more =
+    let size : length new ≡ length listed + 1 = ap (λ (l : List ℕ). length l) more ∙ length-append listed (p ∷ []) in
+    let count : length (slice_set pages p true) ≡ length pages = length-set pages p true in
+    let before : (j : ℕ) → j < length listed → slice_index new j ≡ slice_index listed j = λ j below. ap (λ (l : List ℕ). slice_index l j) more ∙ get_or_append_left listed (p ∷ []) 0 j below in
+    let last : slice_index new (length listed) ≡ p =
+    ap (λ (l : List ℕ). slice_index l (length listed)) more ∙ get_or-append_right listed (p ∷ []) (length listed) (length listed) 0 refl (omega arith)
+    ∙ ap (λ j. slice_index (p ∷ []) j) (let e : length listed - length listed ≡ 0 = omega arith in e) in
+    record {
+      within = λ j below. elim (cases_lt j (length listed)) [
+        | inl old ↦ let e = before j old in let w = so.within j old in omega arith
+        | inr new_one ↦ let at : j ≡ length listed = omega arith in let e : slice_index new j ≡ p = ap (λ k. slice_index new k) at ∙ last in omega arith
+      ];
+      page = λ q within other.
+          get_or-set_other pages p q true true (λ same. other (length listed) (omega arith) (last ∙ sym same))
+          ∙ so.page q (omega arith) (λ j below same. other j (omega arith) (before j below ∙ same));
+      group = λ h other.
+          get_or-set_other groups g h many 0 (λ same. other (length listed) (omega arith) (ap (λ k. k / 32) last ∙ sym here ∙ sym same))
+          ∙ so.group h (λ j below same. other j (omega arith) (ap (λ k. k / 32) (before j below) ∙ same));
+    }

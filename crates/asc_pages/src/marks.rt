@@ -1,12 +1,16 @@
-ghost use Rattle.std.specs.Prelude.{◌≡◌, ◌≢◌, ℕ, ◌+◌, ◌*◌, ◌-◌, ◌/◌, ◌^◌, ◌<◌, ◌≤◌, true, false, IfOk, length, replicate, slice_index_or, slice_set};
-ghost use Rattle.asc_pages.specs.Marks.{AreCounted, IsUnmarked};
+ghost use Rattle.std.specs.Prelude.{◌≡◌, ◌+◌, ◌*◌, ◌-◌, ◌^◌, ◌<◌, ◌≤◌, [], ◌∷◌, ◌++◌, true, false, IfOk, length, replicate, slice_index_or, slice_set};
+ghost use Rattle.asc_pages.specs.Marks.{AreListed, IsUnmarked};
 
 use crate::pages::GROUP;
 use asc_outside::Memory;
 use std::alloc::Global;
 use std::marker::Model;
 
-/// A mark for each page. Up to where there are marks is told group by group.
+// At most so many marked pages are listed.
+const LISTED: usize = 64;
+
+/// A mark for each page. Up to where there are marks is told group by group, and which pages are marked, where they are
+/// few, by a list.
 ///
 /// Contracts see it as the list of them.
 #[derive(Drop)]
@@ -16,17 +20,20 @@ pub struct Marks {
     groups: Vec<usize>,
     // Up to which group one may have a mark.
     used: usize,
+    // The marked pages, as they were marked, and whether there are more.
+    listed: Vec<usize>,
+    more: bool,
 }
 
 impl Model for Marks {
-    ghost use Rattle.asc_pages.specs.Marks.{AreCounted};
+    ghost use Rattle.asc_pages.specs.Marks.{AreMarks};
     ghost use Rattle.std.specs.Prelude.{List, Bool};
 
     ghost Value = { List Bool };
 
     ghost view = { λ m. m.pages.items };
 
-    ghost invariant = { λ m. AreCounted m.used m.groups.items m.pages.items };
+    ghost invariant = { λ m. AreMarks m.used m.more m.listed.items m.groups.items m.pages.items };
 }
 
 impl Marks {
@@ -39,6 +46,8 @@ impl Marks {
             pages: vec![in alloc; false; count]?,
             groups: vec![in alloc; 0; count.div_ceil(GROUP)]?,
             used: 0,
+            listed: Vec::with_capacity(alloc, LISTED)?,
+            more: false,
         })
     }
 
@@ -107,6 +116,7 @@ impl Marks {
         self.pages[p] = true;
         self.groups[g] = self.groups[g].max(p % GROUP + 1);
         self.used = self.used.max(g + 1);
+        list_page(&mut self.listed, &mut self.more, p);
     }
 
     /// Marks all pages.
@@ -116,6 +126,7 @@ impl Marks {
         self.pages.fill(true);
         self.groups.fill(GROUP);
         self.used = self.groups.len();
+        self.more = true;
     }
 
     /// Takes all marks away.
@@ -123,36 +134,51 @@ impl Marks {
         requires { length self.old < 2 ^ 32 }
         ensures { self.new ≡ replicate (length self.old) false }
     {
-        clear_groups(&mut self.pages, &mut self.groups, self.used);
+        unmark(&mut self.pages, &mut self.groups, &self.listed, self.more);
         self.used = 0;
+        self.listed.clear();
+        self.more = false;
     }
 }
 
-// Takes the marks of the first so many groups away. Those behind have none.
-fn clear_groups(pages: &mut [bool], groups: &mut [usize], used: usize)
-    requires few { length pages.old < 2 ^ 32 }
-    requires counted { AreCounted used groups.old pages.old }
+// Lists a page, or says that there are more where the list is full.
+#[inline]
+fn list_page(listed: &mut Vec<usize>, more: &mut bool, p: usize)
+    ensures { more.new ≡ false → (more.old ≡ false) × (listed.new.items ≡ listed.old.items ++ p ∷ []) }
+{
+    if listed.len() < listed.capacity() {
+        listed.push_reserved(p);
+    } else {
+        *more = true;
+    }
+}
+
+// Takes all marks away: those of the listed pages, or where there are more, every one.
+#[inline]
+fn unmark(pages: &mut [bool], groups: &mut [usize], listed: &[usize], more: bool)
+    requires groups { length pages.old ≤ 32 * length groups.old }
+    requires listed { more ≡ false → AreListed listed.now groups.old pages.old }
     ensures pages { pages.new ≡ replicate (length pages.old) false }
     ensures groups { groups.new ≡ replicate (length groups.old) 0 }
 {
-    for g in 0..used {
-        if groups[g] != 0 {
-            unmark_group(pages, g);
-            groups[g] = 0;
-        }
+    if more {
+        pages.fill(false);
+        groups.fill(0);
+    } else {
+        unmark_listed(pages, groups, listed);
     }
 }
 
-// Takes the marks of group g away.
+// Takes the marks of the listed pages away, which are all that there are.
 #[inline]
-fn unmark_group(pages: &mut [bool], g: usize)
-    requires few { length pages.old < 2 ^ 32 }
-    requires group { 32 * g < length pages.old }
-    ensures size { length pages.new ≡ length pages.old }
-    ensures here { (p : ℕ) → p / 32 ≡ g → p < length pages.old → slice_index_or pages.new p true ≡ false }
-    ensures others { (p : ℕ) → p / 32 ≢ g → slice_index_or pages.new p true ≡ slice_index_or pages.old p true }
+fn unmark_listed(pages: &mut [bool], groups: &mut [usize], listed: &[usize])
+    requires groups { length pages.old ≤ 32 * length groups.old }
+    requires listed { AreListed listed.now groups.old pages.old }
+    ensures pages { pages.new ≡ replicate (length pages.old) false }
+    ensures groups { groups.new ≡ replicate (length groups.old) 0 }
 {
-    let from = g * GROUP;
-    let to = pages.len().min(from + GROUP);
-    pages[from..to].fill(false);
+    for p in listed {
+        pages[*p] = false;
+        groups[*p / GROUP] = 0;
+    }
 }

@@ -310,7 +310,7 @@ fn page_of(
 
 // A page of the first bytes of a list, and zeros behind those that there are.
 //
-// It stands out of the loop over a group's pages, which then has no page of its own to keep. The bytes are written into
+// It stands out of the loop over a group's pages, which then keeps what it has in registers. The bytes are written into
 // the page where it lies: one that is made first is copied twice.
 #[inline(never)]
 fn copy_of(alloc: Global, bytes: &[u8]) -> Result<Arc<[u8; PAGE]>, Memory>
