@@ -1,13 +1,14 @@
 -- Lemmas on pages.
-use Rattle.std.proofs.Common.{◌≡◌, inl, inr, ℕ, zero, suc, ◌+◌, ◌*◌, ◌-◌, ◌/◌, ◌%◌, ◌≤◌, ◌<◌, Bool, true, Option, None, Some, List, [], ◌∷◌, ◌++◌, length, take, drop, replicate, refl, sym, ap, ◌∙◌, arith, max, min, subst, slice_index, slice_index_or, length-append, length-take}
+use Rattle.std.proofs.Common.{nat_lt, cond, ◌≡◌, inl, inr, ℕ, zero, suc, ◌+◌, ◌*◌, ◌-◌, ◌/◌, ◌%◌, ◌≤◌, ◌<◌, Bool, true, false, Option, None, Some, List, [], ◌∷◌, ◌++◌, length, take, drop, replicate, refl, sym, ap, ◌∙◌, arith, max, min, subst, slice_index, slice_index_or, length-append, length-take}
 use Rattle.std.proofs.lemmas.List.{get_or_past, get_or_append_left, get_or-append_right, get_or-replicate, get_or-drop, get_or-take, length-replicate}
 use Rattle.std.specs.Global.{Vec}
 use Rattle.std.proofs.lemmas.List.FromFn.{length-map-range_with_len, get_or-map-range_with_len}
 use Rattle.std.proofs.lemmas.Bool.{cases_lt}
+use Rattle.std.proofs.lemmas.Bool.Decides.{nat_tests}
 use Rattle.asc_model.specs.Number.{word_at}
 use Rattle.asc_model.proofs.Numbers.{word_at-from_le_bytes}
 use Rattle.asc_pages.specs.Marks.{IsUnmarked}
-use Rattle.asc_pages.specs.Pages.{Page, Group, held, page_bytes, page_in, group_in, byte_in, bytes_in, IsPage, ArePages, AreGroups, KeptPages, KeptGroups, Tells, Keeps, IsShared}
+use Rattle.asc_pages.specs.Pages.{Page, Group, held, page_bytes, page_in, position_in, number_in, behind_in, group_in, byte_in, reach, bytes_in, IsPage, ArePages, AreGroups, KeptPages, KeptGroups, Tells, Keeps, IsShared}
 
 -- ---- what is left out
 
@@ -17,45 +18,88 @@ none_in k = ap (λ (page : Option Page). page_bytes page) (get_or_past [] k None
 pub past_in : (pages : List (Option Page)) (k : ℕ) → length pages ≤ k → page_in pages k ≡ []
 past_in pages k past = ap (λ (page : Option Page). page_bytes page) (get_or_past pages k None past)
 
+-- ---- groups
+
+lt_yes : (i n : ℕ) → i < n → nat_lt i n ≡ true
+lt_yes i n below = grind (arith, nat_tests)
+
+lt_no : (i n : ℕ) → n ≤ i → nat_lt i n ≡ false
+lt_no i n above = grind (arith, nat_tests)
+
+-- where a group stands: before those that are left out, among them, or behind them
+pub position_low : (low gap all h : ℕ) → h < low → position_in low gap all h ≡ h
+position_low low gap all h below = ap (λ b. cond b h (cond (nat_lt (h - low) gap) all (h - gap))) (lt_yes h low below)
+
+pub position_left : (low gap all h : ℕ) → low ≤ h → h < low + gap → position_in low gap all h ≡ all
+position_left low gap all h above below =
+    ap (λ b. cond b h (cond (nat_lt (h - low) gap) all (h - gap))) (lt_no h low above) ∙ ap (λ b. cond b all (h - gap)) (lt_yes (h - low) gap (omega arith))
+
+pub position_high : (low gap all h : ℕ) → low + gap ≤ h → position_in low gap all h ≡ h - gap
+position_high low gap all h above =
+    ap (λ b. cond b h (cond (nat_lt (h - low) gap) all (h - gap))) (lt_no h low (omega arith)) ∙ ap (λ b. cond b all (h - gap)) (lt_no (h - low) gap (omega arith))
+
+pub number_low : (low gap k : ℕ) → k < low → number_in low gap k ≡ k
+number_low low gap k below = ap (λ b. cond b k (k + gap)) (lt_yes k low below)
+
+pub number_high : (low gap k : ℕ) → low ≤ k → number_in low gap k ≡ k + gap
+number_high low gap k above = ap (λ b. cond b k (k + gap)) (lt_no k low above)
+
+-- a group past all that are listed
+position_past : (low gap all h : ℕ) → all + gap ≤ h → all ≤ position_in low gap all h
+position_past low gap all h past = elim (cases_lt h low) [
+  | inl below ↦ omega (arith, position_low low gap all h below)
+  | inr above ↦ elim (cases_lt h (low + gap)) [
+    | inl left ↦ omega (arith, position_left low gap all h above left)
+    | inr high ↦ omega (arith, position_high low gap all h high)
+  ]
+]
+
+pub blank_left : (groups : List (Option Group)) (low gap h : ℕ) → low ≤ h → h < low + gap → slice_index_or groups (position_in low gap (length groups) h) None ≡ None
+blank_left groups low gap h above left = get_or_past groups (position_in low gap (length groups) h) None (omega (arith, position_left low gap (length groups) h above left))
+
 -- a group behind the first one
-group_behind : (first : List (Option Page)) (groups : List (Option Group)) (g h : ℕ) → h ≡ g + 1 → group_in first groups h ≡ held (slice_index_or groups g None)
-group_behind first groups g zero is = absurd (let h : ⊥ = omega arith in h)
-group_behind first groups g (suc h) is = ap (λ k. held (slice_index_or groups k None)) (let e : h ≡ g = omega arith in e)
+group_behind : (first : List (Option Page)) (groups : List (Option Group)) (low gap h g : ℕ) → g ≡ h + 1 → group_in first groups low gap g ≡ behind_in groups low gap h
+group_behind first groups low gap h zero is = absurd (let e : ⊥ = omega arith in e)
+group_behind first groups low gap h (suc g) is = ap (λ k. behind_in groups low gap k) (let e : g ≡ h = omega arith in e)
 
--- one of those that are read by their own number
-pub group_at_more : (first : List (Option Page)) (groups : List (Option Group)) (g : ℕ) (pages : List (Option Page)) → 0 < g → pages ≡ held (slice_index_or groups (g - 1) None)
-    → pages ≡ group_in first groups g
-group_at_more first groups g pages some is = is ∙ sym (group_behind first groups (g - 1) g (omega arith))
+-- a group that is not listed
+behind_past : (groups : List (Option Group)) (low gap h : ℕ) → reach groups gap ≤ h + 1 → behind_in groups low gap h ≡ []
+behind_past [] low gap h past = ap (λ (group : Option Group). held group) (get_or_past [] (position_in low gap 0 h) None (omega arith))
+behind_past (group ∷ rest) low gap h past =
+    ap (λ (g : Option Group). held g)
+    (get_or_past (group ∷ rest) (position_in low gap (length (group ∷ rest)) h) None (position_past low gap (length (group ∷ rest)) h (omega arith)))
 
-byte_past : (first : List (Option Page)) (groups : List (Option Group)) (i : ℕ) → 32768 * (length first + 2 * length groups) ≤ i → byte_in first groups i ≡ 0
-byte_past first groups i past =
+byte_past : (first : List (Option Page)) (groups : List (Option Group)) (low gap i : ℕ) → 32768 * (length first + reach groups gap) ≤ i → byte_in first groups low gap i ≡ 0
+byte_past first groups low gap i past =
     let k = i / 1024 % 32 in
     elim (cases_lt (i / 1024 / 32) 1) [
-      | inl none ↦ ap (λ g. slice_index (page_in (group_in first groups g) k) (i % 1024)) (let e : i / 1024 / 32 ≡ 0 = omega arith in e)
+      | inl none ↦ ap (λ g. slice_index (page_in (group_in first groups low gap g) k) (i % 1024)) (let e : i / 1024 / 32 ≡ 0 = omega arith in e)
           ∙ ap (λ (l : List ℕ). slice_index l (i % 1024)) (past_in first k (omega arith)) ∙ get_or_past [] (i % 1024) 0 (omega arith)
       | inr some ↦
-          let g = i / 1024 / 32 - 1 in
+          let h = i / 1024 / 32 - 1 in
           ap (λ (pages : List (Option Page)). slice_index (page_in pages k) (i % 1024))
-          (group_behind first groups g (i / 1024 / 32) (omega arith) ∙ ap (λ (group : Option Group). held group) (get_or_past groups g None (omega arith)))
+          (group_behind first groups low gap h (i / 1024 / 32) (omega arith) ∙ behind_past groups low gap h (omega arith))
           ∙ ap (λ (l : List ℕ). slice_index l (i % 1024)) (none_in k) ∙ get_or_past [] (i % 1024) 0 (omega arith)
     ]
 
 -- the byte at a place, also behind the last group
-pub byte-bytes_in : (first : List (Option Page)) (groups : List (Option Group)) (i : ℕ) → slice_index (bytes_in first groups) i ≡ byte_in first groups i
+pub byte-bytes_in : (first : List (Option Page)) (groups : List (Option Group)) (low gap i : ℕ) → slice_index (bytes_in first groups low gap) i ≡ byte_in first groups low gap i
 unfolding bytes_in
-byte-bytes_in first groups i = elim (cases_lt i (32768 * (length first + 2 * length groups))) [
-  | inl within ↦ get_or-map-range_with_len (byte_in first groups) 0 (32768 * (length first + 2 * length groups)) i i 0 within (omega arith)
-  | inr past ↦ get_or_past (bytes_in first groups) i 0 (omega (arith, length-map-range_with_len (byte_in first groups) 0 (32768 * (length first + 2 * length groups))))
-      ∙ sym (byte_past first groups i past)
-]
+byte-bytes_in first groups low gap i =
+    let n = 32768 * (length first + reach groups gap) in
+    elim (cases_lt i n) [
+      | inl within ↦ get_or-map-range_with_len (byte_in first groups low gap) 0 n i i 0 within (omega arith)
+      | inr past ↦ get_or_past (bytes_in first groups low gap) i 0 (omega (arith, length-map-range_with_len (byte_in first groups low gap) 0 n))
+          ∙ sym (byte_past first groups low gap i past)
+    ]
 
 -- a page as it is read
-pub page_read : (bytes : List ℕ) (first : List (Option Page)) (groups : List (Option Group)) (pages : List (Option Page)) (page : List ℕ) (p : ℕ) → bytes_in first groups ≡ bytes
-    → pages ≡ group_in first groups (p / 32) → page ≡ page_in pages (p % 32)
+pub page_read : (bytes : List ℕ) (first : List (Option Page)) (groups : List (Option Group)) (low gap : ℕ) (pages : List (Option Page)) (page : List ℕ) (p : ℕ)
+    → bytes_in first groups low gap ≡ bytes → pages ≡ group_in first groups low gap (p / 32) → page ≡ page_in pages (p % 32)
     → (i : ℕ) → i / 1024 ≡ p → slice_index bytes i ≡ slice_index page (i % 1024)
-page_read bytes first groups pages page p is group here i at =
-    ap (λ (l : List ℕ). slice_index l i) (sym is) ∙ byte-bytes_in first groups i
-    ∙ ap (λ q. slice_index (page_in (group_in first groups (q / 32)) (q % 32)) (i % 1024)) at
+page_read bytes first groups low gap pages page p is group here i at =
+    ap (λ (l : List ℕ). slice_index l i) (sym is) ∙ byte-bytes_in first groups low gap i
+    ∙ ap (λ q. slice_index (page_in (group_in first groups low gap (q / 32)) (q % 32)) (i % 1024)) at
     ∙ ap (λ (l : List (Option Page)). slice_index (page_in l (p % 32)) (i % 1024)) (sym group)
     ∙ ap (λ (l : List ℕ). slice_index l (i % 1024)) (sym here)
 
@@ -102,31 +146,25 @@ written_over page bytes new n k blank least same is i within =
           ∙ ap (λ (l : List ℕ). slice_index l (k + (i - k))) blank ∙ zeros-at 1024 (k + (i - k)) ∙ sym (get_or_past bytes i 0 (omega arith))
     ]
 
--- no groups have zeros alone
-pub bytes_of_none : bytes_in [] [] ≡ []
+-- no groups have no bytes
+pub bytes_of_none : bytes_in [] [] 0 0 ≡ []
 unfolding bytes_in
 bytes_of_none = refl
 
 -- pages that are kept, as a group of them is read
-pub kept_pages : (marks : List Bool) (pages bytes : List ℕ) (first : List (Option Page)) (groups : List (Option Group)) (g : ℕ) → bytes_in first groups ≡ pages → Keeps marks pages bytes
-    → KeptPages marks bytes (32 * g) (group_in first groups g)
-kept_pages marks pages bytes first groups g is kept k within free i far inside here =
+pub kept_pages : (marks : List Bool) (pages bytes : List ℕ) (first : List (Option Page)) (groups : List (Option Group)) (low gap g : ℕ) → bytes_in first groups low gap ≡ pages → Keeps marks pages bytes
+    → KeptPages marks bytes (32 * g) (group_in first groups low gap g)
+kept_pages marks pages bytes first groups low gap g is kept k within free i far inside here =
     kept i far inside (ap (λ p. slice_index_or marks p true) here ∙ free)
-    ∙ page_read pages first groups (group_in first groups g) (page_in (group_in first groups g) k) (32 * g + k) is
-    (ap (λ h. group_in first groups h) (let e : g ≡ (32 * g + k) / 32 = omega arith in e))
-    (ap (λ j. page_in (group_in first groups g) j) (let e : k ≡ (32 * g + k) % 32 = omega arith in e)) i here
+    ∙ page_read pages first groups low gap (group_in first groups low gap g) (page_in (group_in first groups low gap g) k) (32 * g + k) is
+    (ap (λ h. group_in first groups low gap h) (let e : g ≡ (32 * g + k) / 32 = omega arith in e))
+    (ap (λ j. page_in (group_in first groups low gap g) j) (let e : k ≡ (32 * g + k) % 32 = omega arith in e)) i here
 
-pub kept_groups : (marks : List Bool) (pages bytes : List ℕ) (first : List (Option Page)) (groups : List (Option Group)) → bytes_in first groups ≡ pages → Keeps marks pages bytes
-    → KeptGroups marks bytes groups
-kept_groups marks pages bytes first groups is kept g =
-    subst (λ (l : List (Option Page)). KeptPages marks bytes (32 * (g + 1)) l) (group_behind first groups g (g + 1) refl) (kept_pages marks pages bytes first groups (g + 1) is kept)
-
--- the pages of a group that is kept whole, or of which no page is marked
-pub kept_group : (marks : List Bool) (bytes : List ℕ) (g : ℕ) (kept pages : List (Option Page)) → length marks ≡ length bytes / 1024 + 1
-    → IsUnmarked marks (32 * g) 32 → KeptPages marks bytes (32 * g) kept → pages ≡ kept → ArePages bytes (32 * g) pages
-kept_group marks bytes g kept pages size free so same k within i far inside here =
-    so k within (free (32 * g + k) (omega arith) (omega arith) (omega arith)) i far inside here
-    ∙ ap (λ (l : List (Option Page)). slice_index (page_in l k) (i % 1024)) (sym same)
+pub kept_groups : (marks : List Bool) (pages bytes : List ℕ) (first : List (Option Page)) (groups : List (Option Group)) (low gap : ℕ) → bytes_in first groups low gap ≡ pages → Keeps marks pages bytes
+    → KeptGroups marks bytes groups low gap
+kept_groups marks pages bytes first groups low gap is kept h =
+    subst (λ (l : List (Option Page)). KeptPages marks bytes (32 * (h + 1)) l) (group_behind first groups low gap h (h + 1) refl)
+    (kept_pages marks pages bytes first groups low gap (h + 1) is kept)
 
 -- a page behind those that are copied
 pub page_behind : (marks : List Bool) (bytes : List ℕ) (g used k : ℕ) (kept pages : List (Option Page)) → length marks ≡ length bytes / 1024 + 1
@@ -147,29 +185,44 @@ group_made marks bytes g used kept pages size free so count each k within = elim
 ]
 
 -- the pages of the groups behind the first one
-pub groups_made : (marks : List Bool) (bytes : List ℕ) (before groups : List (Option Group)) (used rest : ℕ) → length marks ≡ length bytes / 1024 + 1
-    → KeptGroups marks bytes before → IsUnmarked marks (32 * used) (length marks) → used ≤ rest + 1
-    → length groups ≡ min (max rest (length before)) ((length marks - 1) / 32)
-    → ((k : ℕ) → k < length groups → ArePages bytes (32 * (k + 1)) (held (slice_index_or groups k None))) → AreGroups bytes groups
-groups_made marks bytes before groups used rest size kept free least count each g = elim (cases_lt g (length groups)) [
-  | inl there ↦ each g there
-  | inr past ↦ λ k within i far inside here. kept g k within (free (32 * (g + 1) + k) (omega arith) (omega arith) (omega arith)) i far inside here
-      ∙ ap (λ (group : Option Group). slice_index (page_in (held group) k) (i % 1024)) (get_or_past before g None (omega arith) ∙ sym (get_or_past groups g None past))
+pub groups_made : (marks : List Bool) (bytes : List ℕ) (before groups : List (Option Group)) (from gap_before low gap count free back : ℕ) → length marks ≡ length bytes / 1024 + 1
+    → KeptGroups marks bytes before from gap_before → IsUnmarked marks (32 * free) (32 * (back - free)) → count ≡ (length marks - 1) / 32
+    → length groups + gap ≡ count → low + gap ≤ count
+    → ((h : ℕ) → low ≤ h → h < low + gap → (free ≤ h + 1) × (h + 1 < back) × (slice_index_or before (position_in from gap_before (length before) h) None ≡ None))
+    → ((k : ℕ) → k < length groups → ArePages bytes (32 * (number_in low gap k + 1)) (held (slice_index_or groups k None))) → AreGroups bytes groups low gap
+groups_made marks bytes before groups from gap_before low gap count free back size kept unmarked all count_is order left each h k within i far inside here = elim (cases_lt h low) [
+  | inl below ↦
+      let n = number_low low gap h below in
+      each h (omega arith) k within i far inside (omega arith)
+      ∙ ap (λ j. slice_index (page_in (held (slice_index_or groups j None)) k) (i % 1024)) (sym (position_low low gap (length groups) h below))
+  | inr above ↦ elim (cases_lt h (low + gap)) [
+    | inl blank ↦
+        let so = left h above blank in
+        let first = so.0 in
+        let last = so.1 in
+        kept h k within (unmarked (32 * (h + 1) + k) (omega arith) (omega arith) (omega arith)) i far inside here
+        ∙ ap (λ (group : Option Group). slice_index (page_in (held group) k) (i % 1024)) (so.2 ∙ sym (blank_left groups low gap h above blank))
+    | inr high ↦
+        let n = number_high low gap (h - gap) (omega arith) in
+        each (h - gap) (omega arith) k within i far inside (omega arith)
+        ∙ ap (λ j. slice_index (page_in (held (slice_index_or groups j None)) k) (i % 1024)) (sym (position_high low gap (length groups) h high))
+  ]
 ]
 
 -- the pages of all groups
-pub pages_told : (bytes : List ℕ) (first : List (Option Page)) (groups : List (Option Group)) → ArePages bytes 0 first → AreGroups bytes groups → Tells (bytes_in first groups) bytes
-pages_told bytes first groups low high i far inside =
+pub pages_told : (bytes : List ℕ) (first : List (Option Page)) (groups : List (Option Group)) (low gap : ℕ) → ArePages bytes 0 first → AreGroups bytes groups low gap
+    → Tells (bytes_in first groups low gap) bytes
+pages_told bytes first groups low gap lowest behind i far inside =
     let k = i / 1024 % 32 in
     elim (cases_lt (i / 1024 / 32) 1) [
-      | inl none ↦ low k (omega arith) i far inside (omega arith)
-          ∙ ap (λ g. slice_index (page_in (group_in first groups g) k) (i % 1024)) (let e : 0 ≡ i / 1024 / 32 = omega arith in e)
-          ∙ sym (byte-bytes_in first groups i)
+      | inl none ↦ lowest k (omega arith) i far inside (omega arith)
+          ∙ ap (λ g. slice_index (page_in (group_in first groups low gap g) k) (i % 1024)) (let e : 0 ≡ i / 1024 / 32 = omega arith in e)
+          ∙ sym (byte-bytes_in first groups low gap i)
       | inr some ↦
-          let g = i / 1024 / 32 - 1 in
-          high g k (omega arith) i far inside (omega arith)
-          ∙ ap (λ (pages : List (Option Page)). slice_index (page_in pages k) (i % 1024)) (sym (group_behind first groups g (i / 1024 / 32) (omega arith)))
-          ∙ sym (byte-bytes_in first groups i)
+          let h = i / 1024 / 32 - 1 in
+          behind h k (omega arith) i far inside (omega arith)
+          ∙ ap (λ (pages : List (Option Page)). slice_index (page_in pages k) (i % 1024)) (sym (group_behind first groups low gap h (i / 1024 / 32) (omega arith)))
+          ∙ sym (byte-bytes_in first groups low gap i)
     ]
 
 -- where no page is marked the pages are those that are kept

@@ -1,15 +1,13 @@
 -- Lemmas on how many pages and groups may have marks.
-use Rattle.std.proofs.Common.{◌≡◌, inl, inr, ℕ, ◌+◌, ◌*◌, ◌-◌, ◌/◌, ◌%◌, ◌≤◌, ◌<◌, Bool, true, false, List, [], ◌∷◌, ◌++◌, length, replicate, max, sym, ap, ◌∙◌, arith, slice_index, slice_index_or, slice_set, length-append, refl}
-use Rattle.std.proofs.lemmas.List.{get_or_past, get_or-replicate, length-replicate, get_or-set_same, get_or-set_other, length-set, ext_get_or, get_or_append_left, get_or-append_right, with_items_is}
-use Rattle.std.specs.Vec.{with_items}
-use Rattle.std.specs.Global.{Vec}
+use Rattle.std.proofs.Common.{◌≡◌, ◌⊎◌, inl, inr, ℕ, ◌+◌, ◌*◌, ◌-◌, ◌/◌, ◌%◌, ◌≤◌, ◌<◌, Bool, true, List, [], ◌∷◌, ◌++◌, length, replicate, max, sym, ap, ◌∙◌, arith, slice_index, slice_index_or, slice_set, length-append, refl}
+use Rattle.std.proofs.lemmas.List.{get_or-replicate, length-replicate, get_or-set_same, get_or-set_other, length-set, ext_get_or, get_or_append_left, get_or-append_right}
 use Rattle.std.proofs.lemmas.Bool.{cases_eq, cases_lt}
 use Rattle.asc_pages.specs.Marks.{AreCounted, AreListed, IsUnmarked}
 
 -- where page p is marked
-pub counted_more : (used u : ℕ) (groups : List ℕ) (pages : List Bool) (p g many : ℕ) → AreCounted used groups pages → p < length pages → g ≡ p / 32
-    → many ≡ max (slice_index groups g) (p % 32 + 1) → u ≡ max used (g + 1) → AreCounted u (slice_set groups g many) (slice_set pages p true)
-counted_more used u groups pages p g many so within group far most =
+pub counted_more : (used back u b : ℕ) (groups : List ℕ) (pages : List Bool) (p g many : ℕ) → AreCounted used back groups pages → p < length pages → g ≡ p / 32
+    → many ≡ max (slice_index groups g) (p % 32 + 1) → used ≤ u → b ≤ back → (g < u) ⊎ (b ≤ g) → AreCounted u b (slice_set groups g many) (slice_set pages p true)
+counted_more used back u b groups pages p g many so within group far least most other =
     let count : length (slice_set pages p true) ≡ length pages = length-set pages p true in
     let size : length (slice_set groups g many) ≡ length groups = length-set groups g many in
     let known : g < length groups = let h = so.least in omega arith in
@@ -25,13 +23,12 @@ counted_more used u groups pages p g many so within group far most =
             let read : slice_index (slice_set groups g many) (q / 32) ≡ slice_index groups (q / 32) = get_or-set_other groups g (q / 32) many 0 apart in
             get_or-set_other pages p q true true (omega arith) ∙ so.free q (omega arith) (omega arith)
       ];
-      within = let h = so.within in omega arith;
-      rest = λ k behind. get_or-set_other groups g k many 0 (omega arith) ∙ so.rest k (omega arith);
+      rest = λ k above below. get_or-set_other groups g k many 0 (elim other [ inl first ↦ omega arith | inr last ↦ omega arith ]) ∙ so.rest k (omega arith) (omega arith);
     }
 
 -- where all count
 pub counted_all : (groups : List ℕ) (pages : List Bool) (used count : ℕ) → used ≡ length groups → length pages ≤ 32 * count → 32 * count < length pages + 32
-    → groups ≡ replicate count 32 → AreCounted used groups pages
+    → groups ≡ replicate count 32 → AreCounted used used groups pages
 counted_all groups pages used count size first second each =
     let inner : length groups ≡ count = ap (λ (l : List ℕ). length l) each ∙ length-replicate count 32 in
     record {
@@ -40,37 +37,20 @@ counted_all groups pages used count size first second each =
       free = λ p within behind.
           let read : slice_index groups (p / 32) ≡ 32 = ap (λ (l : List ℕ). slice_index l (p / 32)) each ∙ get_or-replicate count (p / 32) 32 0 (omega arith) in
           absurd (omega arith);
-      within = omega arith;
-      rest = λ g behind. get_or_past groups g 0 (omega arith);
-    }
-
--- where none does
-pub counted_none : (groups : List ℕ) (pages : List Bool) (count : ℕ) → length pages ≤ 32 * count → 32 * count < length pages + 32
-    → groups ≡ replicate count 0 → pages ≡ replicate (length pages) false → AreCounted 0 groups pages
-counted_none groups pages count first second each free =
-    let inner : length groups ≡ count = ap (λ (l : List ℕ). length l) each ∙ length-replicate count 0 in
-    record {
-      least = omega arith;
-      most = omega arith;
-      free = λ p within behind. ap (λ (l : List Bool). slice_index_or l p true) free ∙ get_or-replicate (length pages) p false true within;
-      within = omega arith;
-      rest = λ g behind. elim (cases_lt g count) [
-        | inl inside ↦ ap (λ (l : List ℕ). slice_index l g) each ∙ get_or-replicate count g 0 0 inside
-        | inr past ↦ get_or_past groups g 0 (omega arith)
-      ];
+      rest = λ g above below. absurd (omega arith);
     }
 
 -- the pages of a group behind those that count are not marked
-pub unmarked_pages : (used : ℕ) (groups : List ℕ) (pages : List Bool) (g many : ℕ) → AreCounted used groups pages → slice_index groups g ≤ many → IsUnmarked pages (32 * g + many) (32 - many)
-unmarked_pages used groups pages g many so far p least most within =
+pub unmarked_pages : (used back : ℕ) (groups : List ℕ) (pages : List Bool) (g many : ℕ) → AreCounted used back groups pages → slice_index groups g ≤ many → IsUnmarked pages (32 * g + many) (32 - many)
+unmarked_pages used back groups pages g many so far p least most within =
     let group : p / 32 ≡ g = omega arith in
     let read : slice_index groups (p / 32) ≡ slice_index groups g = ap (λ k. slice_index groups k) group in
     so.free p within (omega arith)
 
--- nor are those behind the groups that count
-pub unmarked_groups : (used : ℕ) (groups : List ℕ) (pages : List Bool) → AreCounted used groups pages → IsUnmarked pages (32 * used) (length pages)
-unmarked_groups used groups pages so p least most within =
-    let none = so.rest (p / 32) (omega arith) in
+-- nor are those of the groups that do not count
+pub unmarked_groups : (used back : ℕ) (groups : List ℕ) (pages : List Bool) → AreCounted used back groups pages → IsUnmarked pages (32 * used) (32 * (back - used))
+unmarked_groups used back groups pages so p least most within =
+    let none = so.rest (p / 32) (omega arith) (omega arith) in
     so.free p within (omega arith)
 
 -- a list whose elements are all one
@@ -79,22 +59,7 @@ all_same list item other count size each =
     ext_get_or other list (replicate count item) (size ∙ sym (length-replicate count item))
     (λ k inside. each k (omega arith) ∙ sym (get_or-replicate count k item other (omega arith)))
 
--- what a `Vec` holds once all of it was written over
-pub items_over : {A : Type 0} (v : Vec A) (new : List A) → length new ≡ length v.items → (with_items v new).items ≡ new
-items_over v new same = with_items_is v new (same ∙ sym v.ok.0)
-
 -- ---- listed pages
-
--- nothing marked, nothing listed
-pub listed_none : (listed groups : List ℕ) (pages : List Bool) (count : ℕ) → listed ≡ [] → groups ≡ replicate count 0 → pages ≡ replicate (length pages) false → AreListed listed groups pages
-listed_none listed groups pages count none each free = record {
-  within = λ j inside. absurd (let size : length listed ≡ 0 = ap (λ (l : List ℕ). length l) none in omega arith);
-  page = λ p inside other. ap (λ (l : List Bool). slice_index_or l p true) free ∙ get_or-replicate (length pages) p false true inside;
-  group = λ g other. ap (λ (l : List ℕ). slice_index l g) each ∙ (elim (cases_lt g count) [
-    | inl inside ↦ get_or-replicate count g 0 0 inside
-    | inr past ↦ get_or_past (replicate count 0) g 0 (omega (arith, length-replicate {A = ℕ} count 0))
-  ]);
-}
 
 -- one page more, marked and listed
 pub listed_more : (listed new groups : List ℕ) (pages : List Bool) (p g many : ℕ) → AreListed listed groups pages → p < length pages → g ≡ p / 32 → new ≡ listed ++ p ∷ []

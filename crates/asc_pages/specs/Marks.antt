@@ -6,14 +6,13 @@ abbrev pub IsUnmarked : List Bool → ℕ → ℕ → Type 0
 IsUnmarked marks from count =
     (p : ℕ) → from ≤ p → p < from + count → p < length marks → slice_index_or marks p true ≡ false
 
--- Up to which of its pages one of each group may be marked, and up to which group one may have a mark. All pages behind
--- those are free.
-pub record AreCounted (used : ℕ) (groups : List ℕ) (pages : List Bool) : Type 0 where
+-- Up to which of its pages one of each group may be marked, and which groups have no mark: those from `used` on, up to
+-- `back`. All pages that are left out so are free.
+pub record AreCounted (used back : ℕ) (groups : List ℕ) (pages : List Bool) : Type 0 where
   pub least : length pages ≤ 32 * length groups
   pub most : 32 * length groups < length pages + 32
   pub free : (p : ℕ) → p < length pages → slice_index groups (p / 32) ≤ p % 32 → slice_index_or pages p true ≡ false
-  pub within : used ≤ length groups
-  pub rest : (g : ℕ) → used ≤ g → slice_index groups g ≡ 0
+  pub rest : (g : ℕ) → used ≤ g → g < back → slice_index groups g ≡ 0
 
 -- pages that are not listed are not marked, and groups of which none is listed have no mark
 pub record AreListed (listed groups : List ℕ) (pages : List Bool) : Type 0 where
@@ -22,6 +21,6 @@ pub record AreListed (listed groups : List ℕ) (pages : List Bool) : Type 0 whe
   pub group : (g : ℕ) → ((j : ℕ) → j < length listed → slice_index listed j / 32 ≢ g) → slice_index groups g ≡ 0
 
 -- both; pages are listed where there are no more than that
-pub record AreMarks (used : ℕ) (more : Bool) (listed groups : List ℕ) (pages : List Bool) : Type 0 where
-  pub counted : AreCounted used groups pages
+pub record AreMarks (used back : ℕ) (more : Bool) (listed groups : List ℕ) (pages : List Bool) : Type 0 where
+  pub counted : AreCounted used back groups pages
   pub few : more ≡ false → AreListed listed groups pages

@@ -1,4 +1,4 @@
-ghost use Rattle.std.specs.Prelude.{◌≡◌, ◌+◌, ◌*◌, ◌-◌, ◌^◌, ◌<◌, ◌≤◌, [], ◌∷◌, ◌++◌, true, false, IfOk, length, replicate, slice_index_or, slice_set};
+ghost use Rattle.std.specs.Prelude.{◌≡◌, ◌⊎◌, ◌+◌, ◌*◌, ◌-◌, ◌^◌, ◌<◌, ◌≤◌, [], ◌∷◌, ◌++◌, true, false, IfOk, length, replicate, slice_index_or, slice_set};
 ghost use Rattle.asc_pages.specs.Marks.{AreListed, IsUnmarked};
 
 use crate::pages::GROUP;
@@ -10,7 +10,7 @@ use std::marker::Model;
 const LISTED: usize = 64;
 
 /// A mark for each page. Up to where there are marks is told group by group, and which pages are marked, where they are
-/// few, by a list.
+/// few, by a list. Of the groups a part in the middle that has none is known.
 ///
 /// Contracts see it as the list of them.
 #[derive(Drop)]
@@ -18,8 +18,9 @@ pub struct Marks {
     pages: Vec<bool>,
     // For each group, up to which of its pages one may be marked.
     groups: Vec<usize>,
-    // Up to which group one may have a mark.
+    // Up to which group one may have a mark, and from which group on one may have one again.
     used: usize,
+    back: usize,
     // The marked pages, as they were marked, and whether there are more.
     listed: Vec<usize>,
     more: bool,
@@ -33,7 +34,7 @@ impl Model for Marks {
 
     ghost view = { λ m. m.pages.items };
 
-    ghost invariant = { λ m. AreMarks m.used m.more m.listed.items m.groups.items m.pages.items };
+    ghost invariant = { λ m. AreMarks m.used m.back m.more m.listed.items m.groups.items m.pages.items };
 }
 
 impl Marks {
@@ -42,10 +43,12 @@ impl Marks {
         requires { count < 2 ^ 32 }
         ensures { IfOk result (λ marks. marks ≡ replicate count false) }
     {
+        let groups = count.div_ceil(GROUP);
         Ok(Marks {
             pages: vec![in alloc; false; count]?,
-            groups: vec![in alloc; 0; count.div_ceil(GROUP)]?,
+            groups: vec![in alloc; 0; groups]?,
             used: 0,
+            back: groups,
             listed: Vec::with_capacity(alloc, LISTED)?,
             more: false,
         })
@@ -73,15 +76,15 @@ impl Marks {
     pub fn is_clear(&self) -> bool
         ensures { result ≡ true → IsUnmarked self.now 0 (length self.now) }
     {
-        self.used == 0
+        self.used == 0 && self.back >= self.groups.len()
     }
 
-    /// How many groups there are up to the last one that may have a mark.
+    /// The first one and the one behind the last one of groups that have no mark.
     #[inline]
-    pub(crate) fn used_groups(&self) -> usize
-        ensures { IsUnmarked self.now (32 * result) (length self.now) }
+    pub(crate) fn free_groups(&self) -> (usize, usize)
+        ensures { IsUnmarked self.now (32 * result.0) (32 * (result.1 - result.0)) }
     {
-        self.used
+        (self.used, self.back)
     }
 
     /// How many pages of group g there are up to the last one that may be marked.
@@ -115,7 +118,9 @@ impl Marks {
         let g = p / GROUP;
         self.pages[p] = true;
         self.groups[g] = self.groups[g].max(p % GROUP + 1);
-        self.used = self.used.max(g + 1);
+        let (used, back) = without_group(self.used, self.back, g, self.groups.len() / 2);
+        self.used = used;
+        self.back = back;
         list_page(&mut self.listed, &mut self.more, p);
     }
 
@@ -126,6 +131,7 @@ impl Marks {
         self.pages.fill(true);
         self.groups.fill(GROUP);
         self.used = self.groups.len();
+        self.back = self.used;
         self.more = true;
     }
 
@@ -136,8 +142,25 @@ impl Marks {
     {
         unmark(&mut self.pages, &mut self.groups, &self.listed, self.more);
         self.used = 0;
+        self.back = self.groups.len();
         self.listed.clear();
         self.more = false;
+    }
+}
+
+// The groups from one on and up to another one without group g: those before it are left out, or where it lies from
+// `half` on, those behind it.
+#[inline]
+fn without_group(used: usize, back: usize, g: usize, half: usize) -> (usize, usize)
+    requires { g < 2 ^ 63 }
+    ensures least { used ≤ result.0 }
+    ensures most { result.1 ≤ back }
+    ensures other { (g < result.0) ⊎ (result.1 ≤ g) }
+{
+    if g < half {
+        (used.max(g + 1), back)
+    } else {
+        (used, back.min(g))
     }
 }
 

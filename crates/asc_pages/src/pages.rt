@@ -1,6 +1,6 @@
 ghost use Rattle.std.specs.Prelude.{◌≡◌, ◌+◌, ◌*◌, ◌/◌, ◌%◌, ◌^◌, ◌<◌, ◌≤◌, ℕ, [], max, min, false, IfOk, None, length, replicate, slice_index, slice_index_or};
 ghost use Rattle.asc_model.specs.Number.{word_at};
-ghost use Rattle.asc_pages.specs.Pages.{IsPage, ArePages, AreGroups, KeptPages, KeptGroups, Keeps, Tells, IsShared, base_bytes, group_in, held, page_bytes, page_in};
+ghost use Rattle.asc_pages.specs.Pages.{IsPage, ArePages, AreGroups, KeptPages, KeptGroups, Keeps, Tells, IsShared, base_bytes, behind_in, group_in, held, number_in, page_bytes, page_in, position_in};
 
 use crate::Marks;
 use asc_outside::Memory;
@@ -23,12 +23,22 @@ type Page = Option<Arc<[u8; PAGE]>>;
 // A group of pages that is left out is blank.
 type Group = Option<Arc<Vec<Page>>>;
 
+// The groups behind the first one. A run of them that are blank is left out of the list: so memory of which the first
+// and the last pages are used has a short one.
+#[derive(Drop)]
+struct Groups {
+    list: Vec<Group>,
+    // How many lie before those that are left out, and how many those are.
+    low: usize,
+    gap: usize,
+    ghost within: { low ≤ length list.items },
+}
+
 // The pages of the first group stand by themselves: they take fewer pieces of memory so.
 #[derive(Drop)]
 struct Top {
     first: Vec<Page>,
-    // The groups behind the first one.
-    groups: Vec<Group>,
+    groups: Groups,
 }
 
 /// Pages of bytes that do not change. They can be shared, also by threads, and share what they have in common with
@@ -46,7 +56,7 @@ impl Model for Pages {
 
     ghost Value = { List ℕ };
 
-    ghost view = { λ s. bytes_in s.top.value.first.items s.top.value.groups.items };
+    ghost view = { λ s. bytes_in s.top.value.first.items s.top.value.groups.list.items s.top.value.groups.low s.top.value.groups.gap };
 }
 
 impl Pages {
@@ -54,9 +64,14 @@ impl Pages {
     pub fn none(alloc: Global) -> Result<Pages, Memory>
         ensures { IfOk result (λ pages. pages ≡ []) }
     {
+        let groups = Groups {
+            list: Vec::new(alloc),
+            low: 0,
+            gap: 0,
+        };
         let top = Top {
             first: Vec::new(alloc),
-            groups: Vec::new(alloc),
+            groups,
         };
         Ok(Pages {
             top: Arc::new(alloc, top)?,
@@ -176,12 +191,46 @@ fn used_of(one: usize, other: usize, count: usize) -> usize
 // The pages of group g, or none where it is left out.
 #[inline]
 fn pages_in(top: &Top, g: usize) -> &[Page]
-    ensures { result.now ≡ group_in top.now.first.items top.now.groups.items g }
+    ensures { result.now ≡ group_in top.now.first.items top.now.groups.list.items top.now.groups.low top.now.groups.gap g }
 {
     if g == 0 {
         &top.first[..]
     } else {
-        group_at(&top.groups, g - 1)
+        pages_behind(&top.groups, g - 1)
+    }
+}
+
+// The pages of group h of those behind the first one, or none where it is left out.
+#[inline]
+fn pages_behind(groups: &Groups, h: usize) -> &[Page]
+    ensures { result.now ≡ behind_in groups.now.list.items groups.now.low groups.now.gap h }
+{
+    if h < groups.low {
+        group_pages(&groups.list[h])
+    } else {
+        pages_above(groups, h)
+    }
+}
+
+// The same of a group behind those that come first in the list.
+#[inline]
+fn pages_above(groups: &Groups, h: usize) -> &[Page]
+    ensures { result.now ≡ behind_in groups.now.list.items groups.now.low groups.now.gap h }
+{
+    group_at(&groups.list, position(groups, h))
+}
+
+// Where group h of those behind the first one stands in the list, or the list's end where it is left out.
+#[inline]
+fn position(groups: &Groups, h: usize) -> usize
+    ensures { result ≡ position_in groups.now.low groups.now.gap (length groups.now.list.items) h }
+{
+    if h < groups.low {
+        h
+    } else if h - groups.low < groups.gap {
+        groups.list.len()
+    } else {
+        h - groups.gap
     }
 }
 
@@ -191,8 +240,19 @@ fn group_at(groups: &[Group], g: usize) -> &[Page]
     ensures { result.now ≡ held (slice_index_or groups.now g None) }
 {
     match groups.get(g) {
-        Some(Some(group)) => &group[..],
-        _ => &[],
+        Some(group) => group_pages(group),
+        None => &[],
+    }
+}
+
+// The pages of a group, or none where it is left out.
+#[inline]
+fn group_pages(group: &Group) -> &[Page]
+    ensures { result.now ≡ held group.now }
+{
+    match group {
+        Some(group) => &group[..],
+        None => &[],
     }
 }
 
@@ -219,47 +279,85 @@ fn share_part<T>(parts: &[Option<Arc<T>>], k: usize) -> Result<Option<Arc<T>>, M
     }
 }
 
-// The groups of bytes behind the first one.
-#[inline]
-fn groups_of(
-    alloc: Global,
-    bytes: &[u8],
-    changed: &Marks,
-    kept: &[Group],
-) -> Result<Vec<Group>, Memory>
-    requires most { length bytes.now < 2 ^ 32 }
-    requires marks { length changed.now ≡ length bytes.now / 1024 + 1 }
-    requires kept { KeptGroups changed.now bytes.now kept.now }
-    ensures { IfOk result (λ groups. AreGroups bytes.now groups.items) }
+// A run of groups that are blank.
+fn blank_run(groups: &Groups) -> (usize, usize)
+    ensures { (h : ℕ) → result.0 ≤ h → h < result.1
+        → slice_index_or groups.now.list.items (position_in groups.now.low groups.now.gap (length groups.now.list.items) h) None ≡ None }
 {
-    let count = (changed.len() - 1) / GROUP;
-    let used = used_of(changed.used_groups().saturating_sub(1), kept.len(), count);
-    let mut groups = Vec::with_capacity(alloc, used)?;
-    for g in 0..used {
-        groups.push_reserved(group_of(alloc, bytes, changed, kept, g)?);
+    if groups.list.len() <= groups.low {
+        (groups.list.len(), usize::MAX)
+    } else {
+        (groups.low, groups.low.saturating_add(groups.gap))
     }
-    Ok(groups)
 }
 
-// Part g of the groups of bytes: that of those that are kept, shared, where no page of it is changed.
+// What two runs of `count` groups have in common, the first of them told with the group before all.
+fn common(free: (usize, usize), blank: (usize, usize), count: usize) -> (usize, usize)
+    ensures order { result.0 ≤ result.1 }
+    ensures most { result.1 ≤ count }
+    ensures within { (h : ℕ) → result.0 ≤ h → h < result.1 → (free.0 ≤ h + 1) × (h + 1 < free.1) × (blank.0 ≤ h) × (h < blank.1) }
+{
+    let low = free.0.saturating_sub(1).max(blank.0).min(count);
+    let end = free.1.saturating_sub(1).min(blank.1).min(count);
+    if low < end {
+        (low, end)
+    } else {
+        (count, count)
+    }
+}
+
+// The number of the group in place k of a list from which a run of `gap` groups is left out.
+#[inline]
+fn number(low: usize, gap: usize, k: usize) -> usize
+    requires { k + gap < 2 ^ 64 }
+    ensures { result ≡ number_in low gap k }
+{
+    if k < low { k } else { k + gap }
+}
+
+// The groups of bytes behind the first one.
+#[inline]
+fn groups_of(alloc: Global, bytes: &[u8], changed: &Marks, kept: &Groups) -> Result<Groups, Memory>
+    requires most { length bytes.now < 2 ^ 32 }
+    requires marks { length changed.now ≡ length bytes.now / 1024 + 1 }
+    requires kept { KeptGroups changed.now bytes.now kept.now.list.items kept.now.low kept.now.gap }
+    ensures { IfOk result (λ groups. AreGroups bytes.now groups.list.items groups.low groups.gap) }
+{
+    let count = (changed.len() - 1) / GROUP;
+    let (low, end) = common(changed.free_groups(), blank_run(kept), count);
+    let used = low + (count - end);
+    let mut list = Vec::with_capacity(alloc, used)?;
+    for k in 0..used {
+        let h = number(low, end - low, k);
+        list.push_reserved(group_of(alloc, bytes, changed, &kept.list, position(kept, h), h + 1)?);
+    }
+    Ok(Groups {
+        list,
+        low,
+        gap: end - low,
+    })
+}
+
+// Group g of bytes: part k of those that are kept, shared, where no page of it is changed.
 #[inline]
 fn group_of(
     alloc: Global,
     bytes: &[u8],
     changed: &Marks,
     kept: &[Group],
+    k: usize,
     g: usize,
 ) -> Result<Group, Memory>
     requires most { length bytes.now < 2 ^ 32 }
     requires marks { length changed.now ≡ length bytes.now / 1024 + 1 }
-    requires group { 32 * (g + 1) < length changed.now }
-    requires kept { KeptPages changed.now bytes.now (32 * (g + 1)) (held (slice_index_or kept.now g None)) }
-    ensures { IfOk result (λ group. ArePages bytes.now (32 * (g + 1)) (held group)) }
+    requires group { 32 * g < length changed.now }
+    requires kept { KeptPages changed.now bytes.now (32 * g) (held (slice_index_or kept.now k None)) }
+    ensures { IfOk result (λ group. ArePages bytes.now (32 * g) (held group)) }
 {
-    if changed.used_pages(g + 1) == 0 {
-        return share_part(kept, g);
+    if changed.used_pages(g) == 0 {
+        return share_part(kept, k);
     }
-    let pages = pages_of(alloc, bytes, changed, group_at(kept, g), g + 1)?;
+    let pages = pages_of(alloc, bytes, changed, group_at(kept, k), g)?;
     Ok(Some(Arc::new(alloc, pages)?))
 }
 

@@ -117,7 +117,7 @@ impl Guess {
     }
 
     // The word at a place that is a multiple of 4.
-    #[inline]
+    #[inline(always)]
     fn aligned(&self, place: u32) -> u32
         requires aligned { place % 4 ≡ 0 }
         requires within { place < length_of self.now.shape }
