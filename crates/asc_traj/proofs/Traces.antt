@@ -1,9 +1,9 @@
 -- A trace on its way, turn by turn.
-use Rattle.std.proofs.Common.{◌≡◌, ℕ, zero, suc, ◌+◌, ◌-◌, ◌≤◌, Bool, true, false, ◌==◌, cond, List, [], length, nat_lt, Option, Some, None, if◌then◌else◌, refl, sym, ap, subst, ◌∙◌, inl, inr, arith, add-zero}
+use Rattle.std.proofs.Common.{◌≡◌, ℕ, zero, suc, ◌+◌, ◌-◌, ◌<◌, ◌≤◌, Bool, true, false, ◌==◌, cond, List, [], length, nat_lt, Option, Some, None, if◌then◌else◌, refl, sym, ap, subst, ◌∙◌, inl, inr, arith, add-zero}
 use Rattle.std.specs.Prelude.{count_by}
 use Rattle.std.specs.List.{range_with_len}
 use Rattle.std.specs.Option.{option_or}
-use Rattle.std.proofs.lemmas.Bool.{cases_lt, ltb-true, lt-ltb, cases_Bool, eq-eqb, ne_eqb, false≢true}
+use Rattle.std.proofs.lemmas.Bool.{cases_eq, cases_lt, ltb-true, lt-ltb, cases_Bool, eq-eqb, ne_eqb, false≢true}
 use Rattle.std.proofs.lemmas.List.Sums.{sum_by-cons}
 use Rattle.asc_model.specs.declared.why.Why.{Why}
 use Rattle.asc_model.specs.declared.why.Why.TheVariants as whys
@@ -98,18 +98,35 @@ few_left bounds start n laps t on is fits =
     ∙ room_left bounds.cap (length t.touched) (subst (λ c. length t.touched ≤ c) on.cap is.room)
     ∙ ap (λ m. nat_lt bounds.cap (m + 32)) (length-touched n start t fits on.statuses size)
 
--- the test of bounds where too few laps are made, by numbers of a tracer
-abbrev pub met : Bounds → (n : ℕ) → Tracing → Option Why
-met bounds n t = if n == bounds.span then Some whys.Span
+-- none is left where all steps of the span are taken
+none_left : (span left : ℕ) → left ≤ span → (left == 0) ≡ (span - left == span)
+none_left span left most = elim (cases_eq left 0) [
+  | inl e ↦ eq-eqb left 0 e ∙ sym (eq-eqb (span - left) span (omega (arith, e)))
+  | inr some ↦ ne_eqb left 0 some ∙ sym (ne_eqb (span - left) span (λ e. some (omega (arith, e, most))))
+]
+
+-- the test of bounds where too few laps are made, by what is left and numbers of a tracer
+abbrev pub met : (left : ℕ) → Tracing → Option Why
+met left t = if left == 0 then Some whys.Span
     else (if nat_lt (room_of (face_of t).marks) step_room then Some whys.Room else None)
 
-pub met-bound : (bounds : Bounds) (start : State) (n laps : ℕ) (t : Tracing) → IsOnWay bounds start n laps t → IsTracing t
-    → FitPlaces (length t.state.bytes) (face_of t).marks → (laps == bounds.laps) ≡ false → met bounds n t ≡ bound_met bounds n start
-met-bound bounds start n laps t on is fits few =
-    let after : Bool → Option Why = λ lap. if lap then Some whys.Lap else met bounds n t in
-    sym (ap after few) ∙ ap (λ l. after (l == bounds.laps)) on.counted
+pub met-bound : (bounds : Bounds) (start : State) (left laps : ℕ) (t : Tracing) → left ≤ bounds.span → IsOnWay bounds start (bounds.span - left) laps t → IsTracing t
+    → FitPlaces (length t.state.bytes) (face_of t).marks → (laps == bounds.laps) ≡ false → met left t ≡ bound_met bounds (bounds.span - left) start
+met-bound bounds start left laps t most on is fits few =
+    let n = bounds.span - left in
+    let room = nat_lt (room_of (face_of t).marks) step_room in
+    let after : Bool → Bool → Option Why = λ lap span. if lap then Some whys.Lap else (if span then Some whys.Span else (if room then Some whys.Room else None)) in
+    sym (ap (λ lap. after lap (left == 0)) few) ∙ ap (λ l. after (l == bounds.laps) (left == 0)) on.counted ∙ ap (after (laps_in bounds.pc n start == bounds.laps)) (none_left bounds.span left most)
     ∙ ap (λ (b : Bool). if laps_in bounds.pc n start == bounds.laps then Some whys.Lap else (if n == bounds.span then Some whys.Span else (if b then Some whys.Room else None)))
     (few_left bounds start n laps t on is fits)
+
+-- where no bound is met some are left, and one step more leaves one fewer
+pub some_left : (left : ℕ) (t : Tracing) → met left t ≡ None → 0 < left
+some_left zero t none = absurd (cc)
+some_left (suc left) t none = omega arith
+
+pub one_fewer : (span left : ℕ) → left ≤ span → 0 < left → span - left + 1 ≡ span - (left - 1)
+one_fewer span left most some = omega (arith, most, some)
 
 -- the first bound that is met is that of laps
 pub lapped : (bounds : Bounds) (start : State) (n laps : ℕ) (t : Tracing) → IsOnWay bounds start n laps t → laps ≡ bounds.laps → bound_met bounds n start ≡ Some whys.Lap
@@ -248,6 +265,15 @@ goes_on bounds start n laps t later on good fits bound step face shape same_cap 
     cond_most : (b : Bool) → cond b 1 0 ≤ 1
     cond_most true = omega arith
     cond_most false = omega arith
+
+-- the same by what is left
+pub one_more : (bounds : Bounds) (start : State) (left laps : ℕ) (t later : Tracing) → left ≤ bounds.span → IsOnWay bounds start (bounds.span - left) laps t
+    → IsTracing t → IsState t.state → FitPlaces (length t.state.bytes) (face_of t).marks
+    → (laps == bounds.laps) ≡ false → met left t ≡ None → why_no_step (next t.state) ≡ None
+    → face_of later ≡ face_after (face_of t) → later.shape ≡ t.shape → later.cap ≡ t.cap
+    → (more : ℕ) → more ≡ laps + cond ((view_of later.state).pc == bounds.pc) 1 0 → IsOnWay bounds start (bounds.span - left + 1) more later
+one_more bounds start left laps t later most on is good fits few unmet step face shape same_cap more counts =
+    goes_on bounds start (bounds.span - left) laps t later on good fits (sym (met-bound bounds start left laps t most on is fits few) ∙ unmet) step face shape same_cap more counts
 
 -- ---- patience
 

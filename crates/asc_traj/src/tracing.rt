@@ -1,5 +1,6 @@
-ghost use Rattle.std.specs.Prelude.{◌≡◌, ℕ, ◌≤◌, ◌-◌, ◌<◌, true, false, [], length, Some, None, IsSome, IsNone, nat_lt, ◌==◌, if◌then◌else◌};
+ghost use Rattle.std.specs.Prelude.{◌≡◌, ℕ, ◌≤◌, ◌+◌, ◌-◌, ◌^◌, ◌<◌, true, false, [], length, Some, None, IsSome, IsNone, nat_lt, ◌==◌, if◌then◌else◌};
 ghost use Rattle.asc_model.specs.declared.why.Why.TheVariants as whys;
+ghost use Rattle.asc_model.specs.Machine.{view_of};
 ghost use Rattle.asc_model.specs.Step.{next};
 ghost use Rattle.asc_model.specs.Reach.{IsReach, step_room, why_no_step};
 ghost use Rattle.asc_step.specs.Step.{face_after};
@@ -72,44 +73,85 @@ pub fn trace<H: Halt>(tracer: &mut Tracer, stop: &Stop, halt: &mut H) -> Traced
     known(tracer);
     let shape = Bytes::shape(tracer);
     let mut rare = Stepped::Went;
-    let mut steps = 0;
-    let mut laps = 0;
+    let mut progress = Progress {
+        left: stop.span,
+        laps: 0,
+    };
     loop {
         known(tracer);
-        if let Some(why) = bound_met(tracer, stop, steps) {
+        if let Some(why) = bound_met(tracer, progress.left) {
+            let steps = stop.span - progress.left;
             return Traced { steps, why };
         }
         if halt.asked() {
             return Traced {
-                steps,
+                steps: stop.span - progress.left,
                 why: Why::Stopped,
             };
         }
         if let Some(why) = attempt::<H>(tracer, shape, &mut rare) {
+            let steps = stop.span - progress.left;
             return Traced { steps, why };
         }
-        steps += 1;
-        if tracer.pc() == stop.pc {
-            laps += 1;
-            if laps == stop.laps {
-                known(tracer);
-                return Traced {
-                    steps,
-                    why: Why::Lap,
-                };
-            }
+        if has_all_laps(tracer, stop, &mut progress) {
+            known(tracer);
+            return Traced {
+                steps: stop.span - progress.left + 1,
+                why: Why::Lap,
+            };
         }
+        progress.left -= 1;
     }
 }
 
-/// The first bound that is met after so many steps, where too few laps are made.
+/// How far a trace came. It stands in memory, since `count_lap` is handed a reference: so a step counts by one
+/// instruction that also tells whether it was the last one.
+#[derive(Drop)]
+struct Progress {
+    // The steps that may still be taken.
+    left: u64,
+    // The laps that were made.
+    laps: u64,
+}
+
+/// Counts a lap where a step led to the pc of `stop`, and tells whether all laps are made.
 #[inline]
-fn bound_met(tracer: &Tracer, stop: &Stop, steps: u64) -> Option<Why>
+fn has_all_laps(tracer: &Tracer, stop: &Stop, progress: &mut Progress) -> bool
+    requires few { (progress.old.laps == stop.now.laps) ≡ false }
+    requires most { progress.old.laps < stop.now.span }
+    ensures counts { progress.new ≡ record progress.old {
+      laps = progress.old.laps + (if (view_of tracer.now.state).pc == stop.now.pc then 1 else 0);
+    } }
+    ensures all { result ≡ (progress.new.laps == stop.now.laps) }
+{
+    // That it is a number of 64 bits.
+    let _span = stop.span;
+    if tracer.pc() == stop.pc {
+        count_lap(progress);
+        progress.laps == stop.laps
+    } else {
+        false
+    }
+}
+
+/// Counts a lap.
+#[cold]
+#[inline(never)]
+fn count_lap(progress: &mut Progress)
+    requires { progress.old.laps < 2 ^ 64 - 1 }
+    ensures { progress.new ≡ record progress.old { laps = progress.old.laps + 1 } }
+{
+    progress.laps += 1;
+}
+
+/// The first bound that is met where so many steps are left, and too few laps are made.
+#[inline]
+fn bound_met(tracer: &Tracer, left: u64) -> Option<Why>
     requires { tracer.now.state.shape ≡ tracer.now.shape }
-    ensures { result ≡ (if steps == stop.now.span then Some whys.Span
+    ensures { result ≡ (if left == 0 then Some whys.Span
         else (if nat_lt (room_of (face_of tracer.now).marks) step_room then Some whys.Room else None)) }
 {
-    if steps == stop.span {
+    if left == 0 {
         Some(Why::Span)
     } else if tracer.room() < LEAST_CAP {
         Some(Why::Room)
