@@ -185,6 +185,21 @@ invariant-loop l = record {
 }
 """
 
+ANSWERS = """\
+-- The tracer was just started from a guess of its shape.
+use Rattle.std.proofs.Common.{rules, ◌≡◌, sym, ap, ◌∙◌}
+use Rattle.asc_depvec.specs.Tracer.{Tracing}
+use Rattle.asc_tracing.proofs.traces.Goals as goal
+
+pub loop-init : goal.loop-init
+loop-init c =
+    let from : c.in_ok-started.field-0.shape ≡ c.in_ok-tracer.tracer.shape = search rules in
+    record {
+      touched = ap (λ (t : Tracing). t.touched) c.start.ensures;
+      own = ap (λ (t : Tracing). t.state.shape) c.start.ensures ∙ from ∙ sym (ap (λ (t : Tracing). t.shape) c.start.ensures);
+      same = ap (λ (t : Tracing). t.shape) c.start.ensures ∙ sym from ∙ c.in_ok-started.ensures;
+    }
+"""
 
 GHOSTS = """\
 -- The ledger is the one that is opened here.
@@ -221,9 +236,13 @@ def build(folder):
         shutil.copytree(ROOT / "crates" / crate, Path(folder, "crates", crate))
     crate = Path(folder, "crates", "asc_tracing")
     names, text = program()
-    proofs = [("proofs/traces/Invariants.antt", INVARIANTS), ("proofs/walk/Invariants.antt", GHOSTS)]
+    proofs = [
+        ("proofs/traces/Invariants.antt", INVARIANTS),
+        ("proofs/traces/Answers.antt", ANSWERS),
+        ("proofs/walk/Invariants.antt", GHOSTS),
+    ]
     for path, content in [("src/main.rt", text), *proofs]:
-        (crate / path).parent.mkdir(parents=True)
+        (crate / path).parent.mkdir(parents=True, exist_ok=True)
         (crate / path).write_text(content)
     command = ["rt", "run", "--", "0", "0", "1", "1"]
     done = subprocess.run(command, cwd=crate, stdout=subprocess.PIPE, stderr=subprocess.STDOUT, text=True)

@@ -1,24 +1,27 @@
 -- Lemmas on the bits of words.
-use Rattle.std.proofs.Common.{◌≡◌, ℕ, zero, suc, ◌+◌, ◌-◌, ◌*◌, ◌/◌, ◌%◌, ◌^◌, ◌<◌, ◌≤◌, ◌==◌, ◌||◌, Bool, true, false, not, cond, List, [], ◌∷◌, ◌++◌, length, drop, refl, sym, ap, subst, ◌∙◌, ◌⊎◌, inl, inr, slice_index, slice_index_or, slice_set, bit_or, max, arith, append_assoc, append-nil, if◌then◌else◌}
-use Rattle.std.specs.Prelude.{filter, nat_lt}
+use Rattle.std.proofs.Common.{get_or, ◌≡◌, ℕ, zero, suc, ◌+◌, ◌-◌, ◌*◌, ◌/◌, ◌%◌, ◌^◌, ◌<◌, ◌≤◌, ◌==◌, ◌||◌, Bool, true, false, not, cond, List, [], ◌∷◌, ◌++◌, length, drop, map, take, length-append, refl, sym, ap, subst, ◌∙◌, ◌⊎◌, inl, inr, slice_index, slice_index_or, slice_set, bit_or, max, arith, append_assoc, append-nil, if◌then◌else◌}
+use lib.Count.{ones, ones_step, ones-le}
+use native.Mathlib.Nat.{pow-suc}
+use Rattle.std.specs.Prelude.{All, filter, nat_lt, sum_by}
 use Rattle.std.specs.Int.{bit_at, trailing_zeros, w64}
 use Rattle.std.specs.List.{list_any}
 use Rattle.std.specs.List.Sorted.{IsNonDecreasingBy, IsPermutation}
-use Rattle.std.proofs.lemmas.Bool.{cases_Bool, cases_eq, cases_lt, cond-false, cond-true, eq-eqb, false≢true, lt-ltb, ne_eqb}
-use Rattle.std.proofs.lemmas.List.Sorted.{list_any-IsPermutation}
-use Rattle.std.proofs.lemmas.List.{drop_more, get_or_past, get_or-set_other, get_or-set_same}
-use Rattle.std.proofs.lemmas.List.Elements.{filter-append}
-use Rattle.std.proofs.lemmas.List.Sums.{sum_by-cons}
+use Rattle.std.proofs.lemmas.Bool.{cases_Bool, cases_eq, cases_lt, cond-false, cond-true, eq-eqb, eqb-true, false≢true, lt-ltb, ne_eqb}
+use Rattle.std.proofs.lemmas.List.Sorted.{All-permutation, list_any-IsPermutation}
+use Rattle.std.proofs.lemmas.List.{drop_more, get_or-map, get_or_past, get_or-set_other, get_or-set_same, length-map, length-set, map-append, take_more}
+use Rattle.std.proofs.lemmas.List.Elements.{All-cons, All-nil, filter-append}
+use Rattle.std.proofs.lemmas.List.Sums.{count_by-le-length, sum_by-append, sum_by-cons}
 use Rattle.std.proofs.Math.Nat.{div-div-eq-div-mul, max-zero}
 use Rattle.std.proofs.Math.Pow.{pow-lt}
 use Rattle.std.proofs.lemmas.Nat.{pow-add}
-use Rattle.std.proofs.lemmas.Nat.Bits.{bit_at_above, bit_at-lt, bit_at-pow_other, bit_at-pow_same, bit_at-trailing_zeros, bit_at-zero, bit_at_or}
+use Rattle.std.proofs.lemmas.Nat.Bits.{bit_at_above, bit_at-lt, bit_at-pow_other, bit_at-pow_same, bit_at-trailing_zeros, bit_at-suc, bit_at-zero, bit_at_lowest, bit_at_or}
 use Rattle.asc_model.specs.Places.{places_from}
 use Rattle.asc_model.specs.DependencyVector.{is_among}
 use Rattle.asc_model.specs.declared.status.Status.{Status}
 use Rattle.asc_model.specs.declared.status.Status.TheVariants.{Untouched}
 use Rattle.asc_shape.specs.Face.{status_at, is_untouched}
-use Rattle.asc_depvec.specs.Bits.{AreListed, has_bit, has_word}
+use Rattle.asc_depvec.specs.Bits.{AreListed, AreNoted, block_at, has_bit, has_word, live, words_in, words_of_blocks}
+use Rattle.asc_depvec.specs.declared.bitmap.Block.{Block}
 use Rattle.asc_depvec.specs.Inside.{noted}
 use Rattle.asc_depvec.specs.Tracer.{is_touched_word, places_of_item}
 use Rattle.asc_depvec.proofs.Items.{item_place, item_word}
@@ -131,6 +134,62 @@ has-added blocks word power other within is =
 -- no bit of blocks that are 0
 pub has-none : (blocks : List ℕ) (word : ℕ) → slice_index blocks (word / 64) ≡ 0 → has_word blocks word ≡ false
 has-none blocks word none = bit_false (bit_at (slice_index blocks (word / 64)) (word % 64)) (ap (λ (b : ℕ). bit_at b (word % 64)) none ∙ bit_at-zero (word % 64))
+
+-- a bit that is set already
+pub has-already : (blocks : List ℕ) (word other : ℕ) → has_word blocks word ≡ true → has_word blocks other ≡ (has_word blocks other || word == other)
+has-already blocks word other has = elim (cases_eq word other) [
+  | inl same ↦
+      let set : has_word blocks other ≡ true = ap (has_word blocks) (sym same) ∙ has in
+      set ∙ sym (ap (λ (b : Bool). b || word == other) set)
+  | inr apart ↦ sym (ap (λ (b : Bool). has_word blocks other || b) (ne_eqb word other apart) ∙ or_false (has_word blocks other))
+]
+
+-- blocks of which one more is marked
+pub marked-more : (blocks groups now : List ℕ) (number value : ℕ) → ((block : ℕ) → (slice_index blocks block ≡ 0 → ⊥) → has_word groups block ≡ true)
+    → ((other : ℕ) → has_word now other ≡ (has_word groups other || number == other))
+    → (block : ℕ) → (slice_index (slice_set blocks number value) block ≡ 0 → ⊥) → has_word now block ≡ true
+marked-more blocks groups now number value marked bits block some = elim (cases_eq block number) [
+  | inl same ↦ bits block ∙ ap (λ (b : Bool). has_word groups block || b) (eq-eqb number block (sym same)) ∙ or_true (has_word groups block)
+  | inr other ↦ bits block ∙ ap (λ (b : Bool). b || number == block) (marked block (λ zero. some (get_or-set_other blocks number block value 0 other ∙ zero)))
+]
+
+-- a number with one bit more is not 0
+pub or-some : (old power k : ℕ) → power ≡ 2 ^ k → bit_or old power ≡ 0 → ⊥
+or-some old power k is none =
+    let bit : bit_at (bit_or old power) k ≡ 1 =
+    bit_at_or old power k ∙ ap (λ (b : ℕ). max (bit_at old k) b) (ap (λ (n : ℕ). bit_at n k) is ∙ bit_at-pow_same k) ∙ max_one (bit_at old k) (bit_at-lt old k) in
+    let zero_bit : bit_at (bit_or old power) k ≡ 0 = ap (λ (n : ℕ). bit_at n k) none ∙ bit_at-zero k in
+    omega (arith, bit, zero_bit)
+
+pub cond-most : (b : Bool) → cond {A = ℕ} b 1 0 ≤ 1
+cond-most true = omega arith
+cond-most false = omega arith
+
+-- where one of blocks is 0, fewer than all are not
+pub live-less : (blocks : List ℕ) (i : ℕ) → i < length blocks → slice_index blocks i ≡ 0 → live blocks < length blocks
+live-less [] i within none = absurd (omega (arith, within))
+live-less (x ∷ blocks) zero within none =
+    let first = sum_by-cons (λ (k : ℕ). cond {A = ℕ} (not (k == 0)) 1 0) x blocks in
+    let zero_here = ap (λ (k : ℕ). cond {A = ℕ} (not (k == 0)) 1 0) none in
+    omega (arith, first, zero_here, count_by-le-length (λ (k : ℕ). not (k == 0)) blocks)
+live-less (x ∷ blocks) (suc i) within none =
+    let first = sum_by-cons (λ (k : ℕ). cond {A = ℕ} (not (k == 0)) 1 0) x blocks in
+    omega (arith, first, cond-most (not (x == 0)), live-less blocks i (omega (arith, within)) none)
+
+-- and as many as before where one is set to what is not 0, or one more
+pub live-set : (blocks : List ℕ) (i value : ℕ) → i < length blocks → (value ≡ 0 → ⊥) → live (slice_set blocks i value) + cond {A = ℕ} (not (slice_index blocks i == 0)) 1 0 ≡ live blocks + 1
+live-set [] i value within some = absurd (omega (arith, within))
+live-set (x ∷ blocks) zero value within some =
+    let one : ℕ → ℕ = λ k. cond {A = ℕ} (not (k == 0)) 1 0 in
+    let before = sum_by-cons one x blocks in
+    let now = sum_by-cons one value blocks in
+    let here : one value ≡ 1 = ap (λ (b : Bool). cond {A = ℕ} (not b) 1 0) (ne_eqb value 0 some) in
+    omega (arith, before, now, here)
+live-set (x ∷ blocks) (suc i) value within some =
+    let one : ℕ → ℕ = λ k. cond {A = ℕ} (not (k == 0)) 1 0 in
+    let before = sum_by-cons one x blocks in
+    let now = sum_by-cons one x (slice_set blocks i value) in
+    omega (arith, before, now, live-set blocks i value (omega (arith, within)) some)
 
 -- ---- the words of places
 
@@ -318,10 +377,20 @@ zero_by : (n : ℕ) → ((n ≡ 0 → ⊥) → ⊥) → n ≡ 0
 zero_by zero h = refl
 zero_by (suc n) h = absurd (h (λ e. absurd (omega (arith, e))))
 
+-- the words of a block
+pub block_words : (blocks : List ℕ) (block : ℕ) → words_in (block_at blocks block) ≡ filter (has_word blocks) (places_from (64 * block) 64)
+unfolding words_in
+block_words blocks block =
+    filter-alike (has_bit (slice_index blocks block) (64 * block)) (has_word blocks) (64 * block) 64 (λ w least most.
+    let there : w / 64 ≡ block = omega (arith, least, most) in
+    let bit : w - 64 * block ≡ w % 64 = omega (arith, least, most) in
+    ap (λ (n : ℕ). bit_at (slice_index blocks block) n == 1) bit ∙ ap (λ (b : ℕ). bit_at (slice_index blocks b) (w % 64) == 1) (sym there))
+
 -- the words up to behind the next block
 pub words-more : (blocks used : List ℕ) (next i d : ℕ) → AreLeft blocks used next i → IsNonDecreasingBy (λ k. k) used → i < length used → next ≤ slice_index_or used i d
     → filter (has_word blocks) (places_from 0 (64 * next)) ++ filter (has_bit (slice_index blocks (slice_index_or used i d)) (64 * slice_index_or used i d)) (places_from (64 * slice_index_or used i d) 64)
     ≡ filter (has_word blocks) (places_from 0 (64 * (slice_index_or used i d + 1)))
+unfolding words_in
 words-more blocks used next i d left rising within le =
     let block = slice_index_or used i d in
     let has = has_word blocks in
@@ -332,17 +401,33 @@ words-more blocks used next i d left rising within le =
     among-rising (w / 64) d used i rising within (omega (arith, least, most, gap)) (left (w / 64) (omega (arith, least)) some))) in
     ap (λ (list : List ℕ). list ++ filter (has_bit (slice_index blocks block) (64 * block)) (places_from (64 * block) 64))
     (sym (filter-same has (64 * next) (64 * (block - next)) 0 none) ∙ ap (λ (n : ℕ). filter has (places_from 0 n)) gap)
-    ∙ ap (λ (list : List ℕ). filter has (places_from 0 (64 * block)) ++ list)
-    (filter-alike (has_bit (slice_index blocks block) (64 * block)) has (64 * block) 64 (λ w least most.
-    let there : w / 64 ≡ block = omega (arith, least, most) in
-    let bit : w - 64 * block ≡ w % 64 = omega (arith, least, most) in
-    ap (λ (n : ℕ). bit_at (slice_index blocks block) n == 1) bit ∙ ap (λ (b : ℕ). bit_at (slice_index blocks b) (w % 64) == 1) (sym there)))
+    ∙ ap (λ (list : List ℕ). filter has (places_from 0 (64 * block)) ++ list) (block_words blocks block)
     ∙ ap (λ (k : ℕ). filter has (places_from 0 (64 * block)) ++ filter has (places_from k 64)) (let base : 64 * block ≡ 0 + 64 * block = omega arith in base)
     ∙ sym (filter-parts has (64 * block) 64 0) ∙ ap (λ (n : ℕ). filter has (places_from 0 n)) whole
 
 pub left-more : (blocks used : List ℕ) (next i d now : ℕ) → AreLeft blocks used next i → i < length used → next ≤ now → slice_index_or used i d < now → AreLeft blocks used now (i + 1)
 left-more blocks used next i d now left within le behind =
     λ b least some. among-rest b d used i within (λ e. omega (arith, e, behind, least)) (left b (omega (arith, le, least)) some)
+
+-- one block less that is not 0
+pub left-cleared : (blocks : List ℕ) (found : List Block) (i : ℕ) (d : Block) → i < length found → AreLeft blocks (map (λ (block : Block). block.first / 64) found) 0 i
+    → AreLeft (slice_set blocks ((get_or found i d).first / 64) 0) (map (λ (block : Block). block.first / 64) found) 0 (i + 1)
+left-cleared blocks found i d within left = λ b least some.
+    let number = (get_or found i d).first / 64 in
+    let numbers = map (λ (block : Block). block.first / 64) found in
+    elim (cases_eq b number) [
+      | inl same ↦ absurd (some (ap (slice_index (slice_set blocks number 0)) same ∙ get_or-set_zero blocks number))
+      | inr other ↦
+          among-rest b (d.first / 64) numbers i (subst (λ (n : ℕ). i < n) (sym (length-map found (λ (block : Block). block.first / 64))) within)
+          (λ e. other (sym e ∙ get_or-map (λ (block : Block). block.first / 64) found i d (d.first / 64) within))
+          (left b least (λ zero. some (get_or-set_other blocks number b 0 0 other ∙ zero)))
+    ]
+  where
+    get_or-set_zero : (blocks : List ℕ) (k : ℕ) → slice_index (slice_set blocks k 0) k ≡ 0
+    get_or-set_zero blocks k = elim (cases_lt k (length blocks)) [
+      | inl lt ↦ get_or-set_same blocks k 0 0 lt
+      | inr past ↦ get_or_past (slice_set blocks k 0) k 0 (subst (λ (n : ℕ). n ≤ k) (sym (length-set blocks k 0)) past)
+    ]
 
 -- all words
 pub words-all : (blocks used : List ℕ) (next i : ℕ) → AreLeft blocks used next i → length used ≤ i → next ≤ length blocks
@@ -402,47 +487,150 @@ rest-more block rest at skip is =
     ap (λ (n : ℕ). n / 2 ^ skip / 2) is ∙ ap (λ (n : ℕ). n / 2) (div-div-eq-div-mul block (2 ^ at) (2 ^ skip) ∙ ap (λ (d : ℕ). block / d) (sym (pow-add 2 at skip)))
     ∙ div-div-eq-div-mul block (2 ^ (at + skip)) (2 ^ 1) ∙ ap (λ (d : ℕ). block / d) (sym (pow-add 2 (at + skip) 1))
 
-low_bits : (rest k : ℕ) → rest % 256 ≡ 255 → k < 8 → bit_at rest k ≡ 1
-low_bits rest zero full lt = omega (arith, full)
-low_bits rest (suc zero) full lt = omega (arith, full)
-low_bits rest (suc (suc zero)) full lt = omega (arith, full)
-low_bits rest (suc (suc (suc zero))) full lt = omega (arith, full)
-low_bits rest (suc (suc (suc (suc zero)))) full lt = omega (arith, full)
-low_bits rest (suc (suc (suc (suc (suc zero))))) full lt = omega (arith, full)
-low_bits rest (suc (suc (suc (suc (suc (suc zero)))))) full lt = omega (arith, full)
-low_bits rest (suc (suc (suc (suc (suc (suc (suc zero))))))) full lt = omega (arith, full)
-low_bits rest (suc (suc (suc (suc (suc (suc (suc (suc k)))))))) full lt = absurd (omega (arith, lt))
+-- one block more of a group
+pub block-more : (blocks : List ℕ) (group from at skip : ℕ) (old found : List Block) → IsNext group at skip → found ≡ old ++ map (block_at blocks) (filter (has_bit group from) (places_from from at))
+    → found ++ block_at blocks (from + (at + skip)) ∷ [] ≡ old ++ map (block_at blocks) (filter (has_bit group from) (places_from from (at + skip + 1)))
+block-more blocks group from at skip old found next is =
+    let words = filter (has_bit group from) (places_from from at) in
+    let number = from + (at + skip) in
+    ap (λ (list : List Block). list ++ block_at blocks number ∷ []) is ∙ append_assoc old (map (block_at blocks) words) (block_at blocks number ∷ [])
+    ∙ ap (λ (list : List Block). old ++ list) (sym (map-append (block_at blocks) words (number ∷ [])) ∙ ap (map (block_at blocks)) (word-more group from at skip [] words next refl))
 
-eight_bits : (block rest at k : ℕ) → rest ≡ block / 2 ^ at → rest % 256 ≡ 255 → k < 8 → bit_at block (at + k) ≡ 1
-eight_bits block rest at k is full lt = sym (bit_shift block at k) ∙ ap (λ (n : ℕ). bit_at n k) (sym is) ∙ low_bits rest k full lt
-
--- eight bits in a row
-pub eight_more : (block from rest at : ℕ) (old words new : List ℕ) → block < 2 ^ 64 → rest ≡ block / 2 ^ at → rest % 256 ≡ 255 → words ≡ old ++ filter (has_bit block from) (places_from from at)
-    → new ≡ words ++ places_from (from + at) 8 → new ≡ old ++ filter (has_bit block from) (places_from from (at + 8))
-eight_more block from rest at old words new low is full before pushed =
-    let has = has_bit block from in
-    let all : filter has (places_from (from + at) 8) ≡ places_from (from + at) 8 =
-    filter-all has (from + at) 8 (λ w least most.
-    let bit : w - from ≡ at + (w - from - at) = omega (arith, least) in
-    bit_true (bit_at block (w - from)) (ap (bit_at block) bit ∙ eight_bits block rest at (w - from - at) is full (omega (arith, least, most)))) in
-    pushed ∙ ap (λ (list : List ℕ). list ++ places_from (from + at) 8) before ∙ append_assoc old (filter has (places_from from at)) (places_from (from + at) 8)
-    ∙ ap (λ (list : List ℕ). old ++ list) (ap (λ (list : List ℕ). filter has (places_from from at) ++ list) (sym all) ∙ sym (filter-parts has at 8 from))
-
-pub eight_within : (block rest at : ℕ) → block < 2 ^ 64 → rest ≡ block / 2 ^ at → rest % 256 ≡ 255 → at + 8 ≤ 64
-eight_within block rest at low is full =
-    elim (cases_lt (at + 7) 64) [
-      | inl lt ↦ omega (arith, lt)
-      | inr ge ↦ absurd (let none = bit_at_above block 64 (at + 7) low ge in let some = eight_bits block rest at 7 is full (omega arith) in omega (arith, none, some))
+-- of n words as many are listed as bits are set
+pub words_count : (n bits first : ℕ) → bits < 2 ^ n → length (filter (has_bit bits first) (places_from first n)) ≡ ones bits
+words_count zero bits first low = let none = ones-le 0 bits low in omega (arith, none)
+words_count (suc n) bits first low =
+    let half = words_count n (bits / 2) (first + 1) (omega (arith, low, pow-suc 2 n)) in
+    let step = ones_step bits in
+    let g = has_bit bits first in
+    let rest = filter g (places_from (first + 1) n) in
+    let alike : length rest ≡ length (filter (has_bit (bits / 2) (first + 1)) (places_from (first + 1) n)) =
+    ap (λ (list : List ℕ). length list) (filter-alike g (has_bit (bits / 2) (first + 1)) (first + 1) n (λ word least most.
+    let at : word - first ≡ suc (word - (first + 1)) = omega (arith, least) in
+    ap (λ (b : ℕ). b == 1) (ap (bit_at bits) at ∙ bit_at-suc bits (word - (first + 1))))) in
+    let none : first - first ≡ 0 = omega arith in
+    let lowest : bit_at bits (first - first) ≡ bits % 2 = ap (bit_at bits) none ∙ bit_at_lowest bits in
+    elim (cases_Bool (g first)) [
+      | inl e ↦
+          let one = eqb-true (bit_at bits (first - first)) 1 e in
+          let longer = ap (λ (list : List ℕ). length list) (cond-true (g first) (first ∷ rest) rest e) in
+          omega (arith, one, lowest, longer, alike, half, step)
+      | inr e ↦
+          let zero_bit : bits % 2 ≡ 0 = elim (cases_eq (bits % 2) 1) [
+            | inl h ↦ absurd (false≢true (sym e ∙ eq-eqb (bit_at bits (first - first)) 1 (lowest ∙ h)))
+            | inr other ↦ omega (arith, other)
+          ] in
+          let same = ap (λ (list : List ℕ). length list) (cond-false (g first) (first ∷ rest) rest e) in
+          omega (arith, zero_bit, same, alike, half, step)
     ]
 
-pub eight_less : (block rest at : ℕ) → rest ≡ block / 2 ^ at → rest / 256 ≡ block / 2 ^ (at + 8)
-eight_less block rest at is =
-    ap (λ (n : ℕ). n / 256) is ∙ div-div-eq-div-mul block (2 ^ at) (2 ^ 8) ∙ ap (λ (d : ℕ). block / d) (sym (pow-add 2 at 8))
+-- a sum over one more of a list
+pub sum-take : (f : ℕ → ℕ) (xs : List ℕ) (i d : ℕ) → i < length xs → sum_by f (take (i + 1) xs) ≡ sum_by f (take i xs) + f (slice_index_or xs i d)
+sum-take f xs i d within =
+    let one = sum_by-cons f (slice_index_or xs i d) [] in
+    ap (sum_by f) (take_more xs i d within) ∙ sum_by-append f (take i xs) (slice_index_or xs i d ∷ []) ∙ ap (λ (n : ℕ). sum_by f (take i xs) + n) (omega (arith, one))
+
+-- the next block has a place among them
+pub block-room : (group from at skip : ℕ) → group < 2 ^ 64 → IsNext group at skip → length (filter (has_bit group from) (places_from from at)) < ones group
+block-room group from at skip low next =
+    let g = has_bit group from in
+    let n = at + skip + 1 in
+    let whole : n + (64 - n) ≡ 64 = omega (arith, next.within) in
+    let before = filter g (places_from from at) in
+    let more = ap (λ (list : List ℕ). length list) (word-more group from at skip [] before next refl) in
+    let first = length-append before ((from + (at + skip)) ∷ []) in
+    let all = words_count 64 group from low in
+    let parts = ap (λ (k : ℕ). length (filter g (places_from from k))) (sym whole) ∙ ap (λ (list : List ℕ). length list) (filter-parts g n (64 - n) from)
+    ∙ length-append (filter g (places_from from n)) (filter g (places_from (from + n) (64 - n))) in
+    omega (arith, more, first, all, parts)
 
 -- ---- all of it
 
-pub AreListed-moved : (blocks used moved : List ℕ) → IsPermutation used moved → AreListed blocks used → AreListed blocks moved
+AreListed-moved : (blocks used moved : List ℕ) → IsPermutation used moved → AreListed blocks used → AreListed blocks moved
 AreListed-moved blocks used moved by listed = λ block some. sym (list_any-IsPermutation (λ other. other == block) used moved by) ∙ listed block some
+
+-- the list of what is noted, in another order
+pub AreNoted-moved : (blocks groups listed moved : List ℕ) → IsPermutation listed moved → length moved ≡ length listed → AreNoted blocks groups listed → AreNoted blocks groups moved
+AreNoted-moved blocks groups listed moved by same noted = record {
+  marked = noted.marked;
+  all = AreListed-moved groups listed moved by noted.all;
+  within = All-permutation (λ group. group < length groups) listed moved by noted.within;
+  few = omega (arith, same, noted.few);
+}
+
+-- what is among the places that pass a test
+among-filter : (g : ℕ → Bool) (n place b : ℕ) → place ≤ b → b < place + n → g b ≡ true → is_among b (filter g (places_from place n)) ≡ true
+among-filter g zero place b least most pass = absurd (omega (arith, least, most))
+among-filter g (suc n) place b least most pass =
+    let rest = filter g (places_from (place + 1) n) in
+    elim (cases_eq place b) [
+      | inl same ↦
+          ap (is_among b) (cond-true (g place) (place ∷ rest) rest (ap g same ∙ pass))
+          ∙ ap (λ (t : Bool). t || is_among b rest) (eq-eqb place b same)
+      | inr apart ↦
+          let later : is_among b rest ≡ true = among-filter g n (place + 1) b (omega (arith, least, apart)) (omega (arith, most)) pass in
+          elim (cases_Bool (g place)) [
+            | inl e ↦ ap (is_among b) (cond-true (g place) (place ∷ rest) rest e) ∙ or_second (place == b) (is_among b rest) later
+            | inr e ↦ ap (is_among b) (cond-false (g place) (place ∷ rest) rest e) ∙ later
+          ]
+    ]
+
+-- blocks by their numbers
+numbers_are : (blocks numbers : List ℕ) → map (λ (block : Block). block.first / 64) (map (block_at blocks) numbers) ≡ numbers
+numbers_are blocks [] = refl
+numbers_are blocks (number ∷ numbers) =
+    let same : 64 * number / 64 ≡ number = omega arith in
+    ap (λ (k : ℕ). k ∷ map (λ (block : Block). block.first / 64) (map (block_at blocks) numbers)) same ∙ ap (λ (list : List ℕ). number ∷ list) (numbers_are blocks numbers)
+
+-- each block that is not 0 was found
+pub found-listed : (blocks groups : List ℕ) (found : List Block) → length blocks ≡ 64 * length groups → ((block : ℕ) → (slice_index blocks block ≡ 0 → ⊥) → has_word groups block ≡ true)
+    → found ≡ map (block_at blocks) (filter (has_word groups) (places_from 0 (64 * length groups))) → AreListed blocks (map (λ (block : Block). block.first / 64) found)
+found-listed blocks groups found size marked is = λ block some.
+    let m = 64 * length groups in
+    let within : block < 0 + m =
+    elim (cases_lt block (length blocks)) [
+      | inl lt ↦ omega (arith, lt, size)
+      | inr past ↦ absurd (some (get_or_past blocks block 0 past))
+    ] in
+    ap (is_among block) (ap (map (λ (b : Block). b.first / 64)) is ∙ numbers_are blocks (filter (has_word groups) (places_from 0 m)))
+    ∙ among-filter (has_word groups) m 0 block (omega arith) within (marked block some)
+
+-- what holds of each block by its number holds of those that were found
+pub found-all : (P : Block → Type 0) (f : ℕ → Block) (g : ℕ → Bool) (n place : ℕ) → ((p : ℕ) → p < place + n → P (f p)) → All P (map f (filter g (places_from place n)))
+found-all P f g zero place each = All-nil P
+found-all P f g (suc n) place each =
+    let rest = filter g (places_from (place + 1) n) in
+    let later = found-all P f g n (place + 1) (λ p lt. each p (omega (arith, lt))) in
+    elim (cases_Bool (g place)) [
+      | inl e ↦ subst (λ (list : List ℕ). All P (map f list)) (sym (cond-true (g place) (place ∷ rest) rest e)) (All-cons P (f place) (map f rest) (each place (omega arith)) later)
+      | inr e ↦ subst (λ (list : List ℕ). All P (map f list)) (sym (cond-false (g place) (place ∷ rest) rest e)) later
+    ]
+
+-- the words of the blocks that were found are those that have a bit
+pub found-words : (blocks groups : List ℕ) → ((block : ℕ) → (slice_index blocks block ≡ 0 → ⊥) → has_word groups block ≡ true) → (n from : ℕ)
+    → words_of_blocks (map (block_at blocks) (filter (has_word groups) (places_from from n))) ≡ filter (has_word blocks) (places_from (64 * from) (64 * n))
+found-words blocks groups marked zero from = refl
+found-words blocks groups marked (suc n) from =
+    let has = has_word blocks in
+    let rest = filter (has_word groups) (places_from (from + 1) n) in
+    let here = filter has (places_from (64 * from) 64) in
+    let more : 64 + 64 * n ≡ 64 * suc n = omega arith in
+    let next : 64 * (from + 1) ≡ 64 * from + 64 = omega arith in
+    let later = found-words blocks groups marked n (from + 1) in
+    let whole : here ++ filter has (places_from (64 * (from + 1)) (64 * n)) ≡ filter has (places_from (64 * from) (64 * suc n)) =
+    ap (λ (k : ℕ). here ++ filter has (places_from k (64 * n))) next ∙ sym (filter-parts has 64 (64 * n) (64 * from)) ∙ ap (λ (k : ℕ). filter has (places_from (64 * from) k)) more in
+    let words : List ℕ → List ℕ = λ list. words_of_blocks (map (block_at blocks) list) in
+    elim (cases_Bool (has_word groups from)) [
+      | inl e ↦
+          ap words (cond-true (has_word groups from) (from ∷ rest) rest e) ∙ ap (λ (list : List ℕ). list ++ words rest) (block_words blocks from)
+          ∙ ap (λ (list : List ℕ). here ++ list) later ∙ whole
+      | inr e ↦
+          let none : slice_index blocks from ≡ 0 = zero_by (slice_index blocks from) (λ some. false≢true (sym e ∙ marked from some)) in
+          ap words (cond-false (has_word groups from) (from ∷ rest) rest e) ∙ later
+          ∙ sym (ap (λ (list : List ℕ). list ++ filter has (places_from (64 * (from + 1)) (64 * n))) (filter-none has (64 * from) 64 (λ w least most.
+          let there : w / 64 ≡ from = omega (arith, least, most) in
+          has-none blocks w (ap (slice_index blocks) there ∙ none)))) ∙ whole
+    ]
 
 -- a word behind the last one has no touched place
 past_word : (statuses : List Status) (word : ℕ) → length statuses ≤ 4 * word → is_touched_word statuses word ≡ false
@@ -455,12 +643,12 @@ past_word statuses word past =
     (or_neither (f (a + 1 + 1)) (f (a + 1 + 1 + 1) || false) (none (a + 1 + 1) (omega arith)) (or_neither (f (a + 1 + 1 + 1)) false (none (a + 1 + 1 + 1) (omega arith)) refl)))
 
 -- the words whose bits are set are the touched ones
-pub words_are : (n : ℕ) (statuses : List Status) (bytes places blocks : List ℕ) → Fits n statuses (noted bytes places) → ((word : ℕ) → has_word blocks word ≡ list_any (λ p. p / 4 == word) places)
-    → n ≤ 256 * length blocks → n % 4 ≡ 0 → filter (has_word blocks) (places_from 0 (64 * length blocks)) ≡ filter (is_touched_word statuses) (places_from 0 (n / 4))
-words_are n statuses bytes places blocks fits bits most whole =
+pub words_are : (n m : ℕ) (statuses : List Status) (bytes places blocks : List ℕ) → Fits n statuses (noted bytes places) → ((word : ℕ) → has_word blocks word ≡ list_any (λ p. p / 4 == word) places)
+    → n ≤ 256 * m → n % 4 ≡ 0 → filter (has_word blocks) (places_from 0 (64 * m)) ≡ filter (is_touched_word statuses) (places_from 0 (n / 4))
+words_are n m statuses bytes places blocks fits bits most whole =
     let has = has_word blocks in
-    let more = 64 * length blocks - n / 4 in
-    let all : n / 4 + more ≡ 64 * length blocks = omega (arith, most, whole) in
+    let more = 64 * m - n / 4 in
+    let all : n / 4 + more ≡ 64 * m = omega (arith, most, whole) in
     let same : (word : ℕ) → has word ≡ is_touched_word statuses word = λ word. bits word ∙ words_touched n statuses bytes places word fits in
     ap (λ (k : ℕ). filter has (places_from 0 k)) (sym all)
     ∙ filter-same has (n / 4) more 0 (λ word least lt. same word ∙ past_word statuses word (omega (arith, fits.0, least, whole)))

@@ -1,6 +1,6 @@
 -- Lemmas on a tracer's fields: the tracer that they stand for, and what touches make of it.
 use Rattle.std.proofs.Common.{◌≡◌, ℕ, zero, suc, ◌+◌, ◌-◌, ◌*◌, ◌/◌, ◌%◌, ◌^◌, ◌<◌, ◌≤◌, Bool, true, false, List, [], ◌∷◌, ◌++◌, length, map, take, drop, replicate, refl, sym, ap, subst, ◌∙◌, slice_index, slice_index_or, slice_set, arith, length-append, if◌then◌else◌}
-use Rattle.std.specs.Prelude.{All, vec_len}
+use Rattle.std.specs.Prelude.{All, vec_capacity, vec_len}
 use Rattle.std.specs.Vec.{with_items}
 use Rattle.std.specs.Global.{Vec}
 use Rattle.std.proofs.lemmas.List.{get_or-map, get_or_read, length-map, length-replicate, length-set, map-set, with_items_is, take-append-drop}
@@ -140,7 +140,7 @@ fresh_is shape cap start bytes statuses items good own size all none =
 
 -- the fields with other bytes, marks and items
 abbrev pub later : Inside → Vec ℕ → Vec ℕ → Listing → Inside
-later t bytes marks touched = record { shape = t.shape; cap = t.cap; start = t.start; bytes = bytes; marks = marks; touched = touched; blocks = t.blocks }
+later t bytes marks touched = record { shape = t.shape; cap = t.cap; start = t.start; bytes = bytes; marks = marks; touched = touched; blocks = t.blocks; groups = t.groups; used = t.used }
 
 -- They have these statuses and these touched places, which fit.
 pub record Leaves (t : Inside) (bytes marks : Vec ℕ) (touched : Listing) (after : List Status) (list : List ℕ) : Type 0 where
@@ -166,8 +166,12 @@ IsTracer-later t bytes marks touched after list inv did = record {
       (subst (λ (statuses : List Status). Fits (length_of t.shape) statuses (noted t.start.bytes list)) (sym did.statuses) did.fits);
   kept = subst (Keeps t.start.bytes bytes.items) (sym did.statuses) did.kept;
   blocks = inv.blocks;
+  groups = inv.groups;
   few_blocks = inv.few_blocks;
   clear = inv.clear;
+  clear_groups = inv.clear_groups;
+  none_used = inv.none_used;
+  room_used = inv.room_used;
 }
 
 -- the face then
@@ -622,7 +626,7 @@ given_items t held bytes places is_held size put =
 pub IsTracer-fresh : (t : Inside) (start : State) (bytes held : List ℕ) (marks : Vec ℕ) (touched : Listing) (word : ℕ) → IsTracer t → IsState start → start.shape ≡ t.shape
     → word ≡ word_at start.bytes 0 → held ≡ t.bytes.items → length bytes ≡ length held → bytes ≡ bytes_after held (cells 0 (bytes_of 4 word))
     → statuses_of marks.items ≡ replicate (length_of t.shape) Untouched → touched.items ≡ [] → touched.cap ≡ t.touched.cap
-    → IsTracer (record { shape = t.shape; cap = t.cap; start = start; bytes = with_items t.bytes bytes; marks = marks; touched = touched; blocks = t.blocks })
+    → IsTracer (record { shape = t.shape; cap = t.cap; start = start; bytes = with_items t.bytes bytes; marks = marks; touched = touched; blocks = t.blocks; groups = t.groups; used = t.used })
 IsTracer-fresh t start bytes held marks touched word inv good own read is_held size put all none cap =
     let is = put_is t bytes held 0 word is_held size put in
     record {
@@ -637,16 +641,21 @@ IsTracer-fresh t start bytes held marks touched word inv good own read is_held s
       kept = subst (λ (list : List ℕ). Keeps start.bytes list (statuses_of marks.items)) (sym is)
           (kept-fresh (length_of t.shape) start.bytes t.bytes.items (bytes_of 4 word) (statuses_of marks.items) (omega (arith, inv.size, pc_within t.shape)) (pc_bytes start word good read) all);
       blocks = inv.blocks;
+      groups = inv.groups;
       few_blocks = inv.few_blocks;
       clear = inv.clear;
+      clear_groups = inv.clear_groups;
+      none_used = inv.none_used;
+      room_used = inv.room_used;
     }
 
 -- fields that were made anew
-pub IsTracer-new : (shape : Shape) (cap : ℕ) (start : State) (bytes marks : Vec ℕ) (touched : Listing) (blocks : Vec ℕ) → cap ≤ most_cap → IsState start → start ≡ zero_state shape
+pub IsTracer-new : (shape : Shape) (cap : ℕ) (start : State) (bytes marks : Vec ℕ) (touched : Listing) (blocks groups used : Vec ℕ) → cap ≤ most_cap → IsState start → start ≡ zero_state shape
     → bytes.items ≡ replicate (length_of shape) 0 → marks.items ≡ replicate (length_of shape) 3 → touched.items ≡ [] → touched.cap ≡ cap
-    → blocks.items ≡ replicate (length_of shape / 256 + 1) 0
-    → IsTracer (record { shape = shape; cap = cap; start = start; bytes = bytes; marks = marks; touched = touched; blocks = blocks })
-IsTracer-new shape cap start bytes marks touched blocks most good is zeros untouched none room clear =
+    → blocks.items ≡ replicate (64 * (length_of shape / 16384 + 1)) 0 → groups.items ≡ replicate (length_of shape / 16384 + 1) 0
+    → used.items ≡ [] → length_of shape / 16384 + 1 ≤ vec_capacity used
+    → IsTracer (record { shape = shape; cap = cap; start = start; bytes = bytes; marks = marks; touched = touched; blocks = blocks; groups = groups; used = used })
+IsTracer-new shape cap start bytes marks touched blocks groups used most good is zeros untouched none room clear clear_groups none_used room_used =
     let all : statuses_of marks.items ≡ replicate (length_of shape) Untouched = ap statuses_of untouched ∙ statuses-replicate (length_of shape) in
     record {
       cap = most;
@@ -658,9 +667,13 @@ IsTracer-new shape cap start bytes marks touched blocks most good is zeros untou
       places = subst (λ (list : List ℕ). Fits (length_of shape) (statuses_of marks.items) (noted start.bytes (places_of list))) (sym none)
           (Fits-fresh (length_of shape) (statuses_of marks.items) all);
       kept = λ place e. ap (λ (list : List ℕ). slice_index list place) (zeros ∙ sym (ap (λ (s : State). s.bytes) is));
-      blocks = omega (arith, ap (λ (l : List ℕ). length l) clear, length-replicate {A = ℕ} (length_of shape / 256 + 1) 0);
-      few_blocks = omega (arith, ap (λ (l : List ℕ). length l) clear, length-replicate {A = ℕ} (length_of shape / 256 + 1) 0, low_shape shape (subst IsShape (ap (λ (s : State). s.shape) is) good.shape));
-      clear = λ block. ap (λ (list : List ℕ). slice_index list block) clear ∙ get_or-replicate_same (length_of shape / 256 + 1) block;
+      blocks = omega (arith, ap (λ (l : List ℕ). length l) clear, length-replicate {A = ℕ} (64 * (length_of shape / 16384 + 1)) 0);
+      groups = omega (arith, ap (λ (l : List ℕ). length l) clear, length-replicate {A = ℕ} (64 * (length_of shape / 16384 + 1)) 0, ap (λ (l : List ℕ). length l) clear_groups, length-replicate {A = ℕ} (length_of shape / 16384 + 1) 0);
+      few_blocks = omega (arith, ap (λ (l : List ℕ). length l) clear, length-replicate {A = ℕ} (64 * (length_of shape / 16384 + 1)) 0, low_shape shape (subst IsShape (ap (λ (s : State). s.shape) is) good.shape));
+      clear = λ block. ap (λ (list : List ℕ). slice_index list block) clear ∙ get_or-replicate_same (64 * (length_of shape / 16384 + 1)) block;
+      clear_groups = λ group. ap (λ (list : List ℕ). slice_index list group) clear_groups ∙ get_or-replicate_same (length_of shape / 16384 + 1) group;
+      none_used = none_used;
+      room_used = omega (arith, room_used, ap (λ (l : List ℕ). length l) clear_groups, length-replicate {A = ℕ} (length_of shape / 16384 + 1) 0);
     }
 
 -- the pc stands in memory, touched or not

@@ -1,5 +1,5 @@
 -- How a tracer's fields stand for a tracer, and words of private contracts.
-use Rattle.std.specs.Prelude.{◌≡◌, ℕ, zero, suc, ◌+◌, ◌*◌, ◌^◌, ◌≤◌, Bool, true, false, ◌==◌, nat_lt, List, [], ◌∷◌, length, map, slice_index, slice_set, All, if◌then◌else◌}
+use Rattle.std.specs.Prelude.{◌≡◌, ℕ, zero, suc, ◌+◌, ◌*◌, ◌^◌, ◌≤◌, Bool, true, false, ◌==◌, nat_lt, List, [], ◌∷◌, length, map, slice_index, slice_set, All, vec_capacity, if◌then◌else◌}
 use Rattle.asc_model.specs.declared.status.Status.{Status}
 use Rattle.asc_model.specs.declared.status.Status.TheVariants.{Untouched, Read, Written, ReadWritten}
 use Rattle.asc_model.specs.Shape.{length_of}
@@ -60,8 +60,12 @@ pub record IsTracer (t : Inside) : Type 0 where
       (Told 0 (statuses_of t.marks.items) (noted t.start.bytes (places_of t.touched.items)))
   pub kept : Keeps t.start.bytes t.bytes.items (statuses_of t.marks.items)
   pub blocks : length_of t.shape ≤ 256 * length t.blocks.items
+  pub groups : length t.blocks.items ≡ 64 * length t.groups.items
   pub few_blocks : length t.blocks.items ≤ 2 ^ 24
   pub clear : (block : ℕ) → slice_index t.blocks.items block ≡ 0
+  pub clear_groups : (group : ℕ) → slice_index t.groups.items group ≡ 0
+  pub none_used : t.used.items ≡ []
+  pub room_used : length t.groups.items ≤ vec_capacity t.used
 
 -- the statuses of all places of a list are those of places that were written
 abbrev pub AreWritten : List Status → List ℕ → Type 0

@@ -9,6 +9,7 @@ mod touched;
 mod tracer;
 
 pub use asc_shape::Status;
+pub use bitmap::Block;
 pub use laws::{
     limits_stay, no_statuses, reads_are_undone, starts_are_told, starts_stay, statuses_follow,
 };

@@ -3,7 +3,7 @@ ghost use Rattle.asc_model.specs.Shape.{length_of};
 
 use crate::Status::{Read, ReadWritten, Untouched, Written};
 use crate::tests::Call::{Get, GetWord, Put, PutWord, Reset, Undo};
-use crate::{LEAST_CAP, Tracer};
+use crate::{Block, LEAST_CAP, Tracer};
 use asc_shape::{Bytes, Guess, Shape, Snapshot, State, Status, Words};
 use std::alloc::Global;
 use std::process::Abort;
@@ -262,7 +262,7 @@ impl Plain {
     /// Compares all that a tracer tells of the row.
     fn look<R: Abort>(&self, rt: &R, alloc: Global, tracer: &mut Tracer, from: u32) {
         assert_eq!(rt; tracer.mark(), self.touched.len());
-        let words = tracer.touched_words(alloc).expect(rt, "memory");
+        let blocks = tracer.touched_blocks(alloc).expect(rt, "memory");
         for place in 0..ROW {
             let at = place as usize;
             assert!(rt; at < self.statuses.len() && at < self.bytes.len());
@@ -273,11 +273,20 @@ impl Plain {
                 (self.statuses[at], self.bytes[at])
             );
             if self.statuses[at] != Untouched {
-                assert!(rt; words.iter().any(|word| *word == there / 4));
+                assert!(rt; blocks.iter().any(|block| has_word(block, there / 4)));
             }
         }
-        assert!(rt; words.len() <= self.touched.len());
+        let mut words: usize = 0;
+        for block in &blocks {
+            words = words.saturating_add(block.bits.count_ones() as usize);
+        }
+        assert!(rt; words <= self.touched.len());
     }
+}
+
+/// Whether a block has a word.
+fn has_word(block: &Block, word: u32) -> bool {
+    block.first == word / 64 * 64 && block.bits >> (word % 64) & 1 == 1
 }
 
 /// The next random number.
@@ -324,24 +333,59 @@ fn random_bytes<R: Abort>(
     bytes
 }
 
+/// The bytes of a row of places of a state.
+fn row_of<R: Abort>(rt: &R, alloc: Global, state: &State, from: u32) -> Vec<u8> {
+    let mut bytes = Vec::new(alloc);
+    for place in from..from.wrapping_add(ROW) {
+        assert!(rt; (place as usize) < state.len());
+        bytes.push(state.get(place)).expect(rt, "memory");
+    }
+    bytes
+}
+
+/// The row that two rows lead to: each word is the later one and so many times its rise.
+fn risen<R: Abort>(rt: &R, alloc: Global, before: &[u8], after: &[u8], ahead: u32) -> Vec<u8> {
+    let mut bytes = Vec::new(alloc);
+    for (old, new) in before.chunks(4).zip(after.chunks(4)) {
+        let last = word_of(rt, new);
+        let rise = last.wrapping_sub(word_of(rt, old));
+        for byte in last.wrapping_add(rise.wrapping_mul(ahead)).to_le_bytes() {
+            bytes.push(byte).expect(rt, "memory");
+        }
+    }
+    bytes
+}
+
+fn word_of<R: Abort>(rt: &R, bytes: &[u8]) -> u32 {
+    assert!(rt; bytes.len() == 4);
+    u32::from_le_bytes([bytes[0], bytes[1], bytes[2], bytes[3]])
+}
+
 // Random calls at the first places, across two pages, and at the last places: one tracer, a hundred jobs each from
-// another state, whatever the job before it left.
+// another guess, whatever the job before it left.
 #[test]
 fn random_jobs(rt: HostRuntime) {
     let alloc = rt.alloc();
-    for (size, jobs) in [(65_536, 100), (67_108_864, 10)] {
+    for size in [65_536, 67_108_864] {
         let shape = Shape::new(0x10000, size).expect(&rt, "a shape");
         let mut state = State::new(alloc, shape).expect(&rt, "memory");
         let mut tracer = Tracer::new(alloc, shape, 4096).expect(&rt, "memory");
+        let mut last = state.freeze(alloc).expect(&rt, "memory");
         let mut seed = u64::from(size);
-        for job in 0..jobs {
+        for job in 0..100 {
             let from = match job % 3 {
                 0 => 0,
                 1 => 4052,
                 _ => places(shape).wrapping_sub(ROW),
             };
-            let bytes = random_bytes(&rt, alloc, &mut state, from, &mut seed);
-            start(&rt, alloc, &mut tracer, &state);
+            let before = row_of(&rt, alloc, &state, from);
+            let after = random_bytes(&rt, alloc, &mut state, from, &mut seed);
+            let frozen = state.freeze(alloc).expect(&rt, "memory");
+            let prev = std::mem::replace(&mut last, frozen);
+            let now = Arc::try_clone(&last).expect(&rt, "memory");
+            assert!(rt; prev.shape() == now.shape());
+            start_from(&rt, &mut tracer, Guess::stride(prev, now, job % 4));
+            let bytes = risen(&rt, alloc, &before, &after, job % 4);
             let mut plain = Plain {
                 bytes: bytes.clone().expect(&rt, "memory"),
                 start: bytes,

@@ -8,10 +8,11 @@ ghost use Rattle.asc_model.specs.Shape.{length_of};
 ghost use Rattle.asc_model.specs.State.{IsState};
 ghost use Rattle.asc_shape.specs.Face.{Told, status_at, is_untouched, status_after_read, status_after_write, face_after_read, face_after_reads, face_after_puts, untouched_count, room_of};
 ghost use Rattle.asc_shape.specs.State.{zero_state};
+ghost use Rattle.asc_depvec.specs.Bits.{words_of_blocks};
 ghost use Rattle.asc_depvec.specs.Tracer.{HaveStatus, IsTracing, least_cap, most_cap, face_of, fresh, undone, places_of, places_of_item, start_of_face, touched_words};
 ghost use Rattle.asc_depvec.specs.Inside.{AreWritten, given, status_of, statuses_of, with_statuses, without};
 
-use crate::bitmap::{clear, set_items, words_of};
+use crate::bitmap::{Block, set_items, take_blocks};
 use crate::touched::Touched;
 use asc_shape::{Bytes, Guess, Memory, Shape, Snapshot, Status, Words, get_by_bytes, put_by_bytes};
 use std::alloc::Global;
@@ -31,7 +32,7 @@ pub const MOST_CAP: usize = 65_536;
 /// The bytes of untouched places are the start's, and stand there alone. So a start costs what was touched before it,
 /// however large the state is.
 ///
-/// Only `new` and `touched_words` are handed an allocator. Contracts see a tracer as the `Tracing` of `specs/`.
+/// Only `new` and `touched_blocks` are handed an allocator. Contracts see a tracer as the `Tracing` of `specs/`.
 #[derive(Drop)]
 pub struct Tracer {
     shape: Shape,
@@ -41,8 +42,11 @@ pub struct Tracer {
     bytes: Vec<u8>,
     marks: Vec<u8>,
     touched: Touched,
-    // A bit for each word, which is set inside of `touched_words` alone.
+    // A bit for each word, and one for each 64 words. They are set inside of `touched_blocks` alone.
     blocks: Vec<u64>,
+    groups: Vec<u64>,
+    // Memory for a list of the groups that have a bit.
+    used: Vec<u32>,
 }
 
 impl Model for Tracer {
@@ -76,7 +80,9 @@ impl Tracer {
             bytes: vec![in alloc; 0; len]?,
             marks: vec![in alloc; UNTOUCHED; len]?,
             touched: Touched::none(alloc, cap)?,
-            blocks: vec![in alloc; 0; len / 256 + 1]?,
+            blocks: vec![in alloc; 0; 64 * (len / 0x4000 + 1)]?,
+            groups: vec![in alloc; 0; len / 0x4000 + 1]?,
+            used: Vec::with_capacity(alloc, len / 0x4000 + 1)?,
         })
     }
 
@@ -228,20 +234,20 @@ impl Tracer {
         self.touched.all()
     }
 
-    /// The words with a touched place by their numbers, rising.
-    pub fn touched_words(&mut self, alloc: Global) -> Result<Vec<u32>, Memory>
-        ensures words { IfOk result (λ words. words.items ≡ touched_words self.old) }
+    /// The words with a touched place, rising, as the blocks of 64 words that have one.
+    pub fn touched_blocks(&mut self, alloc: Global) -> Result<Vec<Block>, Memory>
+        ensures words { IfOk result (λ blocks. words_of_blocks blocks.items ≡ touched_words self.old) }
+        ensures low { IfOk result (λ blocks. All (λ block. block.first < 2 ^ 30) blocks.items) }
         ensures tracer { self.new ≡ self.old }
     {
         // That its state is one, and its marks fit it.
         let _ = Bytes::shape(self);
         let items = self.touched.all();
-        let mut used = Vec::with_capacity(alloc, 2 * items.len())?;
-        set_items(&mut self.blocks, &mut used, items);
-        used.sort_unstable();
-        let words = words_of(alloc, &self.blocks, &used);
-        clear(&mut self.blocks, &used);
-        Ok(words?)
+        set_items(&mut self.blocks, &mut self.groups, &mut self.used, items);
+        self.used.sort_unstable();
+        let found = take_blocks(alloc, &mut self.blocks, &mut self.groups, &self.used);
+        self.used.clear();
+        Ok(found?)
     }
 
     /// The word that stood at the start in four places that were only read.

@@ -1,5 +1,5 @@
 -- The entry of the steps that a tracer stands for.
-use Rattle.std.proofs.Common.{◌≡◌, ℕ, zero, suc, ◌+◌, ◌*◌, ◌/◌, ◌%◌, ◌<◌, ◌≤◌, ◌||◌, Bool, true, false, not, List, ◌∷◌, ◌++◌, length, Some, refl, sym, ap, subst, ◌∙◌, inl, inr, arith}
+use Rattle.std.proofs.Common.{◌≡◌, ℕ, zero, suc, ◌+◌, ◌*◌, ◌/◌, ◌%◌, ◌^◌, ◌<◌, ◌≤◌, ◌||◌, Bool, true, false, not, List, ◌∷◌, ◌++◌, length, Some, refl, sym, ap, subst, ◌∙◌, inl, inr, arith}
 use Rattle.std.specs.Prelude.{All, filter}
 use Rattle.std.specs.List.{list_any}
 use Rattle.std.proofs.lemmas.Bool.{cases_Bool, cases_eq, cond-false, cond-true}
@@ -18,6 +18,7 @@ use Rattle.asc_shape.specs.Face.{status_at, is_untouched}
 use Rattle.asc_depvec.specs.Dependency.{status_by}
 use Rattle.asc_depvec.specs.Tracer.{Tracing, is_touched_word, touched_words}
 use Rattle.asc_depvec.proofs.Bits.{filter-alike, filter-none, filter-parts}
+use Rattle.asc_depvec.proofs.Insides.{low_shape}
 use Rattle.asc_depvec.proofs.Marking.{untouched_is}
 use Rattle.asc_traj.specs.Trace.{StandsFor, origin_of}
 use Rattle.asc_traj.specs.Inside.{is_read_first, is_written, now_at, places_of_words, read_first, started, written}
@@ -165,3 +166,20 @@ pub words-within : (t : Tracing) (n : ℕ) → StandsFor n t → IsState t.state
 words-within t n stands good =
     let size = stands.touched.0 ∙ good.length in
     λ k d lt. let h = All-filter_places (is_touched_word t.statuses) (length t.statuses / 4) 0 k d lt in omega (arith, h, size, whole_words t n stands good)
+
+-- and they are few
+filter-few : (g : ℕ → Bool) (n place : ℕ) → length (filter g (places_from place n)) ≤ n
+filter-few g zero place = omega arith
+filter-few g (suc n) place =
+    let rest = filter g (places_from (place + 1) n) in
+    let later = filter-few g n (place + 1) in
+    elim (cases_Bool (g place)) [
+      | inl e ↦ let size = ap (λ (list : List ℕ). length list) (cond-true (g place) (place ∷ rest) rest e) in omega (arith, size, later)
+      | inr e ↦ let size = ap (λ (list : List ℕ). length list) (cond-false (g place) (place ∷ rest) rest e) in omega (arith, size, later)
+    ]
+
+pub words-few : (t : Tracing) (n : ℕ) → StandsFor n t → IsState t.state → length (touched_words t) ≤ 2 ^ 32
+words-few t n stands good =
+    let size = stands.touched.0 ∙ good.length in
+    let few = filter-few (is_touched_word t.statuses) (length t.statuses / 4) 0 in
+    omega (arith, few, size, low_shape t.state.shape good.shape)

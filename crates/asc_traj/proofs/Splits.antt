@@ -1,18 +1,23 @@
 -- The parts of a word's places: those that were read first, and those that were written.
-use Rattle.std.proofs.Common.{◌≡◌, ℕ, zero, suc, ◌+◌, ◌*◌, ◌/◌, ◌%◌, ◌^◌, ◌<◌, ◌≤◌, ◌==◌, Bool, true, false, cond, List, [], ◌∷◌, ◌++◌, length, map, take, slice_index, slice_index_or, refl, sym, ap, ◌∙◌, inl, inr, arith}
-use Rattle.std.specs.Prelude.{filter}
+use Rattle.std.proofs.Common.{◌≡◌, ℕ, zero, suc, ◌+◌, ◌-◌, ◌*◌, ◌/◌, ◌%◌, ◌^◌, ◌<◌, ◌≤◌, ◌==◌, Bool, true, false, cond, List, [], ◌∷◌, ◌++◌, length, map, take, slice_index, get_or, append_assoc, length-append, refl, sym, ap, subst, ◌∙◌, inl, inr, arith}
+use lib.Count.{ones}
+use Rattle.std.specs.Prelude.{All, filter}
 use Rattle.std.proofs.lemmas.Bool.{cases_Bool, cond-false, cond-true}
 use Rattle.std.proofs.lemmas.Grind.{flat_map-append}
 use Rattle.std.proofs.lemmas.List.{append-nil, map-append, take_more}
-use Rattle.std.proofs.lemmas.List.Elements.{filter-append}
+use Rattle.std.proofs.lemmas.List.Elements.{All-cons, All-head, All-nil, All-tail, filter-append}
 use Rattle.asc_model.specs.declared.status.Status.{Status}
 use Rattle.asc_model.specs.Number.{AreBytes, bytes_of, word_at}
 use Rattle.asc_model.specs.Places.{cells, places_from}
 use Rattle.asc_shape.proofs.Guesses.{bytes_at, bytes_of-number_at}
 use Rattle.asc_shape.specs.Face.{status_at}
+use Rattle.asc_depvec.specs.Bits.{has_bit, words_in, words_of_blocks}
+use Rattle.asc_depvec.specs.declared.bitmap.Block.{Block}
 use Rattle.asc_depvec.specs.Tracer.{HaveStatus, Tracing}
-use Rattle.asc_traj.specs.Inside.{is_read_first, is_written, mask_at, mask_of, now_at, places_of_words, read_first, started, written}
-use Rattle.asc_traj.specs.Parts.{masked}
+use Rattle.asc_depvec.proofs.Bits.{IsNext, filter-parts, tail-words, word-more, words_count}
+use Rattle.asc_traj.specs.Inside.{HasGrown, HasSplit, is_read_first, is_written, mask_at, mask_of, now_at, places_of_words, read_first, started, written}
+use Rattle.asc_traj.specs.Parts.{all_cells, masked}
+use Rattle.asc_traj.specs.declared.entry.Halves.{Halves}
 use Rattle.asc_traj.specs.Trace.{origin_of}
 use Rattle.asc_traj.proofs.Parts.{here, masked-none, masked-suc, masked-zero}
 
@@ -61,12 +66,114 @@ written-append t a b =
     ∙ ap (map with_now) (filter-append g (started t a) (started t b))
     ∙ map-append with_now (filter g (started t a)) (filter g (started t b))
 
--- the places of one word more
-pub words-take : (words : List ℕ) (i d : ℕ) → i < length words → places_of_words (take (i + 1) words) ≡ places_of_words (take i words) ++ places_from (4 * slice_index_or words i d) 4
-words-take words i d within =
-    let row = λ (word : ℕ). places_from (4 * word) 4 in
-    ap places_of_words (take_more words i d within) ∙ flat_map-append row (take i words) (slice_index_or words i d ∷ [])
-    ∙ ap (λ (list : List ℕ). places_of_words (take i words) ++ list) (append-nil (row (slice_index_or words i d)))
+-- two lists with places behind them, and with more places
+pub HasSplit-more : (t : Tracing) (a b : List ℕ) (old mid new : Halves) → HasSplit t a old mid → HasSplit t b mid new → HasSplit t (a ++ b) old new
+HasSplit-more t a b old mid new first second =
+    let places = λ (list : List ℕ). started t list in
+    record {
+      reads = second.reads ∙ ap (λ (list : List (ℕ × ℕ)). list ++ read_first t (places b)) first.reads
+          ∙ append_assoc (all_cells old.reads.items) (read_first t (places a)) (read_first t (places b)) ∙ ap (λ (list : List (ℕ × ℕ)). all_cells old.reads.items ++ list) (sym (read_first-append t a b));
+      writes = second.writes ∙ ap (λ (list : List (ℕ × ℕ)). list ++ written t (places b)) first.writes
+          ∙ append_assoc (all_cells old.writes.items) (written t (places a)) (written t (places b)) ∙ ap (λ (list : List (ℕ × ℕ)). all_cells old.writes.items ++ list) (sym (written-append t a b));
+    }
+
+-- and with none
+pub HasSplit-none : (t : Tracing) (halves : Halves) → HasSplit t [] halves halves
+HasSplit-none t halves = record {
+  reads = sym (append-nil (all_cells halves.reads.items));
+  writes = sym (append-nil (all_cells halves.writes.items));
+}
+
+-- the places of words behind others
+pub places-append : (a b : List ℕ) → places_of_words (a ++ b) ≡ places_of_words a ++ places_of_words b
+places-append a b = flat_map-append (λ (word : ℕ). places_from (4 * word) 4) a b
+
+pub places-one : (a : List ℕ) (word : ℕ) → places_of_words (a ++ word ∷ []) ≡ places_of_words a ++ places_from (4 * word) 4
+places-one a word = places-append a (word ∷ []) ∙ ap (λ (list : List ℕ). places_of_words a ++ list) (append-nil (places_from (4 * word) 4))
+
+-- ---- the words of blocks
+
+abbrev pub block_of : (first bits : ℕ) → Block
+block_of first bits = record { first = first; bits = bits }
+
+-- a block of no word
+abbrev pub none : Block
+none = record { first = 0; bits = 0 }
+
+-- of the first words of a block those whose bits are set
+abbrev pub words_until : Block → (n : ℕ) → List ℕ
+words_until block n = filter (has_bit block.bits block.first) (places_from block.first n)
+
+-- the next word of a block, and all of them by it
+pub record IsWord (block : Block) (at word : ℕ) (later : ℕ) : Type 0 where
+  pub more : words_until block later ≡ words_until block at ++ word ∷ []
+  pub rest : List ℕ
+  pub all : words_in block ≡ words_until block at ++ word ∷ rest
+
+pub next_word : (block : Block) (at skip : ℕ) → IsNext block.bits at skip → IsWord block at (block.first + (at + skip)) (at + skip + 1)
+unfolding words_in
+next_word block at skip next =
+    let first = block.first in
+    let word = first + (at + skip) in
+    let g = has_bit block.bits first in
+    let n = at + skip + 1 in
+    let whole : n + (64 - n) ≡ 64 = omega (arith, next.within) in
+    let more : words_until block n ≡ words_until block at ++ word ∷ [] = sym (word-more block.bits first at skip [] (words_until block at) next refl) in
+    let rest = filter g (places_from (first + n) (64 - n)) in
+    record {
+      more = more;
+      rest = rest;
+      all = ap (words_until block) (sym whole) ∙ filter-parts g n (64 - n) first ∙ ap (λ (list : List ℕ). list ++ rest) more ∙ append_assoc (words_until block at) (word ∷ []) rest;
+    }
+
+-- and where no bit is left they are all
+pub all_words : (block : Block) (at : ℕ) → at ≤ 64 → block.bits / 2 ^ at ≡ 0 → words_until block at ≡ words_in block
+unfolding words_in
+all_words block at most none = tail-words block.bits block.first at most none
+
+All-right : (P : ℕ → Type 0) (xs ys : List ℕ) → All P (xs ++ ys) → All P ys
+All-right P [] ys all = all
+All-right P (x ∷ xs) ys all = All-right P xs ys (All-tail P x (xs ++ ys) all)
+
+All-left : (P : ℕ → Type 0) (xs ys : List ℕ) → All P (xs ++ ys) → All P xs
+All-left P [] ys all = All-nil P
+All-left P (x ∷ xs) ys all = All-cons P x xs (All-head P x (xs ++ ys) all) (All-left P xs ys (All-tail P x (xs ++ ys) all))
+
+-- what holds of all words of a block holds of the next one
+pub word-holds : (P : ℕ → Type 0) (block : Block) (at word later : ℕ) → IsWord block at word later → All P (words_in block) → P word
+word-holds P block at word later is all = All-head P word is.rest (All-right P (words_until block at) (word ∷ is.rest) (subst (All P) is.all all))
+
+-- and there is room for it
+pub word-room : (block : Block) (at word later : ℕ) → IsWord block at word later → length (words_until block at) < length (words_in block)
+word-room block at word later is =
+    let all = ap (λ (list : List ℕ). length list) is.all ∙ length-append (words_until block at) (word ∷ is.rest) in
+    omega (arith, all)
+
+-- what holds of all words of blocks holds of those of each block
+pub block-holds : (P : ℕ → Type 0) (blocks : List Block) (i : ℕ) (d : Block) → i < length blocks → All P (words_of_blocks blocks) → All P (words_in (get_or blocks i d))
+block-holds P [] i d within all = absurd (omega (arith, within))
+block-holds P (block ∷ blocks) zero d within all = All-left P (words_in block) (words_of_blocks blocks) all
+block-holds P (block ∷ blocks) (suc i) d within all = block-holds P blocks i d (omega (arith, within)) (All-right P (words_in block) (words_of_blocks blocks) all)
+
+-- the words of one block more
+pub blocks-take : (blocks : List Block) (i : ℕ) (d : Block) → i < length blocks → words_of_blocks (take (i + 1) blocks) ≡ words_of_blocks (take i blocks) ++ words_in (get_or blocks i d)
+blocks-take blocks i d within =
+    ap words_of_blocks (take_more blocks i d within) ∙ flat_map-append words_in (take i blocks) (get_or blocks i d ∷ [])
+    ∙ ap (λ (list : List ℕ). words_of_blocks (take i blocks) ++ list) (append-nil (words_in (get_or blocks i d)))
+
+-- a block has as many words as bits
+pub block-count : (block : Block) → block.bits < 2 ^ 64 → length (words_in block) ≡ ones block.bits
+unfolding words_in
+block-count block low = words_count 64 block.bits block.first low
+
+-- two lists that grew
+pub HasGrown-more : (m n more : ℕ) (old mid new : Halves) → m + n ≡ more → HasGrown m old mid → HasGrown n mid new → HasGrown more old new
+HasGrown-more m n more old mid new sum first second = record {
+  few_reads = omega (arith, sum, first.few_reads, second.few_reads);
+  few_writes = omega (arith, sum, first.few_writes, second.few_writes);
+  room_reads = second.room_reads ∙ first.room_reads;
+  room_writes = second.room_writes ∙ first.room_writes;
+}
 
 -- ---- masks
 

@@ -58,10 +58,10 @@ pub record AreHalves (halves : Halves) : Type 0 where
   pub reads : All IsPart halves.reads.items
   pub writes : All IsPart halves.writes.items
 
--- both grew by one part at most, in the memory that they had
-pub record HasGrown (old new : Halves) : Type 0 where
-  pub few_reads : vec_len new.reads ≤ vec_len old.reads + 1
-  pub few_writes : vec_len new.writes ≤ vec_len old.writes + 1
+-- both grew by so many parts at most, in the memory that they had
+pub record HasGrown (most : ℕ) (old new : Halves) : Type 0 where
+  pub few_reads : vec_len new.reads ≤ vec_len old.reads + most
+  pub few_writes : vec_len new.writes ≤ vec_len old.writes + most
   pub room_reads : vec_capacity new.reads ≡ vec_capacity old.reads
   pub room_writes : vec_capacity new.writes ≡ vec_capacity old.writes
 

@@ -10,6 +10,7 @@ ghost use Rattle.asc_model.specs.Plain.{plain};
 ghost use Rattle.asc_model.specs.Places.{bytes_after, cells, places_from};
 ghost use Rattle.asc_model.specs.Number.{bytes_of};
 ghost use Rattle.asc_shape.specs.Face.{status_at};
+ghost use Rattle.asc_depvec.specs.Bits.{words_in, words_of_blocks};
 ghost use Rattle.asc_depvec.specs.Tracer.{HaveStatus, IsTracing};
 ghost use Rattle.asc_traj.specs.Content.{matches};
 ghost use Rattle.asc_traj.specs.Parts.{IsPart, all_cells, part_cells, word_place};
@@ -18,7 +19,7 @@ ghost use Rattle.asc_traj.specs.Inside.{AreHalves, HasGrown, HasSplit, is_read_f
 
 use crate::part::{Part, push};
 use crate::tracing::known;
-use asc_depvec::Tracer;
+use asc_depvec::{Block, Tracer};
 use asc_shape::{Bytes, Memory, Shape, State, Status};
 use std::alloc::{AllocError, Global};
 use std::marker::Model;
@@ -73,8 +74,8 @@ impl Entry {
         known(tracer);
         // That its start is a state.
         let _ = tracer.started().shape();
-        let words = tracer.touched_words(alloc)?;
-        let halves = split(alloc, tracer, &words)?;
+        let blocks = tracer.touched_blocks(alloc)?;
+        let halves = split(alloc, tracer, &blocks)?;
         Ok(Arc::new(
             alloc,
             Entry {
@@ -175,25 +176,74 @@ fn put_parts(state: &mut State, parts: &[Part])
     }
 }
 
-/// The parts of the touched places in rising words.
+/// The parts of the touched places, whose words stand in blocks.
 #[inline]
-fn split(alloc: Global, tracer: &Tracer, words: &[u32]) -> Result<Halves, AllocError>
+fn split(alloc: Global, tracer: &Tracer, blocks: &[Block]) -> Result<Halves, AllocError>
     requires start { IsState (origin_of tracer.now) }
-    requires words { All (λ word. 4 * word + 4 ≤ length_of tracer.now.state.shape) words.now }
+    requires words { All (λ word. 4 * word + 4 ≤ length_of tracer.now.state.shape) (words_of_blocks blocks.now) }
+    requires few { length (words_of_blocks blocks.now) ≤ 2 ^ 32 }
+    requires low { All (λ block. block.first < 2 ^ 30) blocks.now }
     ensures parts { IfOk result (λ halves. AreHalves halves) }
     ensures reads { IfOk result (λ halves. all_cells halves.reads.items
-        ≡ read_first tracer.now (started tracer.now (places_of_words words.now))) }
+        ≡ read_first tracer.now (started tracer.now (places_of_words (words_of_blocks blocks.now)))) }
     ensures writes { IfOk result (λ halves. all_cells halves.writes.items
-        ≡ written tracer.now (started tracer.now (places_of_words words.now))) }
+        ≡ written tracer.now (started tracer.now (places_of_words (words_of_blocks blocks.now)))) }
 {
+    let words = count_words(blocks);
     let mut halves = Halves {
-        reads: Vec::with_capacity(alloc, words.len())?,
-        writes: Vec::with_capacity(alloc, words.len())?,
+        reads: Vec::with_capacity(alloc, words)?,
+        writes: Vec::with_capacity(alloc, words)?,
     };
-    for &word in words {
-        split_word(tracer, word, &mut halves);
+    for block in blocks {
+        split_block(tracer, block.first, block.bits, &mut halves);
     }
     Ok(halves)
+}
+
+/// How many words blocks have.
+#[inline]
+fn count_words(blocks: &[Block]) -> usize
+    requires { length (words_of_blocks blocks.now) ≤ 2 ^ 32 }
+    ensures { result ≡ length (words_of_blocks blocks.now) }
+{
+    let mut words = 0;
+    for block in blocks {
+        words += word_count(block.first, block.bits);
+    }
+    words
+}
+
+/// How many words a block has.
+#[inline]
+fn word_count(first: u32, bits: u64) -> usize
+    ensures { result ≡ length (words_in (record { first = first; bits = bits })) }
+{
+    let _ = first;
+    bits.count_ones() as usize
+}
+
+/// Puts the parts of the words of a block behind others.
+#[inline]
+fn split_block(tracer: &Tracer, first: u32, bits: u64, halves: &mut Halves)
+    requires start { IsState (origin_of tracer.now) }
+    requires low { first < 2 ^ 30 }
+    requires words { All (λ word. 4 * word + 4 ≤ length_of tracer.now.state.shape) (words_in (record { first = first; bits = bits })) }
+    requires halves { AreHalves halves.old }
+    requires reads { vec_len halves.old.reads + length (words_in (record { first = first; bits = bits })) ≤ vec_capacity halves.old.reads }
+    requires writes { vec_len halves.old.writes + length (words_in (record { first = first; bits = bits })) ≤ vec_capacity halves.old.writes }
+    ensures halves { AreHalves halves.new }
+    ensures grown { HasGrown (length (words_in (record { first = first; bits = bits }))) halves.old halves.new }
+    ensures split { HasSplit tracer.now (places_of_words (words_in (record { first = first; bits = bits }))) halves.old halves.new }
+{
+    let mut rest = bits;
+    let mut at = 0;
+    while rest != 0 {
+        let skip = rest.trailing_zeros();
+        at += skip;
+        split_word(tracer, first + at, halves);
+        rest = (rest >> skip) >> 1;
+        at += 1;
+    }
 }
 
 /// Puts the parts of a word's places behind others, at once where these have one status.
@@ -205,7 +255,7 @@ fn split_word(tracer: &Tracer, word: u32, halves: &mut Halves)
     requires reads { vec_len halves.old.reads < vec_capacity halves.old.reads }
     requires writes { vec_len halves.old.writes < vec_capacity halves.old.writes }
     ensures halves { AreHalves halves.new }
-    ensures grown { HasGrown halves.old halves.new }
+    ensures grown { HasGrown 1 halves.old halves.new }
     ensures split { HasSplit tracer.now (places_from (4 * word) 4) halves.old halves.new }
 {
     known(tracer);

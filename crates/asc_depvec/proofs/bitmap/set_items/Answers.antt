@@ -1,4 +1,4 @@
-use Rattle.std.proofs.Common.{ℕ, ◌/◌, ◌<◌, ◌^◌, ◌==◌, ◌||◌, ◌∙◌, Bool, length, take, slice_index_or, sym, ap, subst, arith}
+use Rattle.std.proofs.Common.{ℕ, ◌/◌, ◌<◌, ◌^◌, ◌==◌, ◌||◌, ◌∙◌, Bool, length, take, slice_index_or, sym, ap, subst}
 use Rattle.std.specs.Prelude.{All}
 use Rattle.std.specs.List.{list_any}
 use Rattle.std.proofs.lemmas.List.Folds.{list_any-append}
@@ -24,8 +24,6 @@ loop-item-preserved c =
           let test : ℕ → Bool = λ place. place / 4 == word in
           c.set_item.ensures.bits word ∙ ap (λ (b : Bool). b || list_any test (places_of_item item)) (c.loop-item.invariant.bits word)
           ∙ sym (list_any-append test (places_of (take k items)) (places_of_item item)) ∙ ap (list_any test) (sym (places_of-take items k 0 c.loop-item-test.true));
-      listed = c.set_item.ensures.listed;
-      used = c.set_item.ensures.used;
-      few = omega (arith, c.set_item.ensures.few, c.loop-item.invariant.few);
+      noted = c.set_item.ensures.noted;
       capacity = c.set_item.ensures.capacity ∙ c.loop-item.invariant.capacity;
     }

@@ -1,16 +1,14 @@
 -- The bits of so many items are set.
-use Rattle.std.proofs.Common.{◌≡◌, ℕ, ◌*◌, ◌/◌, ◌<◌, ◌≤◌, ◌==◌, length, take}
-use Rattle.std.specs.Prelude.{All, vec_capacity, vec_len}
+use Rattle.std.proofs.Common.{◌≡◌, ℕ, ◌/◌, ◌==◌, take}
+use Rattle.std.specs.Prelude.{vec_capacity}
 use Rattle.std.specs.List.{list_any}
-use Rattle.asc_depvec.specs.Bits.{AreListed, has_word}
+use Rattle.asc_depvec.specs.Bits.{AreNoted, has_word}
 use Rattle.asc_depvec.specs.Tracer.{places_of}
 use Rattle.asc_depvec.proofs.bitmap.set_items.Given as goal
 
 abbrev pub invariant-loop-item : goal.invariant-loop-item
 invariant-loop-item l = record {
   bits : (word : ℕ) → has_word l.blocks word ≡ list_any (λ place. place / 4 == word) (places_of (take l.item-index l.fn.items));
-  listed : AreListed l.blocks l.used.items;
-  used : All (λ block. block < length l.blocks) l.used.items;
-  few : vec_len l.used ≤ 2 * l.item-index;
+  noted : AreNoted l.blocks l.groups l.used.items;
   capacity : vec_capacity l.used ≡ vec_capacity l.fn.used;
 }

@@ -1,0 +1,46 @@
+use Rattle.std.proofs.Common.{◌≡◌, ℕ, ◌==◌, List, [], ◌∷◌, not, cond, length-append, ◌*◌, ◌/◌, ◌%◌, ◌^◌, ◌<◌, ◌∙◌, length, bit_or, slice_index, slice_set, sym, ap, subst, arith}
+use Rattle.std.specs.Prelude.{All}
+use Rattle.std.specs.Global.{Vec}
+use Rattle.std.proofs.lemmas.List.{length-set}
+use Rattle.std.proofs.lemmas.List.Elements.{All-push}
+use Rattle.asc_depvec.proofs.Bits.{bit_power, cond-most, has-added, live-less, live-set, or-some}
+use Rattle.asc_depvec.proofs.bitmap.set_block.Goals as goal
+use Rattle.asc_depvec.proofs.bitmap.set_block.Goals.{then-before-eq0, else-before-eq0}
+
+pub returns-clause-bits : goal.returns-clause-bits
+returns-clause-bits c = λ other. has-added c.args.groups.now c.args.block (1 * 2 ^ (c.args.block % 64) % 2 ^ 64) other c.requires.within (bit_power (c.args.block % 64) (omega arith))
+
+pub returns-clause-used : goal.returns-clause-used
+returns-clause-used c =
+    let groups = c.args.groups.now in
+    let new = slice_set groups (c.args.block / 64) (bit_or (slice_index groups (c.args.block / 64)) (1 * 2 ^ (c.args.block % 64) % 2 ^ 64)) in
+    let size : length new ≡ length groups = length-set groups (c.args.block / 64) (bit_or (slice_index groups (c.args.block / 64)) (1 * 2 ^ (c.args.block % 64) % 2 ^ 64)) in
+    subst (λ (n : ℕ). All (λ block. block < n) c.if-before-eq0.used.items) (sym size)
+    (elim c.if-before-eq0.branch [
+      | then-before-eq0 w ↦
+          subst (All (λ block. block < length groups)) (sym (ap (λ v. v.items) w.used-is ∙ w.push_reserved.ensures.items))
+          (All-push (λ block. block < length groups) c.args.used.now.items (c.args.block / 64) c.requires.used c.requires.within)
+      | else-before-eq0 w ↦ subst (All (λ block. block < length groups)) (sym (ap (λ v. v.items) w.used-is)) c.requires.used
+    ])
+
+pub push_reserved-requires : goal.push_reserved-requires
+push_reserved-requires c =
+    omega (arith, live-less c.args.groups.now (c.args.block / 64) c.requires.within c.if-before-eq0.true, c.requires.few, c.requires.room, c.args.used.now.ok.0)
+
+pub returns-clause-few : goal.returns-clause-few
+returns-clause-few c =
+    let groups = c.args.groups.now in
+    let group = c.args.block / 64 in
+    let bit = c.args.block % 64 in
+    let power = 1 * 2 ^ bit % 2 ^ 64 in
+    let value = bit_or (slice_index groups group) power in
+    let set = live-set groups group value c.requires.within (or-some (slice_index groups group) power bit (bit_power bit (omega arith))) in
+    elim c.if-before-eq0.branch [
+      | then-before-eq0 w ↦
+          let longer = ap (λ (v : Vec ℕ). length v.items) w.used-is ∙ ap (λ (list : List ℕ). length list) w.push_reserved.ensures.items ∙ length-append c.args.used.now.items (group ∷ []) in
+          let free = ap (λ (k : ℕ). cond {A = ℕ} (not (k == 0)) 1 0) w.if-before-eq0.true in
+          omega (arith, set, longer, free, c.requires.few)
+      | else-before-eq0 w ↦
+          let same = ap (λ (v : Vec ℕ). length v.items) w.used-is in
+          omega (arith, set, same, cond-most (not (slice_index groups group == 0)), c.requires.few)
+    ]
