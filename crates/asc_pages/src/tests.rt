@@ -7,12 +7,8 @@ static LENGTHS: [usize; 5] = [137, 1024, 1025, 33_000, 100_001];
 #[test]
 fn pages_of_bytes(rt: HostRuntime) {
     for len in LENGTHS {
-        let Some(pages) = pages_of(rt.alloc(), len) else {
-            return;
-        };
-        let Ok(shared) = pages.share() else {
-            return;
-        };
+        let pages = pages_of(rt.alloc(), len).expect(&rt, "memory");
+        let shared = pages.share().expect(&rt, "memory");
         for pages in [pages, shared] {
             assert_eq!(rt;
                 pages.page((len - 1) / PAGE).get((len - 1) % PAGE),
@@ -39,9 +35,7 @@ fn pages_of(alloc: Global, len: usize) -> Option<Pages> {
 
 #[test]
 fn no_pages(rt: HostRuntime) {
-    let Ok(pages) = Pages::none(rt.alloc()) else {
-        return;
-    };
+    let pages = Pages::none(rt.alloc()).expect(&rt, "memory");
     assert!(rt; pages.page(0).is_empty());
     assert_eq!(rt; pages.word(4096), 0);
 }

@@ -110,9 +110,7 @@ static RUNS: [(u32, u32, u32); 3] = [(65_536, 1, 24), (65_536, 2, 24), (4_259_84
 fn snapshots(rt: HostRuntime) {
     for (size, number, rounds) in RUNS {
         let shape = Shape::two(0x10000, size).expect(&rt, "a shape");
-        let Some(mut run) = run_of(rt.alloc(), shape, number) else {
-            return;
-        };
+        let mut run = run_of(rt.alloc(), shape, number).expect(&rt, "memory");
         for round in 0..rounds {
             run.step(rt.alloc());
             assert!(rt; run.is_as_plain(), "size {size}, round {round}");
