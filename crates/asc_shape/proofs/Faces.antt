@@ -82,7 +82,7 @@ pub untouched_count-cons : (marks : Marks) (place : ℕ) (places : List ℕ) →
 untouched_count-cons marks place places = untouched_count-append marks (place ∷ []) places
 
 -- a count rises with its test
-count_by-le-count_by : (p q : ℕ → Bool) → ((x : ℕ) → p x ≡ true → q x ≡ true) → (xs : List ℕ) → count_by p xs ≤ count_by q xs
+pub count_by-le-count_by : (p q : ℕ → Bool) → ((x : ℕ) → p x ≡ true → q x ≡ true) → (xs : List ℕ) → count_by p xs ≤ count_by q xs
 count_by-le-count_by p q h [] = omega arith
 count_by-le-count_by p q h (x ∷ xs) =
     let rest = count_by-le-count_by p q h xs in

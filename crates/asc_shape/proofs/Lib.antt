@@ -1,4 +1,5 @@
 pub mod Faces
+pub mod Settled
 pub mod States
 pub mod Made
 pub mod Pages

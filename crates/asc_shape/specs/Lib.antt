@@ -1,6 +1,7 @@
 pub mod Shape
 pub mod State
 pub mod Face
+pub mod Settled
 pub mod Frozen
 pub mod Inside
 pub mod Stride

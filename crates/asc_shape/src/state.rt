@@ -366,6 +366,12 @@ impl Words for State {
         let _ = State::shape(self);
         self.set_word(place, word);
     }
+
+    #[inline]
+    fn peek_pc(&self) -> u32 {
+        let _ = State::shape(self);
+        self.word(0)
+    }
 }
 
 // Marks the pages of the word at a place. The front needs no marks.

@@ -1,7 +1,8 @@
-ghost use Rattle.std.specs.Prelude.{◌≡◌, ◌+◌, ◌≤◌, length};
+ghost use Rattle.std.specs.Prelude.{◌≡◌, ◌+◌, ◌%◌, ◌≤◌, true, length};
 ghost use Rattle.asc_model.specs.Number.{bytes_of, word_at};
 ghost use Rattle.asc_model.specs.Places.{places_from, cells};
-ghost use Rattle.asc_shape.specs.Face.{face_after_reads, face_after_puts, room_of};
+ghost use Rattle.asc_shape.specs.Face.{face_after_reads, face_after_puts, room_of, untouched_count};
+ghost use Rattle.asc_shape.specs.Settled.{IsReadWord, IsSettled, unwritten_count};
 
 use crate::Bytes;
 
@@ -27,6 +28,52 @@ pub trait Words: Bytes {
         ensures face { Self.face self.new ≡ face_after_puts (Self.face self.old) (cells place (bytes_of 4 word)) }
     {
         put_by_bytes(self, place, word);
+    }
+
+    /// The pc, which this does not touch.
+    fn peek_pc(&self) -> u32
+        ensures { result ≡ word_at (Self.face self.now).state.bytes 0 };
+
+    /// The word in four bytes that are touched, as `get_word` reads it. No status changes by it.
+    fn get_touched(&mut self, place: u32) -> u32
+        requires place { place + 4 ≤ length (Self.face self.old).state.bytes }
+        requires room { 4 ≤ room_of (Self.face self.old).marks }
+        requires touched { untouched_count (Self.face self.old).marks (places_from place 4) ≡ 0 }
+        ensures word { result ≡ word_at (Self.face self.old).state.bytes place }
+        ensures face { Self.face self.new ≡ face_after_reads (Self.face self.old) (places_from place 4) }
+    {
+        self.get_word(place)
+    }
+
+    /// Puts a word in four bytes that are written, as `put_word` does. No status changes by it.
+    fn put_written(&mut self, place: u32, word: u32)
+        requires place { place + 4 ≤ length (Self.face self.old).state.bytes }
+        requires room { 4 ≤ room_of (Self.face self.old).marks }
+        requires written { unwritten_count (Self.face self.old).marks (places_from place 4) ≡ 0 }
+        ensures face { Self.face self.new ≡ face_after_puts (Self.face self.old) (cells place (bytes_of 4 word)) }
+    {
+        self.put_word(place, word);
+    }
+
+    /// Whether the word of code at a place is known to be settled. A type that remembers none says that none is.
+    fn is_settled(&self, place: u32) -> bool
+        requires place { place + 4 ≤ length (Self.face self.now).state.bytes }
+        requires aligned { place % 4 ≡ 0 }
+        ensures { result ≡ true → IsSettled (Self.face self.now) place }
+    {
+        let _ = place;
+        false
+    }
+
+    /// Lets the word of code at a place be remembered as settled, where its bytes were only read. A type that remembers
+    /// none does nothing.
+    fn settle(&mut self, place: u32)
+        requires place { place + 4 ≤ length (Self.face self.old).state.bytes }
+        requires aligned { place % 4 ≡ 0 }
+        requires settled { IsReadWord (Self.face self.old).marks place → IsSettled (Self.face self.old) place }
+        ensures { Self.face self.new ≡ Self.face self.old }
+    {
+        let _ = place;
     }
 }
 
