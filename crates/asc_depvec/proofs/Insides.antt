@@ -3,7 +3,7 @@ use Rattle.std.proofs.Common.{◌≡◌, ℕ, zero, suc, ◌+◌, ◌-◌, ◌*�
 use Rattle.std.specs.Prelude.{All, vec_capacity, vec_len}
 use Rattle.std.specs.Vec.{with_items}
 use Rattle.std.specs.Global.{Vec}
-use Rattle.std.proofs.lemmas.List.{get_or-map, get_or_read, length-map, length-replicate, length-set, map-set, with_items_is, take-append-drop}
+use Rattle.std.proofs.lemmas.List.{get_or-map, get_or_read, length-map, length-replicate, length-set, map-set, set-get_or, with_items_is, take-append-drop}
 use Rattle.std.proofs.lemmas.Bool.{false≢true, lt-ltb}
 use Rattle.std.proofs.lemmas.List.Elements.{All-cons, All-head, All-nil, All-tail}
 use Rattle.asc_model.specs.declared.status.Status.{Status}
@@ -16,22 +16,25 @@ use Rattle.asc_model.specs.State.{State, IsState}
 use Rattle.asc_model.specs.Places.{bytes_after, cells, places_from}
 use Rattle.asc_model.proofs.Numbers.{length-bytes_after}
 use Rattle.asc_model.proofs.Shapes.{is_same_shape-same}
-use Rattle.asc_shape.specs.Face.{Told, FitPlaces, status_at, is_untouched, status_after_write, face_after_read, face_after_put, face_after_reads, face_after_puts, room_of, untouched_count}
+use Rattle.asc_shape.specs.Face.{Face, Told, FitPlaces, status_at, is_untouched, status_after_write, face_after_read, face_after_put, face_after_reads, face_after_puts, room_of, untouched_count}
+use Rattle.asc_shape.specs.Settled.{IsReadWord, IsSettled, is_only_read, unwritten_count}
 use Rattle.asc_shape.specs.State.{zero_state}
 use Rattle.asc_shape.proofs.Guesses.{bytes_at, bytes_of-number_at}
 use Rattle.asc_shape.proofs.Strides.{word_same}
 use Rattle.asc_depvec.specs.declared.tracer.Tracer.TheInside.{Inside}
 use Rattle.asc_depvec.specs.Touched.{Listing}
 use Rattle.asc_depvec.specs.Tracer.{HaveStatus, IsTracing, Tracing, cap_of, face_of, fresh, most_cap, places_of, start_of_face, undone, untouch}
-use Rattle.asc_depvec.specs.Inside.{AreWritten, IsTracer, Keeps, given, is_kept, mixed, noted, status_of, statuses_of, tracing_of, with_statuses, without}
-use Rattle.asc_depvec.proofs.Fresh.{Fits-fresh, statuses-replicate, untouch-all}
+use Rattle.asc_depvec.specs.Inside.{AreWritten, IsTracer, Keeps, TellAmong, TellNoMore, TellSettled, given, is_kept, marked, mixed, noted, settled_mark, status_of, statuses_of, tracing_of, with_statuses, without}
+use Rattle.asc_depvec.proofs.Fresh.{Fits-fresh, status_at-replicate, statuses-replicate, untouch-all}
 use Rattle.asc_depvec.proofs.Items.{All-behind, item_of_place, item_of_word, places_of-more}
 use Rattle.asc_depvec.proofs.Kept.{kept-back, kept-fresh, kept-puts, kept-row, kept-touch, length-given, unkept-after}
 use Rattle.asc_depvec.proofs.Marking.{Fits, FitPlaces-touch, touched-after_write}
 use Rattle.asc_depvec.proofs.Mixed.{AreBytes-mixed, bytes_at-mixed, length-mixed, length-noted, mixed-at, mixed-fresh, mixed-given, mixed-puts, mixed-row, mixed-touch, mixed-without, noted-append, noted-drop, noted-row, noted-take, untouch-noted}
 use Rattle.asc_depvec.proofs.Rows.{Fits-new, Fits-read, put-same, puts_new, puts_read, reads_new, told}
 use Rattle.asc_depvec.proofs.Undoing.{FitPlaces-untouch, touched-within}
-use Rattle.asc_depvec.proofs.Words.{count-list, four_touched, other_mark, puts_written, read_touched, reads_touched, untouched_count-one}
+use Rattle.asc_shape.proofs.Settled.{have_statuses, read_touched, reads_touched, untouched_count-one}
+use Rattle.asc_depvec.proofs.Settling.{less-join, less-marked, less-same, read_word_of, tell_after_puts, tell_after_reads, tell_fresh, tell_more, tell_none, written_all}
+use Rattle.asc_depvec.proofs.Words.{count-list, four_touched, other_mark, puts_written}
 
 -- ---- what holds of the tracer that fields stand for
 
@@ -154,8 +157,8 @@ pub record Leaves (t : Inside) (bytes marks : Vec ℕ) (touched : Listing) (afte
 
 -- they stand for a tracer again
 pub IsTracer-later : (t : Inside) (bytes marks : Vec ℕ) (touched : Listing) (after : List Status) (list : List ℕ) → IsTracer t → Leaves t bytes marks touched after list
-    → IsTracer (later t bytes marks touched)
-IsTracer-later t bytes marks touched after list inv did = record {
+    → TellSettled (face_of (tracing_of (later t bytes marks touched))) marks.items → IsTracer (later t bytes marks touched)
+IsTracer-later t bytes marks touched after list inv did settled = record {
   cap = inv.cap;
   own = inv.own;
   start = inv.start;
@@ -165,6 +168,7 @@ IsTracer-later t bytes marks touched after list inv did = record {
   places = subst (λ (places : List ℕ). Fits (length_of t.shape) (statuses_of marks.items) (noted t.start.bytes places)) (sym did.listed)
       (subst (λ (statuses : List Status). Fits (length_of t.shape) statuses (noted t.start.bytes list)) (sym did.statuses) did.fits);
   kept = subst (Keeps t.start.bytes bytes.items) (sym did.statuses) did.kept;
+  settled = settled;
   blocks = inv.blocks;
   groups = inv.groups;
   few_blocks = inv.few_blocks;
@@ -183,9 +187,31 @@ face_later t bytes marks touched after list did =
     ap (λ (statuses : List Status). told (record { shape = t.shape; bytes = mixed t.start.bytes bytes.items statuses }) cap statuses (noted t.start.bytes (places_of touched.items))) did.statuses
     ∙ ap (λ (places : List ℕ). told (record { shape = t.shape; bytes = mixed t.start.bytes bytes.items after }) cap after (noted t.start.bytes places)) did.listed
 
+-- settled words stay so through reads
+pub settled-read : (t : Inside) (bytes marks : Vec ℕ) (touched : Listing) (list : List ℕ) → IsTracer t → TellNoMore t.marks.items marks.items
+    → face_of (tracing_of (later t bytes marks touched)) ≡ face_after_reads (face_of (tracing_of t)) list → TellSettled (face_of (tracing_of (later t bytes marks touched))) marks.items
+settled-read t bytes marks touched list inv less is = tell_after_reads (face_of (tracing_of t)) _ t.marks.items marks.items list inv.settled less is
+
+-- and those that are left so through puts
+pub settled-put : (t : Inside) (bytes marks : Vec ℕ) (touched : Listing) (list : List (ℕ × ℕ)) → IsTracer t → TellNoMore t.marks.items marks.items
+    → face_of (tracing_of (later t bytes marks touched)) ≡ face_after_puts (face_of (tracing_of t)) list → TellSettled (face_of (tracing_of (later t bytes marks touched))) marks.items
+settled-put t bytes marks touched list inv less is =
+    tell_after_puts (face_of (tracing_of t)) _ t.marks.items marks.items list (have_statuses (length (tracing_of t).state.bytes) (face_of (tracing_of t)).marks (Fits-view t (tracing_of t) refl inv))
+    (λ place have. read_word_of (cap_of (tracing_of (later t bytes marks touched))) marks.items (tracing_of (later t bytes marks touched)).touched place have) inv.settled less is
+
 -- what was put into a list
 pub items_is : (v : Vec ℕ) (old new list : List ℕ) → old ≡ v.items → length new ≡ length old → new ≡ list → (with_items v new).items ≡ list
 items_is v old new list is size e = with_items_is v new (size ∙ ap (λ (l : List ℕ). length l) is ∙ sym v.ok.0) ∙ e
+
+-- a word of places that were marked
+pub marked_is : (t : Inside) (changed new : List ℕ) (place mark : ℕ) → changed ≡ t.marks.items → length new ≡ length changed → new ≡ marked changed place mark
+    → (with_items t.marks new).items ≡ marked t.marks.items place mark
+marked_is t changed new place mark is size put = items_is t.marks changed new (marked t.marks.items place mark) is size (put ∙ ap (λ (list : List ℕ). marked list place mark) is)
+
+pub less-word : (t : Inside) (changed new : List ℕ) (place mark : ℕ) → changed ≡ t.marks.items → length new ≡ length changed → new ≡ marked changed place mark → (mark ≡ settled_mark → ⊥)
+    → TellNoMore t.marks.items (with_items t.marks new).items
+less-word t changed new place mark is size put other =
+    less-join t.marks.items (marked t.marks.items place mark) _ (less-marked t.marks.items place mark other) (less-same (marked t.marks.items place mark) _ (marked_is t changed new place mark is size put))
 
 length-places_from : (place n : ℕ) → length (places_from place n) ≡ n
 length-places_from place zero = refl
@@ -559,6 +585,37 @@ Leaves-word_written t bytes held place word inv were is_held size put = record {
       (kept-puts t.start.bytes t.bytes.items (statuses_of t.marks.items) (cells place (bytes_of 4 word)) were inv.kept);
 }
 
+-- ---- settled words forgotten
+
+forgotten_are : (t : Inside) (changed new : List ℕ) → changed ≡ t.marks.items → length new ≡ length changed → statuses_of new ≡ statuses_of changed
+    → statuses_of (with_items t.marks new).items ≡ statuses_of t.marks.items
+forgotten_are t changed new is size same = ap statuses_of (items_is t.marks changed new new is size refl) ∙ same ∙ ap statuses_of is
+
+-- other marks with the statuses that were, none of them that of a settled word
+pub forgotten : (t : Inside) (changed new : List ℕ) → IsTracer t → changed ≡ t.marks.items → length new ≡ length changed → statuses_of new ≡ statuses_of changed → TellAmong new []
+    → IsTracer (later t t.bytes (with_items t.marks new) t.touched)
+forgotten t changed new inv is size same none =
+    IsTracer-later t t.bytes (with_items t.marks new) t.touched (statuses_of t.marks.items) (places_of t.touched.items) inv
+    (record { size = refl; statuses = forgotten_are t changed new is size same; listed = refl; room = inv.room; cap = refl; fits = inv.places; kept = inv.kept })
+    (tell_none _ new (with_items t.marks new).items none (less-same new (with_items t.marks new).items (items_is t.marks changed new new is size refl)))
+
+pub forgotten-none : (t : Inside) (changed new : List ℕ) → changed ≡ t.marks.items → length new ≡ length changed → TellAmong new [] → TellAmong (with_items t.marks new).items []
+forgotten-none t changed new is size none = subst (λ (list : List ℕ). TellAmong list []) (sym (items_is t.marks changed new new is size refl)) none
+
+-- and none of the marks after touches are taken back
+pub forgotten-back : (t : Inside) (f : Face) (changed new : List ℕ) → changed ≡ t.marks.items → length new ≡ length changed → TellAmong t.marks.items [] → TellNoMore changed new
+    → TellSettled f (with_items t.marks new).items
+forgotten-back t f changed new is size none less =
+    tell_none f changed (with_items t.marks new).items (subst (λ (list : List ℕ). TellAmong list []) (sym is) none)
+    (less-join changed new (with_items t.marks new).items less (less-same new (with_items t.marks new).items (items_is t.marks changed new new is size refl)))
+
+pub forgotten-view : (t : Inside) (now : Tracing) (changed new : List ℕ) → tracing_of t ≡ now → changed ≡ t.marks.items → length new ≡ length changed → statuses_of new ≡ statuses_of changed
+    → tracing_of (later t t.bytes (with_items t.marks new) t.touched) ≡ now
+forgotten-view t now changed new view is size same =
+    let tracing : List Status → Tracing =
+    λ list. record { shape = t.shape; cap = t.cap; state = record { shape = t.shape; bytes = mixed t.start.bytes t.bytes.items list }; statuses = list; touched = noted t.start.bytes (places_of t.touched.items) } in
+    ap tracing (forgotten_are t changed new is size same) ∙ view
+
 -- ---- nothing touched any more
 
 -- and so places of the marks that the code changes
@@ -640,6 +697,7 @@ IsTracer-fresh t start bytes held marks touched word inv good own read is_held s
           (Fits-fresh (length_of t.shape) (statuses_of marks.items) all);
       kept = subst (λ (list : List ℕ). Keeps start.bytes list (statuses_of marks.items)) (sym is)
           (kept-fresh (length_of t.shape) start.bytes t.bytes.items (bytes_of 4 word) (statuses_of marks.items) (omega (arith, inv.size, pc_within t.shape)) (pc_bytes start word good read) all);
+      settled = tell_fresh _ marks.items (λ k. ap (λ (list : List Status). status_at list k) all ∙ status_at-replicate (length_of t.shape) k);
       blocks = inv.blocks;
       groups = inv.groups;
       few_blocks = inv.few_blocks;
@@ -667,6 +725,7 @@ IsTracer-new shape cap start bytes marks touched blocks groups used most good is
       places = subst (λ (list : List ℕ). Fits (length_of shape) (statuses_of marks.items) (noted start.bytes (places_of list))) (sym none)
           (Fits-fresh (length_of shape) (statuses_of marks.items) all);
       kept = λ place e. ap (λ (list : List ℕ). slice_index list place) (zeros ∙ sym (ap (λ (s : State). s.bytes) is));
+      settled = tell_fresh _ marks.items (λ k. ap (λ (list : List Status). status_at list k) all ∙ status_at-replicate (length_of shape) k);
       blocks = omega (arith, ap (λ (l : List ℕ). length l) clear, length-replicate {A = ℕ} (64 * (length_of shape / 16384 + 1)) 0);
       groups = omega (arith, ap (λ (l : List ℕ). length l) clear, length-replicate {A = ℕ} (64 * (length_of shape / 16384 + 1)) 0, ap (λ (l : List ℕ). length l) clear_groups, length-replicate {A = ℕ} (length_of shape / 16384 + 1) 0);
       few_blocks = omega (arith, ap (λ (l : List ℕ). length l) clear, length-replicate {A = ℕ} (64 * (length_of shape / 16384 + 1)) 0, low_shape shape (subst IsShape (ap (λ (s : State). s.shape) is) good.shape));
@@ -770,3 +829,58 @@ read_told t now bytes place word is inv is_bytes all read =
     read ∙ ap (λ (list : List ℕ). word_at list place) is_bytes
     ∙ word_same t.bytes.items t.start.bytes place place (same place (omega arith) (omega arith)) (same (place + 1) (omega arith) (omega arith))
     (same (place + 2) (omega arith) (omega arith)) (same (place + 3) (omega arith) (omega arith))
+
+-- ---- settled words
+
+-- places that are told to be touched are so by their marks
+pub marks_touched : (t : Inside) (now : Tracing) (places : List ℕ) → tracing_of t ≡ now → untouched_count (face_of now).marks places ≡ 0
+    → untouched_count (Told 0 (statuses_of t.marks.items) []) places ≡ 0
+marks_touched t now places is none =
+    sym (count-list (cap_of (tracing_of t)) (statuses_of t.marks.items) (noted t.start.bytes (places_of t.touched.items)) places)
+    ∙ ap (λ (v : Tracing). untouched_count (face_of v).marks places) is ∙ none
+
+-- and places that are told to be written
+pub marks_written : (t : Inside) (now : Tracing) (places : List ℕ) → tracing_of t ≡ now → unwritten_count (face_of now).marks places ≡ 0 → AreWritten (statuses_of t.marks.items) places
+marks_written t now places is none =
+    written_all (cap_of (tracing_of t)) (statuses_of t.marks.items) (noted t.start.bytes (places_of t.touched.items)) places
+    (ap (λ (v : Tracing). unwritten_count (face_of v).marks places) is ∙ none)
+
+-- a status given to places that have it
+with_same : (n : ℕ) (statuses : List Status) (place : ℕ) (status : Status) → HaveStatus statuses status place n → with_statuses statuses place status n ≡ statuses
+with_same zero statuses place status all = refl
+with_same (suc n) statuses place status all =
+    let here : slice_set statuses place status ≡ statuses =
+    ap (slice_set statuses place) (sym (all place (omega arith) (omega arith))) ∙ set-get_or statuses place Untouched in
+    ap (λ (list : List Status). with_statuses list (place + 1) status n) here ∙ with_same n statuses (place + 1) status (λ k least most. all k (omega arith) (omega arith))
+
+settled_are : (t : Inside) (changed new : List ℕ) (place : ℕ) → HaveStatus (statuses_of t.marks.items) Read place 4 → changed ≡ t.marks.items → length new ≡ length changed
+    → statuses_of new ≡ with_statuses (statuses_of changed) place Read 4 → statuses_of (with_items t.marks new).items ≡ statuses_of t.marks.items
+settled_are t changed new place all is size same =
+    ap statuses_of (items_is t.marks changed new new is size refl) ∙ same ∙ ap (λ (list : List ℕ). with_statuses (statuses_of list) place Read 4) is
+    ∙ with_same 4 (statuses_of t.marks.items) place Read all
+
+-- a settled word more
+pub IsTracer-settled : (t : Inside) (now : Tracing) (changed new : List ℕ) (place : ℕ) → tracing_of t ≡ now → IsTracer t → place + 4 ≤ length now.state.bytes → place % 4 ≡ 0
+    → HaveStatus (statuses_of t.marks.items) Read place 4 → (IsReadWord (face_of now).marks place → IsSettled (face_of now) place)
+    → changed ≡ t.marks.items → length new ≡ length changed → new ≡ marked changed place settled_mark → statuses_of new ≡ with_statuses (statuses_of changed) place Read 4
+    → IsTracer (later t t.bytes (with_items t.marks new) t.touched)
+IsTracer-settled t now changed new place view inv within aligned all settled is size put same =
+    let after = with_items t.marks new in
+    let statuses = settled_are t changed new place all is size same in
+    let here : IsSettled (face_of (tracing_of t)) place = subst (λ (v : Tracing). IsSettled (face_of v) place) (sym view)
+    (settled (subst (λ (v : Tracing). IsReadWord (face_of v).marks place) view (λ k least most. ap is_only_read (all k least most)))) in
+    let tracing : List Status → Tracing =
+    λ list. record { shape = t.shape; cap = t.cap; state = record { shape = t.shape; bytes = mixed t.start.bytes t.bytes.items list }; statuses = list; touched = noted t.start.bytes (places_of t.touched.items) } in
+    IsTracer-later t t.bytes after t.touched (statuses_of t.marks.items) (places_of t.touched.items) inv
+    (record { size = refl; statuses = statuses; listed = refl; room = inv.room; cap = refl; fits = inv.places; kept = inv.kept })
+    (subst (λ (v : Tracing). TellSettled (face_of v) after.items) (ap tracing (sym statuses))
+    (subst (TellSettled (face_of (tracing_of t))) (sym (marked_is t changed new place settled_mark is size put))
+    (tell_more (face_of (tracing_of t)) t.marks.items place aligned here inv.settled)))
+
+pub settled-view : (t : Inside) (now : Tracing) (changed new : List ℕ) (place : ℕ) → tracing_of t ≡ now
+    → HaveStatus (statuses_of t.marks.items) Read place 4 → changed ≡ t.marks.items → length new ≡ length changed → statuses_of new ≡ with_statuses (statuses_of changed) place Read 4
+    → tracing_of (later t t.bytes (with_items t.marks new) t.touched) ≡ now
+settled-view t now changed new place view all is size same =
+    let tracing : List Status → Tracing =
+    λ list. record { shape = t.shape; cap = t.cap; state = record { shape = t.shape; bytes = mixed t.start.bytes t.bytes.items list }; statuses = list; touched = noted t.start.bytes (places_of t.touched.items) } in
+    ap tracing (settled_are t changed new place all is size same) ∙ view

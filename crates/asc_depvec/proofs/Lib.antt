@@ -12,4 +12,5 @@ pub mod Starts
 pub mod Dependencies
 pub mod Limits
 pub mod Words
+pub mod Settling
 pub mod Bits

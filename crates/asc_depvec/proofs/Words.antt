@@ -1,36 +1,22 @@
 -- Words whose places are all touched, of which a read changes nothing, and words whose places were all written, at which
 -- a put changes no mark.
-use Rattle.std.proofs.Common.{◌≡◌, ℕ, ◌+◌, ◌*◌, ◌^◌, ◌<◌, ◌≤◌, ◌==◌, Bool, true, false, List, [], ◌∷◌, ◌++◌, inl, inr, length, map, refl, sym, ap, subst, ◌∙◌, slice_index, slice_set, bit_and, arith, if◌then◌else◌}
+use Rattle.std.proofs.Common.{◌≡◌, ℕ, ◌+◌, ◌*◌, ◌%◌, ◌^◌, ◌<◌, ◌≤◌, ◌==◌, ◌||◌, Bool, true, false, List, [], ◌∷◌, ◌++◌, inl, inr, length, map, refl, sym, ap, subst, ◌∙◌, slice_index, slice_set, bit_and, arith, if◌then◌else◌}
 use Rattle.std.proofs.lemmas.Bool.{cases_eq, false≢true, ne_eqb}
 use Rattle.std.proofs.lemmas.List.{get_or-map, set-get_or}
 use Rattle.std.proofs.lemmas.List.Elements.{All-cons, All-head, All-nil, All-tail}
-use Rattle.std.proofs.lemmas.Nat.{and_block}
+use Rattle.std.proofs.lemmas.Nat.{and_block, and_mask}
 use Rattle.asc_model.specs.declared.status.Status.{Status}
 use Rattle.asc_model.specs.declared.status.Status.TheVariants.{Untouched, Read, Written, ReadWritten}
 use Rattle.asc_model.specs.Number.{AreBytes, word_at}
 use Rattle.asc_model.specs.State.{State}
 use Rattle.asc_model.specs.Places.{bytes_after, places_from}
 use Rattle.asc_model.proofs.Numbers.{number_at-suc}
-use Rattle.asc_shape.specs.Face.{Face, Marks, Untold, Told, status_at, is_untouched, status_after_read, status_after_write, marks_after, face_after_read, face_after_put, face_after_reads, face_after_puts, untouched_count}
+use Rattle.asc_shape.specs.Face.{Face, Told, status_at, is_untouched, status_after_write, face_after_put, face_after_puts, untouched_count}
 use Rattle.asc_shape.proofs.Faces.{untouched_count-cons}
+use Rattle.asc_shape.proofs.Settled.{place_touched, untouched_count-one}
 use Rattle.asc_depvec.specs.Tracer.{HaveStatus}
-use Rattle.asc_depvec.specs.Inside.{AreWritten, status_of, statuses_of}
+use Rattle.asc_depvec.specs.Inside.{AreWritten, HaveMark, settled_mark, status_of, statuses_of}
 use Rattle.asc_depvec.proofs.Rows.{told}
-use Rattle.asc_depvec.proofs.UndoneReads.{after_read_touched}
-
--- one place that is touched for the first time, or none
-pub untouched_count-one : (cap : ℕ) (statuses : List Status) (touched : List (ℕ × ℕ)) (place : ℕ) → untouched_count (Told cap statuses touched) (place ∷ []) ≡ (if is_untouched (status_at statuses place) then 1 else 0)
-unfolding untouched_count
-untouched_count-one cap statuses touched place = grind arith
-
--- a place that does not count as untouched is touched
-touched_by : (b : Bool) (count : ℕ) → count ≡ (if b then 1 else 0) → count ≡ 0 → b ≡ false
-touched_by true count e none = absurd (omega arith)
-touched_by false count e none = refl
-
-place_touched : (cap : ℕ) (statuses : List Status) (touched : List (ℕ × ℕ)) (place : ℕ) → untouched_count (Told cap statuses touched) (place ∷ []) ≡ 0
-    → is_untouched (status_at statuses place) ≡ false
-place_touched cap statuses touched place none = touched_by _ _ (untouched_count-one cap statuses touched place) none
 
 -- ---- the marks of a word, at once
 
@@ -52,7 +38,7 @@ masked a b c d m la lb lc ld lm none =
 
 -- a byte without bit 0 is not the mark of an untouched place
 not_untouched : (mark : ℕ) → bit_and mark 1 ≡ 0 → is_untouched (status_of mark) ≡ false
-not_untouched mark none = by_tests (mark == 3) (mark == 2) (mark == 4) (ne_eqb mark 3 (λ e. absurd (one≢zero (sym (ap (λ (n : ℕ). bit_and n 1) e) ∙ none))))
+not_untouched mark none = by_tests (mark == 3) (mark == 2 || mark == settled_mark) (mark == 4) (ne_eqb mark 3 (λ e. absurd (one≢zero (sym (ap (λ (n : ℕ). bit_and n 1) e) ∙ none))))
   where
     one≢zero : bit_and 3 1 ≡ 0 → ⊥
     one≢zero e = absurd (omega (arith, e))
@@ -65,7 +51,7 @@ not_untouched mark none = by_tests (mark == 3) (mark == 2) (mark == 4) (ne_eqb m
 
 -- a byte that is another than the mark of an untouched place
 pub other_mark : (mark : ℕ) → (mark ≡ 3 → ⊥) → is_untouched (status_of mark) ≡ false
-other_mark mark other = by_tests (mark == 3) (mark == 2) (mark == 4) (ne_eqb mark 3 other)
+other_mark mark other = by_tests (mark == 3) (mark == 2 || mark == settled_mark) (mark == 4) (ne_eqb mark 3 other)
   where
     by_tests : (a b c : Bool) → a ≡ false → is_untouched (if a then Untouched else (if b then Read else (if c then Written else ReadWritten))) ≡ false
     by_tests true b c e = absurd (false≢true (sym e))
@@ -76,8 +62,9 @@ other_mark mark other = by_tests (mark == 3) (mark == 2) (mark == 4) (ne_eqb mar
 -- a byte without bit 1 is the mark of a place that was written
 written_mark : (mark : ℕ) → bit_and mark 2 ≡ 0 → (status_after_write (status_of mark) ≡ status_of mark) × (is_untouched (status_of mark) ≡ false)
 written_mark mark none =
-    by_tests (mark == 3) (mark == 2) (mark == 4) (ne_eqb mark 3 (λ e. absurd (three (sym (ap (λ (n : ℕ). bit_and n 2) e) ∙ none))))
-    (ne_eqb mark 2 (λ e. absurd (two (sym (ap (λ (n : ℕ). bit_and n 2) e) ∙ none))))
+    by_tests (mark == 3) (mark == 2 || mark == settled_mark) (mark == 4) (ne_eqb mark 3 (λ e. absurd (three (sym (ap (λ (n : ℕ). bit_and n 2) e) ∙ none))))
+    (ap (λ (b : Bool). b || mark == settled_mark) (ne_eqb mark 2 (λ e. absurd (two (sym (ap (λ (n : ℕ). bit_and n 2) e) ∙ none))))
+    ∙ ne_eqb mark settled_mark (λ e. absurd (more (sym (ap (λ (n : ℕ). bit_and n 2) e) ∙ none))))
   where
     three : bit_and 3 2 ≡ 0 → ⊥
     three e = absurd (omega (arith, e))
@@ -85,35 +72,15 @@ written_mark mark none =
     two : bit_and 2 2 ≡ 0 → ⊥
     two e = absurd (omega (arith, e))
 
+    more : bit_and 130 2 ≡ 0 → ⊥
+    more e = absurd (omega (arith, e))
+
     by_tests : (a b c : Bool) → a ≡ false → b ≡ false
         → (let s = (if a then Untouched else (if b then Read else (if c then Written else ReadWritten))) in (status_after_write s ≡ s) × (is_untouched s ≡ false))
     by_tests true b c e f = absurd (false≢true (sym e))
     by_tests false true c e f = absurd (false≢true (sym f))
     by_tests false false true e f = (refl, refl)
     by_tests false false false e f = (refl, refl)
-
--- a read of a touched place changes no mark
-marks_read : (marks : Marks) (place byte : ℕ) → untouched_count marks (place ∷ []) ≡ 0 → marks_after status_after_read marks place byte ≡ marks
-marks_read Untold place byte none = refl
-marks_read (Told cap statuses touched) place byte none =
-    let known = place_touched cap statuses touched place none in
-    ap (λ (b : Bool). Told cap (slice_set statuses place (status_after_read (status_at statuses place))) (if b then touched ++ (place, byte) ∷ [] else touched)) known
-    ∙ ap (λ (s : Status). Told cap (slice_set statuses place s) touched) (after_read_touched (status_at statuses place) known)
-    ∙ ap (λ (list : List Status). Told cap list touched) (set-get_or statuses place Untouched)
-
--- nor anything else
-pub read_touched : (f : Face) (place : ℕ) → untouched_count f.marks (place ∷ []) ≡ 0 → face_after_read f place ≡ f
-unfolding face_after_read
-read_touched f place none =
-    ap (λ (m : Marks). let g : Face = record { state = f.state; marks = m } in g) (marks_read f.marks place (slice_index f.state.bytes place) none)
-
--- reads of touched places change nothing
-pub reads_touched : (f : Face) (places : List ℕ) → untouched_count f.marks places ≡ 0 → face_after_reads f places ≡ f
-unfolding face_after_reads
-reads_touched f [] none = refl
-reads_touched f (place ∷ places) none =
-    let parts = untouched_count-cons f.marks place places in
-    ap (λ (g : Face). face_after_reads g places) (read_touched f place (omega arith)) ∙ reads_touched f places (omega arith)
 
 -- four places of which none counts as untouched
 pub four_touched : (statuses : List Status) (place : ℕ) → untouched_count (Told 0 statuses []) (places_from place 4) ≡ 0
@@ -165,7 +132,7 @@ puts_written state cap statuses touched (cell ∷ list) were =
 
 -- ---- what a mask of the marks of a word tells
 
-statuses_at : (marks : List ℕ) (place : ℕ) → place < length marks → status_at (statuses_of marks) place ≡ status_of (slice_index marks place)
+pub statuses_at : (marks : List ℕ) (place : ℕ) → place < length marks → status_at (statuses_of marks) place ≡ status_of (slice_index marks place)
 statuses_at marks place within = get_or-map status_of marks place 0 Untouched within
 
 -- a word by its bytes
@@ -238,10 +205,71 @@ one_of_four bytes place k byte least most e0 e1 e2 e3 = elim (cases_eq k place) 
   ]
 ]
 
-pub status_of_word : (marks : List ℕ) (place mark : ℕ) → AreBytes marks → mark < 2 ^ 8 → place + 4 ≤ length marks
-    → word_at marks place ≡ mark + mark * 256 + mark * 65536 + mark * 16777216 → HaveStatus (statuses_of marks) (status_of mark) place 4
-status_of_word marks place mark bytes byte within is =
+pub mark_of_word : (marks : List ℕ) (place mark : ℕ) → AreBytes marks → mark < 2 ^ 8 → place + 4 ≤ length marks
+    → word_at marks place ≡ mark + mark * 256 + mark * 65536 + mark * 16777216 → HaveMark marks mark place
+mark_of_word marks place mark bytes byte within is =
     let each = four_same mark (slice_index marks place) (slice_index marks (place + 1)) (slice_index marks (place + 1 + 1)) (slice_index marks (place + 1 + 1 + 1)) byte
     (bytes place) (bytes (place + 1)) (bytes (place + 1 + 1)) (bytes (place + 1 + 1 + 1)) (sym (word_at-bytes marks place) ∙ is) in
+    λ k least most. one_of_four marks place k mark least most each.0 each.1.0 each.1.1.0 each.1.1.1
+
+pub status_of_word : (marks : List ℕ) (place mark : ℕ) → place + 4 ≤ length marks → HaveMark marks mark place → HaveStatus (statuses_of marks) (status_of mark) place 4
+status_of_word marks place mark within have = λ k least most. statuses_at marks k (omega arith) ∙ ap status_of (have k least most)
+
+-- ---- a word that was only read
+
+-- what a mask leaves of four bytes it leaves of each
+masked_word : (a b c d m : ℕ) → a < 2 ^ 8 → b < 2 ^ 8 → c < 2 ^ 8 → d < 2 ^ 8 → m < 2 ^ 8
+    → bit_and (a + 2 ^ 8 * (b + 2 ^ 8 * (c + 2 ^ 8 * (d + 2 ^ 8 * 0)))) (m + 2 ^ 8 * (m + 2 ^ 8 * (m + 2 ^ 8 * (m + 2 ^ 8 * 0))))
+    ≡ bit_and a m + 2 ^ 8 * (bit_and b m + 2 ^ 8 * (bit_and c m + 2 ^ 8 * bit_and d m))
+masked_word a b c d m la lb lc ld lm =
+    let split : (x y n : ℕ) → x < 2 ^ 8 → bit_and (x + 2 ^ 8 * y) (m + 2 ^ 8 * n) ≡ bit_and y n * 2 ^ 8 + bit_and x m =
+    λ x y n l. ap (λ (k : ℕ). bit_and k (m + 2 ^ 8 * n)) (swap x y) ∙ ap (bit_and (y * 2 ^ 8 + x)) (swap m n) ∙ and_block 8 y n x m l lm in
+    let first = split a (b + 2 ^ 8 * (c + 2 ^ 8 * (d + 2 ^ 8 * 0))) (m + 2 ^ 8 * (m + 2 ^ 8 * (m + 2 ^ 8 * 0))) la in
+    let second = split b (c + 2 ^ 8 * (d + 2 ^ 8 * 0)) (m + 2 ^ 8 * (m + 2 ^ 8 * 0)) lb in
+    let third = split c (d + 2 ^ 8 * 0) (m + 2 ^ 8 * 0) lc in
+    let fourth = split d 0 0 ld in
+    let none : bit_and 0 0 ≡ 0 = refl in
+    omega (arith, first, second, third, fourth, none)
+  where
+    swap : (x y : ℕ) → x + 2 ^ 8 * y ≡ y * 2 ^ 8 + x
+    swap x y = omega arith
+
+-- without bit 7 both marks of a place that was only read are one
+read_mark : (mark : ℕ) → mark < 2 ^ 8 → mark % 128 ≡ 2 → status_of mark ≡ Read
+read_mark mark byte is = elim (cases_eq mark 2) [
+  | inl same ↦ ap status_of same
+  | inr other ↦ let settled : mark ≡ 130 = omega arith in ap status_of settled
+]
+
+pub read_of_word : (marks : List ℕ) (place : ℕ) → AreBytes marks → place + 4 ≤ length marks → bit_and (word_at marks place) 2139062143 ≡ 33686018 → HaveStatus (statuses_of marks) Read place 4
+read_of_word marks place bytes within is =
+    let mask = 127 + 2 ^ 8 * (127 + 2 ^ 8 * (127 + 2 ^ 8 * (127 + 2 ^ 8 * 0))) in
+    let a = slice_index marks place in
+    let b = slice_index marks (place + 1) in
+    let c = slice_index marks (place + 1 + 1) in
+    let d = slice_index marks (place + 1 + 1 + 1) in
+    let low : (n : ℕ) → bit_and n 127 ≡ n % 128 = λ n. and_mask n 7 in
+    let whole : bit_and a 127 + 2 ^ 8 * (bit_and b 127 + 2 ^ 8 * (bit_and c 127 + 2 ^ 8 * bit_and d 127)) ≡ 33686018 =
+    sym (masked_word a b c d 127 (bytes place) (bytes (place + 1)) (bytes (place + 1 + 1)) (bytes (place + 1 + 1 + 1)) (omega arith))
+    ∙ sym (ap (λ (w : ℕ). bit_and w mask) (word_at-bytes marks place)) ∙ is in
+    let each = four_low a b c d (omega (arith, whole, low a, low b, low c, low d)) in
     λ k least most. statuses_at marks k (omega arith)
-    ∙ ap status_of (one_of_four marks place k mark least most each.0 each.1.0 each.1.1.0 each.1.1.1)
+    ∙ read_mark (slice_index marks k) (bytes k) (one_low k least most each)
+  where
+    four_low : (a b c d : ℕ) → a % 128 + 256 * (b % 128 + 256 * (c % 128 + 256 * (d % 128))) ≡ 33686018
+        → (a % 128 ≡ 2) × ((b % 128 ≡ 2) × ((c % 128 ≡ 2) × (d % 128 ≡ 2)))
+    four_low a b c d e = (omega (arith, e), (omega (arith, e), (omega (arith, e), omega (arith, e))))
+
+    one_low : (k : ℕ) → place ≤ k → k < place + 4
+        → (slice_index marks place % 128 ≡ 2) × ((slice_index marks (place + 1) % 128 ≡ 2) × ((slice_index marks (place + 1 + 1) % 128 ≡ 2) × (slice_index marks (place + 1 + 1 + 1) % 128 ≡ 2)))
+        → slice_index marks k % 128 ≡ 2
+    one_low k least most each = elim (cases_eq k place) [
+      | inl same ↦ ap (λ n. slice_index marks n % 128) same ∙ each.0
+      | inr not_0 ↦ elim (cases_eq k (place + 1)) [
+        | inl same ↦ ap (λ n. slice_index marks n % 128) same ∙ each.1.0
+        | inr not_1 ↦ elim (cases_eq k (place + 1 + 1)) [
+          | inl same ↦ ap (λ n. slice_index marks n % 128) same ∙ each.1.1.0
+          | inr not_2 ↦ let same : k ≡ place + 1 + 1 + 1 = omega arith in ap (λ n. slice_index marks n % 128) same ∙ each.1.1.1
+        ]
+      ]
+    ]

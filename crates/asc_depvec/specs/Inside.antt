@@ -1,17 +1,23 @@
 -- How a tracer's fields stand for a tracer, and words of private contracts.
-use Rattle.std.specs.Prelude.{◌≡◌, ℕ, zero, suc, ◌+◌, ◌*◌, ◌^◌, ◌≤◌, Bool, true, false, ◌==◌, nat_lt, List, [], ◌∷◌, length, map, slice_index, slice_set, All, vec_capacity, if◌then◌else◌}
+use Rattle.std.specs.Prelude.{◌≡◌, ℕ, zero, suc, ◌+◌, ◌*◌, ◌%◌, ◌^◌, ◌<◌, ◌≤◌, Bool, true, false, ◌==◌, ◌||◌, nat_lt, List, [], ◌∷◌, length, map, slice_index, slice_set, All, vec_capacity, if◌then◌else◌}
 use Rattle.asc_model.specs.declared.status.Status.{Status}
 use Rattle.asc_model.specs.declared.status.Status.TheVariants.{Untouched, Read, Written, ReadWritten}
 use Rattle.asc_model.specs.Shape.{length_of}
 use Rattle.asc_model.specs.State.{IsState}
-use Rattle.asc_shape.specs.Face.{Told, FitPlaces, status_at, is_untouched, status_after_write}
+use Rattle.asc_model.specs.DependencyVector.{is_among}
+use Rattle.asc_shape.specs.Face.{Face, Told, FitPlaces, status_at, is_untouched, status_after_write}
+use Rattle.asc_shape.specs.Settled.{IsSettled}
 use Rattle.asc_depvec.specs.declared.tracer.Tracer.TheInside.{Inside}
-use Rattle.asc_depvec.specs.Tracer.{Tracing, most_cap, places_of}
+use Rattle.asc_depvec.specs.Tracer.{Tracing, face_of, most_cap, places_of}
+
+-- the mark of a place of a settled word of code, which was only read
+abbrev pub settled_mark : ℕ
+settled_mark = 130
 
 -- the status that a mark tells
 abbrev pub status_of : ℕ → Status
 status_of mark = if mark == 3 then Untouched
-    else (if mark == 2 then Read
+    else (if (mark == 2) || (mark == settled_mark) then Read
     else (if mark == 4 then Written else ReadWritten))
 
 abbrev pub statuses_of : List ℕ → List Status
@@ -49,6 +55,27 @@ is_kept place ReadWritten = false
 abbrev pub Keeps : (start bytes : List ℕ) → List Status → Type 0
 Keeps start bytes statuses = (place : ℕ) → is_kept place (status_at statuses place) ≡ true → slice_index bytes place ≡ slice_index start place
 
+-- the four places from a place on have this mark
+abbrev pub HaveMark : List ℕ → (mark place : ℕ) → Type 0
+HaveMark marks mark place = (k : ℕ) → place ≤ k → k < place + 4 → slice_index marks k ≡ mark
+
+-- each word of code whose marks say that it is settled is so
+abbrev pub TellSettled : Face → List ℕ → Type 0
+TellSettled f marks = (place : ℕ) → place % 4 ≡ 0 → HaveMark marks settled_mark place → IsSettled f place
+
+-- no place has the mark of a settled word that did not have it before
+abbrev pub TellNoMore : (before after : List ℕ) → Type 0
+TellNoMore before after = (k : ℕ) → slice_index after k ≡ settled_mark → slice_index before k ≡ settled_mark
+
+-- each place with that mark is one of these
+abbrev pub TellAmong : List ℕ → List ℕ → Type 0
+TellAmong marks places = (k : ℕ) → slice_index marks k ≡ settled_mark → is_among k places ≡ true
+
+-- marks once the four places from a place on have this one
+abbrev pub marked : List ℕ → (place mark : ℕ) → List ℕ
+marked marks place mark =
+    slice_set (slice_set (slice_set (slice_set marks place mark) (place + 1) mark) (place + 2) mark) (place + 3) mark
+
 pub record IsTracer (t : Inside) : Type 0 where
   pub cap : t.cap ≤ most_cap
   pub own : t.start.shape ≡ t.shape
@@ -59,6 +86,7 @@ pub record IsTracer (t : Inside) : Type 0 where
   pub places : FitPlaces (length_of t.shape)
       (Told 0 (statuses_of t.marks.items) (noted t.start.bytes (places_of t.touched.items)))
   pub kept : Keeps t.start.bytes t.bytes.items (statuses_of t.marks.items)
+  pub settled : TellSettled (face_of (tracing_of t)) t.marks.items
   pub blocks : length_of t.shape ≤ 256 * length t.blocks.items
   pub groups : length t.blocks.items ≡ 64 * length t.groups.items
   pub few_blocks : length t.blocks.items ≤ 2 ^ 24

@@ -1,4 +1,4 @@
-ghost use Rattle.std.specs.Prelude.{◌≡◌, ℕ, true, ◌+◌, ◌^◌, ◌<◌, ◌≤◌, ◌*◌, [], ◌∷◌, ◌++◌, All, IfOk, IfSome, IsNone, length, map, take, drop, replicate, slice_index, if◌then◌else◌};
+ghost use Rattle.std.specs.Prelude.{◌≡◌, ◌≢◌, ℕ, true, ◌+◌, ◌^◌, ◌<◌, ◌≤◌, ◌*◌, [], ◌∷◌, ◌++◌, All, IfOk, IfSome, IsNone, length, map, take, drop, replicate, slice_index, if◌then◌else◌};
 ghost use Rattle.asc_model.specs.declared.status.Status.{Status};
 ghost use Rattle.asc_model.specs.declared.status.Status.TheVariants.{Read, Untouched};
 ghost use Rattle.asc_model.specs.Machine.{view_of};
@@ -10,7 +10,7 @@ ghost use Rattle.asc_shape.specs.Face.{Told, status_at, is_untouched, status_aft
 ghost use Rattle.asc_shape.specs.State.{zero_state};
 ghost use Rattle.asc_depvec.specs.Bits.{words_of_blocks};
 ghost use Rattle.asc_depvec.specs.Tracer.{HaveStatus, IsTracing, least_cap, most_cap, face_of, fresh, undone, places_of, places_of_item, start_of_face, touched_words};
-ghost use Rattle.asc_depvec.specs.Inside.{AreWritten, given, status_of, statuses_of, with_statuses, without};
+ghost use Rattle.asc_depvec.specs.Inside.{AreWritten, HaveMark, TellAmong, TellNoMore, given, marked, settled_mark, status_of, statuses_of, with_statuses, without};
 
 use crate::bitmap::{Block, set_items, take_blocks};
 use crate::touched::Touched;
@@ -193,7 +193,7 @@ impl Tracer {
     {
         // That its state is one, and its marks fit it.
         let _ = Bytes::shape(self);
-        if have_mark(&self.marks, place, READ) {
+        if are_read(&self.marks, place) {
             Some(Status::Read)
         } else if have_mark(&self.marks, place, WRITTEN) {
             Some(Status::Written)
@@ -287,6 +287,7 @@ impl Tracer {
     {
         // That it is a state.
         let _ = self.start.shape();
+        forget_all(&mut self.marks, self.touched.all());
         take_back(
             &self.start,
             &mut self.bytes,
@@ -461,6 +462,45 @@ impl Words for Tracer {
             self.put_new(place, word);
         }
     }
+
+    /// The pc stands in memory, touched or not.
+    #[inline]
+    fn peek_pc(&self) -> u32 {
+        // That its state is one, and its marks fit it.
+        let _ = Bytes::shape(self);
+        word_of(&self.bytes, 0)
+    }
+
+    #[inline]
+    fn get_touched(&mut self, place: u32) -> u32 {
+        // That its state is one, and its marks fit it.
+        let _ = Bytes::shape(self);
+        word_of(&self.bytes, place)
+    }
+
+    #[inline]
+    fn put_written(&mut self, place: u32, word: u32) {
+        // That its state is one, and its marks fit it.
+        let _ = Bytes::shape(self);
+        put_word(&mut self.bytes, place, word);
+    }
+
+    /// What was learnt of a word stands in the marks of its places.
+    #[inline]
+    fn is_settled(&self, place: u32) -> bool {
+        // That its state is one, and its marks fit it.
+        let _ = Bytes::shape(self);
+        have_mark(&self.marks, place, SETTLED)
+    }
+
+    #[inline]
+    fn settle(&mut self, place: u32) {
+        // That its state is one, and its marks fit it.
+        let _ = Bytes::shape(self);
+        if have_mark(&self.marks, place, READ) {
+            mark_word(&mut self.marks, place, SETTLED);
+        }
+    }
 }
 
 // Lists a place where its status says that it is not touched yet.
@@ -486,13 +526,17 @@ const WRITTEN: u8 = 4;
 
 const READ_WRITTEN: u8 = 0;
 
+// Of a place that was only read, in a word of code of which it is known that carrying it out again changes no status of a
+// register or of the pc.
+const SETTLED: u8 = 130;
+
 #[inline]
 fn status_of(mark: u8) -> Status
     ensures { result ≡ status_of mark }
 {
     if mark == UNTOUCHED {
         Status::Untouched
-    } else if mark == READ {
+    } else if mark == READ || mark == SETTLED {
         Status::Read
     } else if mark == WRITTEN {
         Status::Written
@@ -503,7 +547,8 @@ fn status_of(mark: u8) -> Status
 
 #[inline]
 fn mark_of(status: Status) -> u8
-    ensures { status_of result ≡ status }
+    ensures status { status_of result ≡ status }
+    ensures other { result ≢ settled_mark }
 {
     match status {
         Status::Untouched => UNTOUCHED,
@@ -517,7 +562,8 @@ fn mark_of(status: Status) -> u8
 #[inline]
 fn mark_word(marks: &mut [u8], place: u32, mark: u8)
     requires { place + 4 ≤ length marks.old }
-    ensures { statuses_of marks.new ≡ with_statuses (statuses_of marks.old) place (status_of mark) 4 }
+    ensures statuses { statuses_of marks.new ≡ with_statuses (statuses_of marks.old) place (status_of mark) 4 }
+    ensures marks { marks.new ≡ marked marks.old place mark }
 {
     let at = place as usize;
     marks[at] = mark;
@@ -561,6 +607,46 @@ fn untouch(marks: &mut [u8], item: u32)
     }
 }
 
+// Forgets of all items' places that their words are settled.
+fn forget_all(marks: &mut [u8], items: &[u32])
+    requires within { All (λ place. place < length marks.old) (places_of items.now) }
+    requires among { TellAmong marks.old (places_of items.now) }
+    ensures statuses { statuses_of marks.new ≡ statuses_of marks.old }
+    ensures none { TellAmong marks.new [] }
+{
+    for &item in items {
+        forget(marks, item);
+    }
+}
+
+// Forgets of an item's places that their words are settled.
+fn forget(marks: &mut [u8], item: u32)
+    requires { All (λ place. place < length marks.old) (places_of_item item) }
+    ensures statuses { statuses_of marks.new ≡ statuses_of marks.old }
+    ensures less { TellNoMore marks.old marks.new }
+    ensures none { All (λ place. slice_index marks.new place ≢ settled_mark) (places_of_item item) }
+{
+    let place = item / 2;
+    forget_place(marks, place);
+    if item % 2 == 1 {
+        forget_place(marks, place + 1);
+        forget_place(marks, place + 2);
+        forget_place(marks, place + 3);
+    }
+}
+
+// Forgets of a place that its word is settled.
+fn forget_place(marks: &mut [u8], place: u32)
+    requires { place < length marks.old }
+    ensures statuses { statuses_of marks.new ≡ statuses_of marks.old }
+    ensures less { TellNoMore marks.old marks.new }
+    ensures none { slice_index marks.new place ≢ settled_mark }
+{
+    if marks[place as usize] == SETTLED {
+        marks[place as usize] = READ;
+    }
+}
+
 // Takes the places behind the first `mark` off the list, and makes them untouched with the start's bytes, the last one
 // first.
 fn take_back(start: &Guess, bytes: &mut [u8], marks: &mut [u8], touched: &mut Touched, mark: usize)
@@ -573,6 +659,7 @@ fn take_back(start: &Guess, bytes: &mut [u8], marks: &mut [u8], touched: &mut To
         ≡ given start.now.bytes bytes.old (drop mark (places_of touched.old.items)) }
     ensures statuses { statuses_of marks.new
         ≡ without (statuses_of marks.old) (drop mark (places_of touched.old.items)) }
+    ensures less { TellNoMore marks.old marks.new }
     ensures places { places_of touched.new.items ≡ take mark (places_of touched.old.items) }
     ensures cap { touched.new.cap ≡ touched.old.cap }
 {
@@ -608,10 +695,21 @@ fn are_touched(marks: &[u8], place: u32) -> bool
 #[inline]
 fn have_mark(marks: &[u8], place: u32, mark: u8) -> bool
     requires { place + 4 ≤ length marks.now }
-    ensures { result ≡ true → HaveStatus (statuses_of marks.now) (status_of mark) place 4 }
+    ensures status { result ≡ true → HaveStatus (statuses_of marks.now) (status_of mark) place 4 }
+    ensures mark { result ≡ true → HaveMark marks.now mark place }
 {
     are_bytes(marks);
     word_of(marks, place) == u32::from_le_bytes([mark, mark, mark, mark])
+}
+
+// Whether the four places from a place on were only read. Without bit 7 both marks that say so are one.
+#[inline]
+fn are_read(marks: &[u8], place: u32) -> bool
+    requires { place + 4 ≤ length marks.now }
+    ensures { result ≡ true → HaveStatus (statuses_of marks.now) Read place 4 }
+{
+    are_bytes(marks);
+    word_of(marks, place) & 0x7F7F_7F7F == 0x0202_0202
 }
 
 // Where it is so, the four places from a place on are written.

@@ -10,7 +10,7 @@ pub bounds-marks-place : goal.bounds-marks-place
 bounds-marks-place c = place_within _ c.args.item (omega (arith, c.if-item-eq1.false)) c.requires
 
 pub returns-then-item-eq1 : goal.returns-then-item-eq1
-returns-then-item-eq1 c = without_word (statuses_of c.args.marks.now) _ c.args.item c.if-item-eq1.true c.mark_word.ensures
+returns-then-item-eq1 c = without_word (statuses_of c.args.marks.now) _ c.args.item c.if-item-eq1.true c.mark_word.ensures.statuses
 
 pub returns-else-item-eq1 : goal.returns-else-item-eq1
 returns-else-item-eq1 c = without_place c.args.marks.now c.args.item (omega (arith, c.if-item-eq1.false))
