@@ -47,6 +47,11 @@ unfolding unwritten_count
 unwritten_count-cons Untold place places = refl
 unwritten_count-cons (Told cap statuses touched) place places = sum_by-append _ (place ∷ []) places
 
+pub unwritten_count-append : (marks : Marks) (a b : List ℕ) → unwritten_count marks (a ++ b) ≡ unwritten_count marks a + unwritten_count marks b
+unfolding unwritten_count
+unwritten_count-append Untold a b = refl
+unwritten_count-append (Told cap statuses touched) a b = sum_by-append _ a b
+
 -- ---- touches of touched and of written places
 
 after_read_touched : (s : Status) → is_untouched s ≡ false → status_after_read s ≡ s
@@ -178,6 +183,36 @@ unfolding face_after_puts
 unwritten_count-puts-le f [] places = omega arith
 unwritten_count-puts-le f (cell ∷ list) places = omega (arith, unwritten_count-puts-le (face_after_put f cell.0 cell.1) list places, unwritten_count-put-le f cell.0 cell.1 places)
 
+-- ---- written places are touched
+
+untouched_count-nil : (marks : Marks) → untouched_count marks [] ≡ 0
+unfolding untouched_count
+untouched_count-nil Untold = refl
+untouched_count-nil (Told cap statuses touched) = refl
+
+pub unwritten_count-nil : (marks : Marks) → unwritten_count marks [] ≡ 0
+unfolding unwritten_count
+unwritten_count-nil Untold = refl
+unwritten_count-nil (Told cap statuses touched) = refl
+
+place_both : (marks : Marks) (place : ℕ) → unwritten_count marks (place ∷ []) ≡ 0 → untouched_count marks (place ∷ []) ≡ 0
+unfolding untouched_count
+place_both Untold place none = refl
+place_both (Told cap statuses touched) place none =
+    untouched_count-one cap statuses touched place
+    ∙ ap (λ (b : Bool). if b then 1 else 0) (written_is_touched (status_at statuses place) (place_written cap statuses touched place none))
+
+pub written_touched : (marks : Marks) (places : List ℕ) → unwritten_count marks places ≡ 0 → untouched_count marks places ≡ 0
+written_touched marks [] none = untouched_count-nil marks
+written_touched marks (place ∷ places) none =
+    let parts = unwritten_count-cons marks place places in
+    omega (
+      arith,
+      untouched_count-cons marks place places,
+      place_both marks place (omega (arith, parts, none)),
+      written_touched marks places (omega (arith, parts, none)),
+    )
+
 -- ---- what was read is touched, and what was put is written
 
 -- marks have a status for each of so many places, where they are told
@@ -249,20 +284,10 @@ pub written-put : (places : ℕ) (f : Face) (place byte : ℕ) → HaveStatuses 
 unfolding face_after_put
 written-put places f place byte have within = written-marks_after places f.marks place _ have within
 
-untouched_count-none : (marks : Marks) → untouched_count marks [] ≡ 0
-unfolding untouched_count
-untouched_count-none Untold = refl
-untouched_count-none (Told cap statuses touched) = refl
-
-unwritten_count-none : (marks : Marks) → unwritten_count marks [] ≡ 0
-unfolding unwritten_count
-unwritten_count-none Untold = refl
-unwritten_count-none (Told cap statuses touched) = refl
-
 -- places that were read are touched
 pub touched-reads : (places : ℕ) (f : Face) (list : List ℕ) → HaveStatuses places f.marks → All (λ place. place < places) list → untouched_count (face_after_reads f list).marks list ≡ 0
 unfolding face_after_reads
-touched-reads places f [] have within = untouched_count-none f.marks
+touched-reads places f [] have within = untouched_count-nil f.marks
 touched-reads places f (place ∷ list) have within =
     let P = λ (p : ℕ). p < places in
     let after = face_after_read f place in
@@ -278,7 +303,7 @@ touched-reads places f (place ∷ list) have within =
 pub written-puts : (places : ℕ) (f : Face) (list : List (ℕ × ℕ)) → HaveStatuses places f.marks → All (λ place. place < places) (map (λ cell. cell.0) list)
     → unwritten_count (face_after_puts f list).marks (map (λ cell. cell.0) list) ≡ 0
 unfolding face_after_puts
-written-puts places f [] have within = unwritten_count-none f.marks
+written-puts places f [] have within = unwritten_count-nil f.marks
 written-puts places f (cell ∷ list) have within =
     let P = λ (p : ℕ). p < places in
     let rest = map (λ c. c.0) list in

@@ -3,4 +3,5 @@ pub mod Touches
 pub mod Effects
 pub mod Rooms
 pub mod Steps
+pub mod Settling
 pub mod Passed

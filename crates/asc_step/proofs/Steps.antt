@@ -23,7 +23,7 @@ use Rattle.asc_step.proofs.Touches.{face_after_reads-nil, face_after_puts-nil, s
 use Rattle.asc_step.proofs.Rooms.{room_after_step}
 
 -- why the word at a pc cannot be fetched
-abbrev fetch_fault : Shape → ℕ → Option FaultKind
+abbrev pub fetch_fault : Shape → ℕ → Option FaultKind
 fetch_fault shape pc = word_fault shape pc Misaligned FetchOutside
 
 -- the answer of an outcome
@@ -33,7 +33,7 @@ stepped_of-next_of shape m Calls = refl
 stepped_of-next_of shape m (Fails fault) = refl
 
 -- the answer of a step
-stepped_of-next : (s : State) → stepped_of (next s) ≡ answer_of (outcome s.shape (view_of s))
+pub stepped_of-next : (s : State) → stepped_of (next s) ≡ answer_of (outcome s.shape (view_of s))
 unfolding next
 stepped_of-next s = stepped_of-next_of s.shape (view_of s) (outcome s.shape (view_of s))
 
@@ -93,16 +93,16 @@ both_tests false h e = cc
 pub fetched_tests : (shape : Shape) (pc : ℕ) → fetch_fault shape pc ≡ None → (is_aligned pc ≡ true) × (holds shape pc 4 ≡ true)
 fetched_tests shape pc e = both_tests (is_aligned pc) (holds shape pc 4) e
 
-outcome-fetched : (shape : Shape) (m : Machine) → fetch_fault shape m.pc ≡ None → outcome shape m ≡ outcome_of_word shape m (decode shape.version (fetch shape m))
+pub outcome-fetched : (shape : Shape) (m : Machine) → fetch_fault shape m.pc ≡ None → outcome shape m ≡ outcome_of_word shape m (decode shape.version (fetch shape m))
 unfolding outcome
 outcome-fetched shape m e = let tests = fetched_tests shape m.pc e in rw (tests.0, tests.1) refl
 
-places_read-fetched : (s : State) → fetch_fault s.shape (view_of s).pc ≡ None
+pub places_read-fetched : (s : State) → fetch_fault s.shape (view_of s).pc ≡ None
     → places_read s ≡ places_from 0 4 ++ places_from (place_of s.shape (view_of s).pc) 4 ++ operand_places s.shape (view_of s) (decode s.shape.version (fetch s.shape (view_of s)))
 unfolding places_read
 places_read-fetched s e = let tests = fetched_tests s.shape (view_of s).pc e in rw (tests.0, tests.1) refl
 
-outcome-unfetched : (shape : Shape) (m : Machine) (kind : FaultKind) → fetch_fault shape m.pc ≡ Some kind → outcome shape m ≡ fault_outcome m kind m.pc
+pub outcome-unfetched : (shape : Shape) (m : Machine) (kind : FaultKind) → fetch_fault shape m.pc ≡ Some kind → outcome shape m ≡ fault_outcome m kind m.pc
 unfolding outcome
 outcome-unfetched shape m kind e = unfetched (is_aligned m.pc) (holds shape m.pc 4) kind m _ e
 

@@ -1,16 +1,18 @@
 -- What carrying out an instruction comes to.
-use Rattle.std.specs.Prelude.{◌≡◌, ℕ, not, List, Option, Some, None, if◌then◌else◌}
+use Rattle.std.specs.Prelude.{◌≡◌, ℕ, Bool, true, not, List, Option, Some, None, if◌then◌else◌}
 use Rattle.std.specs.List.{flat_map}
 use Rattle.asc_model.specs.declared.fault.FaultKind.{FaultKind}
 use Rattle.asc_model.specs.declared.version.Version.{Version}
+use Rattle.asc_model.specs.declared.instruction.Instr.{Instr}
 use Rattle.asc_model.specs.declared.version.Version.TheVariants.{Two}
 use Rattle.asc_model.specs.Shape.{Shape, holds}
 use Rattle.asc_model.specs.State.{IsState}
 use Rattle.asc_model.specs.Machine.{Change, view_of}
 use Rattle.asc_model.specs.Effect.{Effect, Set, Load, Store, Jump, LoadReserved, StoreConditional, Modify, GuestCall, Breakpoint}
 use Rattle.asc_model.specs.Step.{Outcome, Goes, Calls, Fails, is_aligned, outcome_of}
-use Rattle.asc_model.specs.Places.{places_from, data_places, cells_of, cells_of_outcome}
-use Rattle.asc_shape.specs.Face.{Face, face_after_reads, face_after_puts, untouched_count}
+use Rattle.asc_model.specs.Places.{places_from, register_places, data_places, cells_of, cells_of_outcome}
+use Rattle.asc_shape.specs.Face.{Face, Marks, face_after_reads, face_after_puts, untouched_count}
+use Rattle.asc_shape.specs.Settled.{AreSettled, unwritten_count}
 use Rattle.asc_step.specs.declared.stepped.Stepped.{Stepped}
 use Rattle.asc_step.specs.declared.stepped.Stepped.TheVariants as answers
 
@@ -46,6 +48,16 @@ IsOfVersion version (Store n address value) = Unit {0}
 IsOfVersion version (Jump target) = Unit {0}
 IsOfVersion version GuestCall = Unit {0}
 IsOfVersion version Breakpoint = Unit {0}
+
+-- where it is so, the pc and a destination are written
+abbrev pub PutsSettled : Bool → Marks → (rd : ℕ) → Type 0
+PutsSettled settled marks rd = settled ≡ true
+    → (unwritten_count marks (places_from 0 4) ≡ 0) × (unwritten_count marks (register_places rd) ≡ 0)
+
+-- where it is so, the pc is written and the registers of an instruction are settled
+abbrev pub RunsSettled : Bool → Marks → Instr → Type 0
+RunsSettled settled marks i = settled ≡ true
+    → (unwritten_count marks (places_from 0 4) ≡ 0) × AreSettled marks i
 
 -- An instruction at this pc was fetched: the face is a state's, and the places of the pc are touched.
 pub record AtInstruction (f : Face) (at : ℕ) : Type 0 where

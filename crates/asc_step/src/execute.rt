@@ -6,7 +6,7 @@ ghost use Rattle.asc_model.specs.Places.{operand_places};
 ghost use Rattle.asc_model.specs.Step.{effect_of, outcome_of_word};
 ghost use Rattle.asc_isa.specs.Decode.{HasRegisters};
 ghost use Rattle.asc_shape.specs.Face.{room_of};
-ghost use Rattle.asc_step.specs.Execute.{AtInstruction, IsOfVersion, answer_of, face_after_outcome};
+ghost use Rattle.asc_step.specs.Execute.{AtInstruction, IsOfVersion, RunsSettled, answer_of, face_after_outcome};
 
 use crate::Stepped;
 use crate::effect::{Operands, effect_of};
@@ -51,14 +51,20 @@ fn split(instruction: Instr) -> Parts
     }
 }
 
-/// Carries out the instruction at this pc.
+/// Carries out the instruction at this pc. Its registers are settled where `SETTLED` says so.
 #[inline(always)]
-pub(crate) fn execute<B: Words>(bytes: &mut B, shape: Shape, pc: u32, instruction: Instr) -> Stepped
+pub(crate) fn execute<B: Words, const SETTLED: bool>(
+    bytes: &mut B,
+    shape: Shape,
+    pc: u32,
+    instruction: Instr,
+) -> Stepped
     requires shape { shape ≡ (B.face bytes.old).state.shape }
     requires registers { HasRegisters instruction }
     requires at { AtInstruction (B.face bytes.old) pc }
     requires version { let s = (B.face bytes.old).state in
         IsOfVersion s.shape.version (effect_of (view_of s) instruction) }
+    requires settled { RunsSettled SETTLED (B.face bytes.old).marks instruction }
     requires room { 22 ≤ room_of (B.face bytes.old).marks }
     ensures answer { let s = (B.face bytes.old).state in
         result ≡ answer_of (outcome_of_word s.shape (view_of s) (Some instruction)) }
@@ -74,8 +80,8 @@ pub(crate) fn execute<B: Words>(bytes: &mut B, shape: Shape, pc: u32, instructio
         rs2,
         immediate,
     } = split(instruction);
-    let a = register(bytes, rs1);
-    let b = register(bytes, rs2);
+    let a = register::<B, SETTLED>(bytes, rs1);
+    let b = register::<B, SETTLED>(bytes, rs2);
     let effect = effect_of(
         op,
         Operands {
@@ -85,5 +91,5 @@ pub(crate) fn execute<B: Words>(bytes: &mut B, shape: Shape, pc: u32, instructio
             immediate,
         },
     );
-    finish(bytes, shape, pc, rd, effect)
+    finish::<B, SETTLED>(bytes, shape, pc, rd, effect)
 }

@@ -1,14 +1,15 @@
 //! Doing what an effect asks for: all its tests, then all its reads, then all its puts.
-ghost use Rattle.std.specs.Prelude.{◌≡◌, ◌<◌, ◌≤◌, ℕ, [], ◌∷◌, length};
+ghost use Rattle.std.specs.Prelude.{◌≡◌, true, ◌<◌, ◌≤◌, ℕ, [], ◌∷◌, length};
 ghost use Rattle.asc_model.specs.Machine.{Pc, Register};
 ghost use Rattle.asc_model.specs.Arithmetic.{◌+w◌};
 ghost use Rattle.asc_model.specs.Places.{places_from};
 ghost use Rattle.asc_shape.specs.Face.{room_of, untouched_count};
+ghost use Rattle.asc_shape.specs.Settled.{unwritten_count};
 ghost use Rattle.asc_model.specs.Effect.{Set, Load, Store, Jump, LoadReserved, StoreConditional, Modify};
 ghost use Rattle.asc_model.specs.declared.version.Version.TheVariants.{Two};
 ghost use Rattle.asc_model.specs.declared.fault.FaultKind.TheVariants.{AtomicMisaligned};
 ghost use Rattle.asc_step.specs.Effect.{bytes_in, changed, model_effect};
-ghost use Rattle.asc_step.specs.Execute.{AtInstruction, Finishes, IsOfVersion, Puts, word_fault};
+ghost use Rattle.asc_step.specs.Execute.{AtInstruction, Finishes, IsOfVersion, Puts, PutsSettled, word_fault};
 
 use crate::arithmetic::one_if;
 use crate::effect::{Amo, Effect, Size, changed, loaded_word};
@@ -19,9 +20,9 @@ use crate::places::{
 use crate::{FaultKind, Stepped};
 use asc_shape::{Shape, Words};
 
-/// Carries out the effect of the instruction at this pc.
+/// Carries out the effect of the instruction at this pc. The pc and the destination are written where `SETTLED` says so.
 #[inline(always)]
-pub(crate) fn finish<B: Words>(
+pub(crate) fn finish<B: Words, const SETTLED: bool>(
     bytes: &mut B,
     shape: Shape,
     pc: u32,
@@ -32,31 +33,32 @@ pub(crate) fn finish<B: Words>(
     requires rd { rd < 32 }
     requires at { AtInstruction (B.face bytes.old) pc }
     requires version { IsOfVersion (B.face bytes.old).state.shape.version (model_effect effect) }
+    requires settled { PutsSettled SETTLED (B.face bytes.old).marks rd }
     requires room { 14 ≤ room_of (B.face bytes.old).marks }
     ensures { Finishes (B.face bytes.old) (B.face bytes.new) rd (model_effect effect) result }
 {
     match effect {
-        Effect::Set(value) => set(bytes, pc, rd, value),
+        Effect::Set(value) => set::<B, SETTLED>(bytes, pc, rd, value),
         Effect::Load {
             size,
             signed,
             address,
-        } => load(bytes, shape, pc, rd, size, signed, address),
+        } => load::<B, SETTLED>(bytes, shape, pc, rd, size, signed, address),
         Effect::Store {
             size,
             address,
             value,
-        } => store(bytes, shape, pc, size, address, value),
-        Effect::Jump(target) => jump(bytes, pc, rd, target),
-        Effect::LoadReserved(address) => load_reserved(bytes, shape, pc, rd, address),
+        } => store::<B, SETTLED>(bytes, shape, pc, size, address, value),
+        Effect::Jump(target) => jump::<B, SETTLED>(bytes, pc, rd, target),
+        Effect::LoadReserved(address) => load_reserved::<B, SETTLED>(bytes, shape, pc, rd, address),
         Effect::StoreConditional { address, value } => {
-            store_conditional(bytes, shape, pc, rd, address, value)
+            store_conditional::<B, SETTLED>(bytes, shape, pc, rd, address, value)
         }
         Effect::Modify {
             amo,
             address,
             value,
-        } => modify(bytes, shape, pc, rd, amo, address, value),
+        } => modify::<B, SETTLED>(bytes, shape, pc, rd, amo, address, value),
         Effect::Call => Stepped::Call,
         Effect::Break => fault(FaultKind::Break, pc, 0),
     }
@@ -64,30 +66,32 @@ pub(crate) fn finish<B: Words>(
 
 /// Goes on behind the instruction, with a value in its destination.
 #[inline(always)]
-fn go_on<B: Words>(bytes: &mut B, pc: u32, rd: u8, value: u32)
+fn go_on<B: Words, const SETTLED: bool>(bytes: &mut B, pc: u32, rd: u8, value: u32)
     requires rd { rd < 32 }
     requires length { 128 ≤ length (B.face bytes.old).state.bytes }
     requires touched { untouched_count (B.face bytes.old).marks (places_from 0 4) ≡ 0 }
+    requires settled { PutsSettled SETTLED (B.face bytes.old).marks rd }
     requires room { 4 ≤ room_of (B.face bytes.old).marks }
     ensures { Puts (B.face bytes.old) (B.face bytes.new) (Pc (pc +w 4) ∷ Register rd value ∷ []) }
 {
-    set_pc(bytes, pc.wrapping_add(4));
-    set_register(bytes, rd, value);
+    set_pc::<B, SETTLED>(bytes, pc.wrapping_add(4));
+    set_register::<B, SETTLED>(bytes, rd, value);
 }
 
 #[inline(always)]
-fn set<B: Words>(bytes: &mut B, pc: u32, rd: u8, value: u32) -> Stepped
+fn set<B: Words, const SETTLED: bool>(bytes: &mut B, pc: u32, rd: u8, value: u32) -> Stepped
     requires rd { rd < 32 }
     requires at { AtInstruction (B.face bytes.old) pc }
+    requires settled { PutsSettled SETTLED (B.face bytes.old).marks rd }
     requires room { 14 ≤ room_of (B.face bytes.old).marks }
     ensures { Finishes (B.face bytes.old) (B.face bytes.new) rd (Set value) result }
 {
-    go_on(bytes, pc, rd, value);
+    go_on::<B, SETTLED>(bytes, pc, rd, value);
     Stepped::Went
 }
 
 #[inline(always)]
-fn load<B: Words>(
+fn load<B: Words, const SETTLED: bool>(
     bytes: &mut B,
     shape: Shape,
     pc: u32,
@@ -99,6 +103,7 @@ fn load<B: Words>(
     requires shape { shape ≡ (B.face bytes.old).state.shape }
     requires rd { rd < 32 }
     requires at { AtInstruction (B.face bytes.old) pc }
+    requires settled { PutsSettled SETTLED (B.face bytes.old).marks rd }
     requires room { 14 ≤ room_of (B.face bytes.old).marks }
     ensures { Finishes (B.face bytes.old) (B.face bytes.new) rd
         (Load (bytes_in size) signed address) result }
@@ -109,12 +114,12 @@ fn load<B: Words>(
         return fault(FaultKind::LoadOutside, pc, address);
     }
     let number = read_number(bytes, shape.place_of(address), size);
-    go_on(bytes, pc, rd, loaded_word(size, signed, number));
+    go_on::<B, SETTLED>(bytes, pc, rd, loaded_word(size, signed, number));
     Stepped::Went
 }
 
 #[inline(always)]
-fn store<B: Words>(
+fn store<B: Words, const SETTLED: bool>(
     bytes: &mut B,
     shape: Shape,
     pc: u32,
@@ -124,6 +129,7 @@ fn store<B: Words>(
 ) -> Stepped
     requires shape { shape ≡ (B.face bytes.old).state.shape }
     requires at { AtInstruction (B.face bytes.old) pc }
+    requires settled { SETTLED ≡ true → unwritten_count (B.face bytes.old).marks (places_from 0 4) ≡ 0 }
     requires room { 14 ≤ room_of (B.face bytes.old).marks }
     ensures { (rd : ℕ) → Finishes (B.face bytes.old) (B.face bytes.new) rd
         (Store (bytes_in size) address value) result }
@@ -133,23 +139,24 @@ fn store<B: Words>(
     if !holds(shape, address, size.bytes()) {
         return fault(FaultKind::StoreOutside, pc, address);
     }
-    set_pc(bytes, pc.wrapping_add(4));
+    set_pc::<B, SETTLED>(bytes, pc.wrapping_add(4));
     put_number(bytes, shape.place_of(address), size, value);
     Stepped::Went
 }
 
 #[inline(always)]
-fn jump<B: Words>(bytes: &mut B, pc: u32, rd: u8, target: u32) -> Stepped
+fn jump<B: Words, const SETTLED: bool>(bytes: &mut B, pc: u32, rd: u8, target: u32) -> Stepped
     requires rd { rd < 32 }
     requires at { AtInstruction (B.face bytes.old) pc }
+    requires settled { PutsSettled SETTLED (B.face bytes.old).marks rd }
     requires room { 14 ≤ room_of (B.face bytes.old).marks }
     ensures { Finishes (B.face bytes.old) (B.face bytes.new) rd (Jump target) result }
 {
     if !is_aligned(target) {
         return fault(FaultKind::Misaligned, pc, target);
     }
-    set_pc(bytes, target);
-    set_register(bytes, rd, pc.wrapping_add(4));
+    set_pc::<B, SETTLED>(bytes, target);
+    set_register::<B, SETTLED>(bytes, rd, pc.wrapping_add(4));
     Stepped::Went
 }
 
@@ -162,10 +169,11 @@ fn atomic_fault(shape: Shape, address: u32, outside: FaultKind) -> Option<FaultK
 }
 
 #[inline(always)]
-fn load_reserved<B: Words>(bytes: &mut B, shape: Shape, pc: u32, rd: u8, address: u32) -> Stepped
+fn load_reserved<B: Words, const SETTLED: bool>(bytes: &mut B, shape: Shape, pc: u32, rd: u8, address: u32) -> Stepped
     requires shape { shape ≡ (B.face bytes.old).state.shape }
     requires rd { rd < 32 }
     requires at { AtInstruction (B.face bytes.old) pc }
+    requires settled { PutsSettled SETTLED (B.face bytes.old).marks rd }
     requires room { 14 ≤ room_of (B.face bytes.old).marks }
     ensures { Finishes (B.face bytes.old) (B.face bytes.new) rd (LoadReserved address) result }
 {
@@ -175,13 +183,13 @@ fn load_reserved<B: Words>(bytes: &mut B, shape: Shape, pc: u32, rd: u8, address
         return fault(kind, pc, address);
     }
     let old = read_word(bytes, shape.place_of(address));
-    go_on(bytes, pc, rd, old);
+    go_on::<B, SETTLED>(bytes, pc, rd, old);
     reserve(bytes, address);
     Stepped::Went
 }
 
 #[inline(always)]
-fn store_conditional<B: Words>(
+fn store_conditional<B: Words, const SETTLED: bool>(
     bytes: &mut B,
     shape: Shape,
     pc: u32,
@@ -192,6 +200,7 @@ fn store_conditional<B: Words>(
     requires shape { shape ≡ (B.face bytes.old).state.shape }
     requires rd { rd < 32 }
     requires at { AtInstruction (B.face bytes.old) pc }
+    requires settled { PutsSettled SETTLED (B.face bytes.old).marks rd }
     requires version { (B.face bytes.old).state.shape.version ≡ Two }
     requires room { 14 ≤ room_of (B.face bytes.old).marks }
     ensures { Finishes (B.face bytes.old) (B.face bytes.new) rd
@@ -203,7 +212,7 @@ fn store_conditional<B: Words>(
         return fault(kind, pc, address);
     }
     let reserved = is_reserved(bytes, address);
-    go_on(bytes, pc, rd, one_if(!reserved));
+    go_on::<B, SETTLED>(bytes, pc, rd, one_if(!reserved));
     release(bytes);
     if reserved {
         bytes.put_word(shape.place_of(address), value);
@@ -212,7 +221,7 @@ fn store_conditional<B: Words>(
 }
 
 #[inline(always)]
-fn modify<B: Words>(
+fn modify<B: Words, const SETTLED: bool>(
     bytes: &mut B,
     shape: Shape,
     pc: u32,
@@ -224,6 +233,7 @@ fn modify<B: Words>(
     requires shape { shape ≡ (B.face bytes.old).state.shape }
     requires rd { rd < 32 }
     requires at { AtInstruction (B.face bytes.old) pc }
+    requires settled { PutsSettled SETTLED (B.face bytes.old).marks rd }
     requires room { 14 ≤ room_of (B.face bytes.old).marks }
     ensures { Finishes (B.face bytes.old) (B.face bytes.new) rd
         (Modify address (λ old. changed amo old value)) result }
@@ -235,7 +245,7 @@ fn modify<B: Words>(
     }
     let place = shape.place_of(address);
     let old = read_word(bytes, place);
-    go_on(bytes, pc, rd, old);
+    go_on::<B, SETTLED>(bytes, pc, rd, old);
     bytes.put_word(place, changed(amo, old, value));
     Stepped::Went
 }

@@ -1,10 +1,11 @@
 //! Registers and memory of a state, by their places.
-ghost use Rattle.std.specs.Prelude.{◌≡◌, ◌+◌, ◌*◌, ◌^◌, ◌<◌, ◌≤◌, [], ◌∷◌, length};
+ghost use Rattle.std.specs.Prelude.{◌≡◌, true, ◌+◌, ◌*◌, ◌^◌, ◌<◌, ◌≤◌, [], ◌∷◌, length};
 ghost use Rattle.asc_model.specs.Number.{bytes_of, number_at, word_at};
 ghost use Rattle.asc_model.specs.State.{IsState};
 ghost use Rattle.asc_model.specs.Machine.{register, is_reserved, view_of, reserve, release, Pc, Register};
 ghost use Rattle.asc_model.specs.Places.{places_from, register_places, reservation_places, cells};
-ghost use Rattle.asc_shape.specs.Face.{face_after_reads, face_after_puts, room_of};
+ghost use Rattle.asc_shape.specs.Face.{face_after_reads, face_after_puts, room_of, untouched_count};
+ghost use Rattle.asc_shape.specs.Settled.{unwritten_count};
 ghost use Rattle.asc_model.specs.declared.version.Version.TheVariants.{Two};
 ghost use Rattle.asc_step.specs.Effect.{bytes_in};
 ghost use Rattle.asc_step.specs.Execute.{Puts};
@@ -28,6 +29,37 @@ pub(crate) fn read_word<B: Words>(bytes: &mut B, place: u32) -> u32
     ensures face { B.face bytes.new ≡ face_after_reads (B.face bytes.old) (places_from place 4) }
 {
     bytes.get_word(place)
+}
+
+/// The word in the four bytes from a place on, which are touched where `SETTLED` says so.
+#[inline(always)]
+fn read_settled<B: Words, const SETTLED: bool>(bytes: &mut B, place: u32) -> u32
+    requires place { place + 4 ≤ length (B.face bytes.old).state.bytes }
+    requires room { 4 ≤ room_of (B.face bytes.old).marks }
+    requires settled { SETTLED ≡ true → untouched_count (B.face bytes.old).marks (places_from place 4) ≡ 0 }
+    ensures value { result ≡ word_at (B.face bytes.old).state.bytes place }
+    ensures face { B.face bytes.new ≡ face_after_reads (B.face bytes.old) (places_from place 4) }
+{
+    if SETTLED {
+        bytes.get_touched(place)
+    } else {
+        bytes.get_word(place)
+    }
+}
+
+/// Puts a word in the four bytes from a place on, which are written where `SETTLED` says so.
+#[inline(always)]
+fn put_settled<B: Words, const SETTLED: bool>(bytes: &mut B, place: u32, word: u32)
+    requires place { place + 4 ≤ length (B.face bytes.old).state.bytes }
+    requires room { 4 ≤ room_of (B.face bytes.old).marks }
+    requires settled { SETTLED ≡ true → unwritten_count (B.face bytes.old).marks (places_from place 4) ≡ 0 }
+    ensures { B.face bytes.new ≡ face_after_puts (B.face bytes.old) (cells place (bytes_of 4 word)) }
+{
+    if SETTLED {
+        bytes.put_written(place, word);
+    } else {
+        bytes.put_word(place, word);
+    }
 }
 
 /// The number in as many bytes from a place on as the size says.
@@ -92,42 +124,49 @@ fn put_half<B: Words>(bytes: &mut B, place: u32, value: u32)
     bytes.put(place + 1, high);
 }
 
-/// x\[k\]. Register 0 is 0, and no place is read for it.
+/// x\[k\]. Register 0 is 0, and no place is read for it. Its places are touched where `SETTLED` says so.
 #[inline(always)]
 #[tactic(auto, using(crate::proofs::Touches::reads_none, crate::proofs::Touches::register_read))]
-pub(crate) fn register<B: Words>(bytes: &mut B, k: u8) -> u32
+pub(crate) fn register<B: Words, const SETTLED: bool>(bytes: &mut B, k: u8) -> u32
     requires k { k < 32 }
     requires length { 128 ≤ length (B.face bytes.old).state.bytes }
     requires room { 4 ≤ room_of (B.face bytes.old).marks }
+    requires settled { SETTLED ≡ true → untouched_count (B.face bytes.old).marks (register_places k) ≡ 0 }
     ensures value { result ≡ register (view_of (B.face bytes.old).state) k }
     ensures state { (B.face bytes.new).state ≡ (B.face bytes.old).state }
     ensures face { B.face bytes.new ≡ face_after_reads (B.face bytes.old) (register_places k) }
 {
     let k = u32::from(k);
-    if k == 0 { 0 } else { read_word(bytes, 4 * k) }
+    if k == 0 {
+        0
+    } else {
+        read_settled::<B, SETTLED>(bytes, 4 * k)
+    }
 }
 
-/// Sets the pc.
+/// Sets the pc. Its places are written where `SETTLED` says so.
 #[inline(always)]
-pub(crate) fn set_pc<B: Words>(bytes: &mut B, value: u32)
+pub(crate) fn set_pc<B: Words, const SETTLED: bool>(bytes: &mut B, value: u32)
     requires length { 128 ≤ length (B.face bytes.old).state.bytes }
     requires room { 4 ≤ room_of (B.face bytes.old).marks }
+    requires settled { SETTLED ≡ true → unwritten_count (B.face bytes.old).marks (places_from 0 4) ≡ 0 }
     ensures { Puts (B.face bytes.old) (B.face bytes.new) (Pc value ∷ []) }
 {
-    bytes.put_word(0, value);
+    put_settled::<B, SETTLED>(bytes, 0, value);
 }
 
-/// Sets x\[k\]. Setting register 0 changes nothing.
+/// Sets x\[k\]. Setting register 0 changes nothing. Its places are written where `SETTLED` says so.
 #[inline(always)]
 #[tactic(auto, using(crate::proofs::Touches::puts_none))]
-pub(crate) fn set_register<B: Words>(bytes: &mut B, k: u8, value: u32)
+pub(crate) fn set_register<B: Words, const SETTLED: bool>(bytes: &mut B, k: u8, value: u32)
     requires k { k < 32 }
     requires length { 128 ≤ length (B.face bytes.old).state.bytes }
     requires room { 4 ≤ room_of (B.face bytes.old).marks }
+    requires settled { SETTLED ≡ true → unwritten_count (B.face bytes.old).marks (register_places k) ≡ 0 }
     ensures { Puts (B.face bytes.old) (B.face bytes.new) (Register k value ∷ []) }
 {
     if k != 0 {
-        bytes.put_word(place_of_register(k), value);
+        put_settled::<B, SETTLED>(bytes, place_of_register(k), value);
     }
 }
 

@@ -2,7 +2,7 @@
 //!
 //! It comes to what `try_step` comes to. There are two since a plain step is cheaper with such code for all operations,
 //! and a tracer's step with such code for those alone that programs do most.
-ghost use Rattle.std.specs.Prelude.{◌≡◌, ◌≤◌, Some};
+ghost use Rattle.std.specs.Prelude.{◌≡◌, ◌≤◌, Some, true};
 ghost use Rattle.asc_model.specs.Machine.{view_of};
 ghost use Rattle.asc_model.specs.Instruction.{op_of};
 ghost use Rattle.asc_model.specs.Places.{operand_places};
@@ -10,7 +10,7 @@ ghost use Rattle.asc_model.specs.Reach.{step_room};
 ghost use Rattle.asc_model.specs.Step.{effect_of, outcome_of_word};
 ghost use Rattle.asc_isa.specs.Decode.{HasRegisters};
 ghost use Rattle.asc_shape.specs.Face.{room_of};
-ghost use Rattle.asc_step.specs.Execute.{AtInstruction, IsOfVersion, answer_of, face_after_outcome};
+ghost use Rattle.asc_step.specs.Execute.{AtInstruction, IsOfVersion, RunsSettled, answer_of, face_after_outcome};
 ghost use Rattle.asc_step.specs.Step.{Attempts};
 
 use crate::execute::execute;
@@ -68,71 +68,71 @@ fn execute_specialized<B: Words, const UNTIL: bool>(
         (outcome_of_word s.shape (view_of s) (Some instruction)) }
 {
     match operation(instruction) {
-        Op::Lui => execute(bytes, shape, pc, instruction),
-        Op::Auipc => execute(bytes, shape, pc, instruction),
-        Op::Jal => execute(bytes, shape, pc, instruction),
-        Op::Jalr => execute(bytes, shape, pc, instruction),
-        Op::Beq => execute(bytes, shape, pc, instruction),
-        Op::Bne => execute(bytes, shape, pc, instruction),
-        Op::Blt => execute(bytes, shape, pc, instruction),
-        Op::Bge => execute(bytes, shape, pc, instruction),
-        Op::Bltu => execute(bytes, shape, pc, instruction),
-        Op::Bgeu => execute(bytes, shape, pc, instruction),
-        Op::Lb => execute(bytes, shape, pc, instruction),
-        Op::Lh => execute(bytes, shape, pc, instruction),
-        Op::Lw => execute(bytes, shape, pc, instruction),
-        Op::Lbu => execute(bytes, shape, pc, instruction),
-        Op::Lhu => execute(bytes, shape, pc, instruction),
-        Op::Sb => execute(bytes, shape, pc, instruction),
-        Op::Sh => execute(bytes, shape, pc, instruction),
-        Op::Sw => execute(bytes, shape, pc, instruction),
-        Op::Addi => execute(bytes, shape, pc, instruction),
-        Op::Slti => execute(bytes, shape, pc, instruction),
-        Op::Sltiu => execute(bytes, shape, pc, instruction),
-        Op::Xori => execute(bytes, shape, pc, instruction),
-        Op::Ori => execute(bytes, shape, pc, instruction),
-        Op::Andi => execute(bytes, shape, pc, instruction),
-        Op::Slli => execute(bytes, shape, pc, instruction),
-        Op::Srli => execute(bytes, shape, pc, instruction),
-        Op::Srai => execute(bytes, shape, pc, instruction),
-        Op::Add => execute(bytes, shape, pc, instruction),
-        Op::Sub => execute(bytes, shape, pc, instruction),
-        Op::Sll => execute(bytes, shape, pc, instruction),
-        Op::Slt => execute(bytes, shape, pc, instruction),
-        Op::Sltu => execute(bytes, shape, pc, instruction),
-        Op::Xor => execute(bytes, shape, pc, instruction),
-        Op::Srl => execute(bytes, shape, pc, instruction),
-        Op::Sra => execute(bytes, shape, pc, instruction),
-        Op::Or => execute(bytes, shape, pc, instruction),
-        Op::And => execute(bytes, shape, pc, instruction),
-        Op::Fence => execute(bytes, shape, pc, instruction),
-        Op::FenceI => execute(bytes, shape, pc, instruction),
-        Op::Ecall => execute(bytes, shape, pc, instruction),
-        Op::Ebreak => execute(bytes, shape, pc, instruction),
-        Op::Mul => execute(bytes, shape, pc, instruction),
-        Op::Mulh => execute(bytes, shape, pc, instruction),
-        Op::Mulhsu => execute(bytes, shape, pc, instruction),
-        Op::Mulhu => execute(bytes, shape, pc, instruction),
-        Op::Div => execute(bytes, shape, pc, instruction),
-        Op::Divu => execute(bytes, shape, pc, instruction),
-        Op::Rem => execute(bytes, shape, pc, instruction),
-        Op::Remu => execute(bytes, shape, pc, instruction),
-        Op::LrW => execute(bytes, shape, pc, instruction),
-        Op::ScW => execute(bytes, shape, pc, instruction),
-        Op::AmoswapW => execute(bytes, shape, pc, instruction),
-        Op::AmoaddW => execute(bytes, shape, pc, instruction),
-        Op::AmoxorW => execute(bytes, shape, pc, instruction),
-        Op::AmoandW => execute(bytes, shape, pc, instruction),
-        Op::AmoorW => execute(bytes, shape, pc, instruction),
-        Op::AmominW => execute(bytes, shape, pc, instruction),
-        Op::AmomaxW => execute(bytes, shape, pc, instruction),
-        Op::AmominuW => execute(bytes, shape, pc, instruction),
-        Op::AmomaxuW => execute(bytes, shape, pc, instruction),
+        Op::Lui => execute::<B, false>(bytes, shape, pc, instruction),
+        Op::Auipc => execute::<B, false>(bytes, shape, pc, instruction),
+        Op::Jal => execute::<B, false>(bytes, shape, pc, instruction),
+        Op::Jalr => execute::<B, false>(bytes, shape, pc, instruction),
+        Op::Beq => execute::<B, false>(bytes, shape, pc, instruction),
+        Op::Bne => execute::<B, false>(bytes, shape, pc, instruction),
+        Op::Blt => execute::<B, false>(bytes, shape, pc, instruction),
+        Op::Bge => execute::<B, false>(bytes, shape, pc, instruction),
+        Op::Bltu => execute::<B, false>(bytes, shape, pc, instruction),
+        Op::Bgeu => execute::<B, false>(bytes, shape, pc, instruction),
+        Op::Lb => execute::<B, false>(bytes, shape, pc, instruction),
+        Op::Lh => execute::<B, false>(bytes, shape, pc, instruction),
+        Op::Lw => execute::<B, false>(bytes, shape, pc, instruction),
+        Op::Lbu => execute::<B, false>(bytes, shape, pc, instruction),
+        Op::Lhu => execute::<B, false>(bytes, shape, pc, instruction),
+        Op::Sb => execute::<B, false>(bytes, shape, pc, instruction),
+        Op::Sh => execute::<B, false>(bytes, shape, pc, instruction),
+        Op::Sw => execute::<B, false>(bytes, shape, pc, instruction),
+        Op::Addi => execute::<B, false>(bytes, shape, pc, instruction),
+        Op::Slti => execute::<B, false>(bytes, shape, pc, instruction),
+        Op::Sltiu => execute::<B, false>(bytes, shape, pc, instruction),
+        Op::Xori => execute::<B, false>(bytes, shape, pc, instruction),
+        Op::Ori => execute::<B, false>(bytes, shape, pc, instruction),
+        Op::Andi => execute::<B, false>(bytes, shape, pc, instruction),
+        Op::Slli => execute::<B, false>(bytes, shape, pc, instruction),
+        Op::Srli => execute::<B, false>(bytes, shape, pc, instruction),
+        Op::Srai => execute::<B, false>(bytes, shape, pc, instruction),
+        Op::Add => execute::<B, false>(bytes, shape, pc, instruction),
+        Op::Sub => execute::<B, false>(bytes, shape, pc, instruction),
+        Op::Sll => execute::<B, false>(bytes, shape, pc, instruction),
+        Op::Slt => execute::<B, false>(bytes, shape, pc, instruction),
+        Op::Sltu => execute::<B, false>(bytes, shape, pc, instruction),
+        Op::Xor => execute::<B, false>(bytes, shape, pc, instruction),
+        Op::Srl => execute::<B, false>(bytes, shape, pc, instruction),
+        Op::Sra => execute::<B, false>(bytes, shape, pc, instruction),
+        Op::Or => execute::<B, false>(bytes, shape, pc, instruction),
+        Op::And => execute::<B, false>(bytes, shape, pc, instruction),
+        Op::Fence => execute::<B, false>(bytes, shape, pc, instruction),
+        Op::FenceI => execute::<B, false>(bytes, shape, pc, instruction),
+        Op::Ecall => execute::<B, false>(bytes, shape, pc, instruction),
+        Op::Ebreak => execute::<B, false>(bytes, shape, pc, instruction),
+        Op::Mul => execute::<B, false>(bytes, shape, pc, instruction),
+        Op::Mulh => execute::<B, false>(bytes, shape, pc, instruction),
+        Op::Mulhsu => execute::<B, false>(bytes, shape, pc, instruction),
+        Op::Mulhu => execute::<B, false>(bytes, shape, pc, instruction),
+        Op::Div => execute::<B, false>(bytes, shape, pc, instruction),
+        Op::Divu => execute::<B, false>(bytes, shape, pc, instruction),
+        Op::Rem => execute::<B, false>(bytes, shape, pc, instruction),
+        Op::Remu => execute::<B, false>(bytes, shape, pc, instruction),
+        Op::LrW => execute::<B, false>(bytes, shape, pc, instruction),
+        Op::ScW => execute::<B, false>(bytes, shape, pc, instruction),
+        Op::AmoswapW => execute::<B, false>(bytes, shape, pc, instruction),
+        Op::AmoaddW => execute::<B, false>(bytes, shape, pc, instruction),
+        Op::AmoxorW => execute::<B, false>(bytes, shape, pc, instruction),
+        Op::AmoandW => execute::<B, false>(bytes, shape, pc, instruction),
+        Op::AmoorW => execute::<B, false>(bytes, shape, pc, instruction),
+        Op::AmominW => execute::<B, false>(bytes, shape, pc, instruction),
+        Op::AmomaxW => execute::<B, false>(bytes, shape, pc, instruction),
+        Op::AmominuW => execute::<B, false>(bytes, shape, pc, instruction),
+        Op::AmomaxuW => execute::<B, false>(bytes, shape, pc, instruction),
     }
 }
 
 /// Carries out the instruction at this pc, as `execute` does, with code of its own for the operations that programs do
-/// most.
+/// most. The registers of the instruction are settled.
 ///
 /// Each arm does the same, as in `execute_specialized`. With many more arms the compiler no longer takes this into the
 /// loop of a trace, which then is slower. The last arm is for none of the operations that `decode_likely` answers, and is
@@ -151,6 +151,7 @@ pub(crate) fn execute_likely<B: Words, K>(
     requires at { AtInstruction (B.face bytes.old) pc }
     requires version { let s = (B.face bytes.old).state in
         IsOfVersion s.shape.version (effect_of (view_of s) instruction) }
+    requires settled { RunsSettled true (B.face bytes.old).marks instruction }
     requires room { 22 ≤ room_of (B.face bytes.old).marks }
     ensures answer { let s = (B.face bytes.old).state in
         result ≡ answer_of (outcome_of_word s.shape (view_of s) (Some instruction)) }
@@ -160,34 +161,34 @@ pub(crate) fn execute_likely<B: Words, K>(
         (outcome_of_word s.shape (view_of s) (Some instruction)) }
 {
     match operation(instruction) {
-        Op::Lui => execute(bytes, shape, pc, instruction),
-        Op::Jal => execute(bytes, shape, pc, instruction),
-        Op::Jalr => execute(bytes, shape, pc, instruction),
-        Op::Beq => execute(bytes, shape, pc, instruction),
-        Op::Bne => execute(bytes, shape, pc, instruction),
-        Op::Blt => execute(bytes, shape, pc, instruction),
-        Op::Bge => execute(bytes, shape, pc, instruction),
-        Op::Bltu => execute(bytes, shape, pc, instruction),
-        Op::Bgeu => execute(bytes, shape, pc, instruction),
-        Op::Lb => execute(bytes, shape, pc, instruction),
-        Op::Lw => execute(bytes, shape, pc, instruction),
-        Op::Lbu => execute(bytes, shape, pc, instruction),
-        Op::Sb => execute(bytes, shape, pc, instruction),
-        Op::Sw => execute(bytes, shape, pc, instruction),
-        Op::Addi => execute(bytes, shape, pc, instruction),
-        Op::Xori => execute(bytes, shape, pc, instruction),
-        Op::Ori => execute(bytes, shape, pc, instruction),
-        Op::Andi => execute(bytes, shape, pc, instruction),
-        Op::Slli => execute(bytes, shape, pc, instruction),
-        Op::Srli => execute(bytes, shape, pc, instruction),
-        Op::Srai => execute(bytes, shape, pc, instruction),
-        Op::Add => execute(bytes, shape, pc, instruction),
-        Op::Sub => execute(bytes, shape, pc, instruction),
-        Op::Sltu => execute(bytes, shape, pc, instruction),
-        Op::Xor => execute(bytes, shape, pc, instruction),
-        Op::Or => execute(bytes, shape, pc, instruction),
-        Op::And => execute(bytes, shape, pc, instruction),
-        Op::Mul => execute(bytes, shape, pc, instruction),
+        Op::Lui => execute::<B, true>(bytes, shape, pc, instruction),
+        Op::Jal => execute::<B, true>(bytes, shape, pc, instruction),
+        Op::Jalr => execute::<B, true>(bytes, shape, pc, instruction),
+        Op::Beq => execute::<B, true>(bytes, shape, pc, instruction),
+        Op::Bne => execute::<B, true>(bytes, shape, pc, instruction),
+        Op::Blt => execute::<B, true>(bytes, shape, pc, instruction),
+        Op::Bge => execute::<B, true>(bytes, shape, pc, instruction),
+        Op::Bltu => execute::<B, true>(bytes, shape, pc, instruction),
+        Op::Bgeu => execute::<B, true>(bytes, shape, pc, instruction),
+        Op::Lb => execute::<B, true>(bytes, shape, pc, instruction),
+        Op::Lw => execute::<B, true>(bytes, shape, pc, instruction),
+        Op::Lbu => execute::<B, true>(bytes, shape, pc, instruction),
+        Op::Sb => execute::<B, true>(bytes, shape, pc, instruction),
+        Op::Sw => execute::<B, true>(bytes, shape, pc, instruction),
+        Op::Addi => execute::<B, true>(bytes, shape, pc, instruction),
+        Op::Xori => execute::<B, true>(bytes, shape, pc, instruction),
+        Op::Ori => execute::<B, true>(bytes, shape, pc, instruction),
+        Op::Andi => execute::<B, true>(bytes, shape, pc, instruction),
+        Op::Slli => execute::<B, true>(bytes, shape, pc, instruction),
+        Op::Srli => execute::<B, true>(bytes, shape, pc, instruction),
+        Op::Srai => execute::<B, true>(bytes, shape, pc, instruction),
+        Op::Add => execute::<B, true>(bytes, shape, pc, instruction),
+        Op::Sub => execute::<B, true>(bytes, shape, pc, instruction),
+        Op::Sltu => execute::<B, true>(bytes, shape, pc, instruction),
+        Op::Xor => execute::<B, true>(bytes, shape, pc, instruction),
+        Op::Or => execute::<B, true>(bytes, shape, pc, instruction),
+        Op::And => execute::<B, true>(bytes, shape, pc, instruction),
+        Op::Mul => execute::<B, true>(bytes, shape, pc, instruction),
         _ => {
             execute_rest(bytes, shape, pc, instruction, rare);
             *rare
@@ -219,7 +220,7 @@ fn execute_rest<B: Words>(
         (operand_places s.shape (view_of s) (Some instruction))
         (outcome_of_word s.shape (view_of s) (Some instruction)) }
 {
-    *rare = execute(bytes, shape, pc, instruction);
+    *rare = execute::<B, false>(bytes, shape, pc, instruction);
 }
 
 /// The operation of an instruction.

@@ -39,17 +39,57 @@ pub fn try_step_of<B: Words, K>(bytes: &mut B, shape: Shape, rare: &mut Stepped)
 {
     // That its state is one, and its marks fit it.
     let _ = bytes.shape();
+    let pc = bytes.peek_pc();
+    if let None = word_fault(shape, pc, FaultKind::Misaligned, FaultKind::FetchOutside) {
+        let place = shape.place_of(pc);
+        if bytes.is_settled(place) {
+            let word = bytes.get_touched(place);
+            return match decode_likely(word) {
+                Some(instruction) => execute_likely::<B, K>(bytes, shape, pc, instruction, rare),
+                None => {
+                    execute_word(bytes, pc, word, rare);
+                    *rare
+                }
+            };
+        }
+    }
+    step_anew(bytes, rare);
+    *rare
+}
+
+/// Takes one step whose word is not known to be settled, and lets it be remembered where the program goes on. It is out of
+/// line, so that a loop has the steps of settled words alone. What it came to is put into `rare`.
+#[cold]
+#[inline(never)]
+fn step_anew<B: Words>(bytes: &mut B, rare: &mut Stepped)
+    requires room { step_room ≤ room_of (B.face bytes.old).marks }
+    ensures { Attempts (B.face bytes.old) (B.face bytes.new) rare.new }
+{
+    let shape = bytes.shape();
+    let pc = bytes.peek_pc();
+    *rare = step_touching(bytes, shape);
+    if let Stepped::Went = *rare {
+        bytes.settle(shape.place_of(pc));
+    }
+}
+
+/// Takes one step, and touches all its places.
+#[inline(always)]
+fn step_touching<B: Words>(bytes: &mut B, shape: Shape) -> Stepped
+    requires shape { shape ≡ (B.face bytes.old).state.shape }
+    requires room { step_room ≤ room_of (B.face bytes.old).marks }
+    ensures { Attempts (B.face bytes.old) (B.face bytes.new) result }
+{
+    // That its state is one, and its marks fit it.
+    let _ = bytes.shape();
     let pc = read_word(bytes, 0);
     if let Some(kind) = word_fault(shape, pc, FaultKind::Misaligned, FaultKind::FetchOutside) {
         return fault(kind, pc, pc);
     }
     let word = read_word(bytes, shape.place_of(pc));
-    match decode_likely(word) {
-        Some(instruction) => execute_likely::<B, K>(bytes, shape, pc, instruction, rare),
-        None => {
-            execute_word(bytes, pc, word, rare);
-            *rare
-        }
+    match decode(word, has_atomics(shape.version())) {
+        Some(instruction) => execute::<B, false>(bytes, shape, pc, instruction),
+        None => fault(FaultKind::Illegal, pc, word),
     }
 }
 
@@ -70,7 +110,7 @@ fn execute_word<B: Words>(bytes: &mut B, pc: u32, word: u32, rare: &mut Stepped)
 {
     let shape = bytes.shape();
     *rare = match decode(word, has_atomics(shape.version())) {
-        Some(instruction) => execute(bytes, shape, pc, instruction),
+        Some(instruction) => execute::<B, false>(bytes, shape, pc, instruction),
         None => fault(FaultKind::Illegal, pc, word),
     };
 }

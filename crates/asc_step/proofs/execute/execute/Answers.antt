@@ -1,3 +1,4 @@
+use Rattle.asc_step.proofs.Settling.{runs_puts, runs_second}
 use Rattle.std.proofs.Common.{arith}
 use Rattle.asc_step.proofs.Touches.{execute_face}
 use Rattle.asc_step.proofs.Rooms.{room_after_register}
@@ -22,3 +23,9 @@ returns-clause-face g c =
     (record { op = e.op; rd = e.rd; rs1 = e.rs1; rs2 = e.rs2; immediate = e.immediate })
     c.requires.at.pc c.register-a.ensures.value c.register-b.ensures.value c.register-a.ensures.face c.register-b.ensures.face
     c.effect_of-effect.ensures c.finish.ensures.face
+
+pub register-b-requires-clause-settled : goal.register-b-requires-clause-settled
+register-b-requires-clause-settled g c = runs_second _ _ _ c.args.instruction _ _ c.register-a.ensures.face c.split-op.ensures.rs2 c.requires.settled
+
+pub finish-requires-clause-settled : goal.finish-requires-clause-settled
+finish-requires-clause-settled g c = runs_puts _ _ _ _ c.args.instruction _ _ _ c.register-a.ensures.face c.register-b.ensures.face c.split-op.ensures.rd c.requires.settled

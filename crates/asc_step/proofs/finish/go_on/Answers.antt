@@ -1,3 +1,4 @@
+use Rattle.asc_step.proofs.Settling.{puts_settled-puts}
 use Rattle.std.proofs.Common.{[], ◌∷◌, arith}
 use Rattle.asc_model.specs.Machine.{Pc, Register}
 use Rattle.asc_model.specs.Arithmetic.{◌+w◌}
@@ -14,3 +15,6 @@ set_register-requires-clause-length g c = omega (arith, length_puts _ _ (Pc (c.a
 pub returns : goal.returns
 returns g c =
     puts_then _ _ _ (Pc (c.args.pc +w 4) ∷ []) (Register c.args.rd c.args.value ∷ []) c.set_pc.ensures c.set_register.ensures
+
+pub set_register-requires-clause-settled : goal.set_register-requires-clause-settled
+set_register-requires-clause-settled g c told = (puts_settled-puts _ _ _ c.args.rd (Pc (c.args.pc +w 4) ∷ []) c.set_pc.ensures c.requires.settled told).1

@@ -1,3 +1,4 @@
+use Rattle.asc_step.proofs.Settling.{puts_settled-puts}
 use Rattle.std.proofs.Common.{[], ◌∷◌, arith, refl, sym, ◌∙◌}
 use Rattle.asc_model.specs.Machine.{Pc, Register}
 use Rattle.asc_model.specs.Arithmetic.{◌+w◌}
@@ -18,3 +19,6 @@ pub returns : goal.returns
 returns g c =
     finishes_jump _ _ _ _ c.requires.at _ _ (sym c.is_aligned.ensures ∙ c.if-not-is_aligned.false)
     (puts_then _ _ _ (Pc c.args.target ∷ []) (Register c.args.rd (c.args.pc +w 4) ∷ []) c.set_pc.ensures c.set_register.ensures) refl
+
+pub set_register-requires-clause-settled : goal.set_register-requires-clause-settled
+set_register-requires-clause-settled g c told = (puts_settled-puts _ _ _ c.args.rd (Pc c.args.target ∷ []) c.set_pc.ensures c.requires.settled told).1

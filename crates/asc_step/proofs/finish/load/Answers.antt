@@ -1,3 +1,4 @@
+use Rattle.asc_step.proofs.Settling.{puts_settled-reads}
 use Rattle.std.proofs.Common.{[], ◌∷◌, subst, refl, arith}
 use Rattle.asc_model.specs.Machine.{Pc, Register}
 use Rattle.asc_model.specs.Arithmetic.{◌+w◌}
@@ -24,3 +25,6 @@ returns g c =
     (tested _ _ _ _ _ _ _ c.holds.ensures c.requires.shape c.bytes.ensures c.if-not-holds.false)
     (placed _ _ _ _ c.place_of.ensures c.requires.shape) c.read_number-number.ensures.value c.read_number-number.ensures.face
     (subst (λ v. Puts f1 f2 (Pc (c.args.pc +w 4) ∷ Register c.args.rd v ∷ [])) c.loaded_word.ensures c.go_on.ensures) refl
+
+pub go_on-requires-clause-settled : goal.go_on-requires-clause-settled
+go_on-requires-clause-settled g c = puts_settled-reads _ _ _ c.args.rd _ c.read_number-number.ensures.face c.requires.settled

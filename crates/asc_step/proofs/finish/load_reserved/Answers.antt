@@ -1,3 +1,4 @@
+use Rattle.asc_step.proofs.Settling.{puts_settled-reads}
 use Rattle.std.proofs.Common.{[], ◌∷◌, arith, refl, ap, length}
 use Rattle.asc_model.specs.State.{State}
 use Rattle.asc_model.specs.Machine.{Pc, Register, reserve}
@@ -36,3 +37,6 @@ returns g c =
     (faulted _ _ LoadOutside _ _ c.in_default.ensures c.requires.shape) (placed _ _ _ _ c.place_of.ensures c.requires.shape)
     c.read_word-old.ensures.value c.read_word-old.ensures.face
     (puts_then _ _ _ list (reserve c.args.address ∷ []) c.go_on.ensures c.reserve.ensures) refl
+
+pub go_on-requires-clause-settled : goal.go_on-requires-clause-settled
+go_on-requires-clause-settled g c = puts_settled-reads _ _ _ c.args.rd _ c.read_word-old.ensures.face c.requires.settled

@@ -1,3 +1,4 @@
+use Rattle.asc_step.proofs.Settling.{puts_settled-reads}
 use Rattle.std.proofs.Common.{[], ◌∷◌, arith, refl, ap, sym, ◌∙◌, length, subst}
 use Rattle.asc_model.specs.State.{State}
 use Rattle.asc_model.specs.Number.{bytes_of}
@@ -48,3 +49,6 @@ returns g c =
     (faulted _ _ StoreOutside _ _ c.in_default.ensures shape) (placed _ _ _ _ c.place_of-place.ensures shape)
     c.read_word-old.ensures.value c.read_word-old.ensures.face
     (puts_then _ _ _ list (Memory c.args.address (bytes_of 4 (changed c.args.amo old c.args.value)) ∷ []) c.go_on.ensures stored) refl
+
+pub go_on-requires-clause-settled : goal.go_on-requires-clause-settled
+go_on-requires-clause-settled g c = puts_settled-reads _ _ _ c.args.rd _ c.read_word-old.ensures.face c.requires.settled

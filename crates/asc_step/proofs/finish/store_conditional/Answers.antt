@@ -1,3 +1,4 @@
+use Rattle.asc_step.proofs.Settling.{puts_settled-reads}
 use Rattle.std.proofs.Common.{[], ◌∷◌, ◌++◌, arith, refl, ap, sym, ◌∙◌, length, subst, true, false, not}
 use Rattle.asc_model.specs.State.{State}
 use Rattle.asc_model.specs.Number.{bytes_of}
@@ -77,3 +78,6 @@ returns-else-reserved g c =
     (faulted _ _ StoreOutside _ _ c.in_default.ensures c.requires.shape)
     (sym c.if-reserved.false ∙ c.is_reserved-reserved.ensures.value) c.is_reserved-reserved.ensures.face
     (puts_then _ _ _ list (release ∷ []) answered c.release.ensures) refl
+
+pub go_on-requires-clause-settled : goal.go_on-requires-clause-settled
+go_on-requires-clause-settled g c = puts_settled-reads _ _ _ c.args.rd _ c.is_reserved-reserved.ensures.face c.requires.settled
