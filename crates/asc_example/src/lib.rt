@@ -123,4 +123,11 @@ impl Bytes for Counted {
 }
 
 /// Its words are put byte by byte, and so are counted.
-impl Words for Counted {}
+impl Words for Counted {
+    #[inline]
+    fn peek_pc(&self) -> u32 {
+        // That it is a state, with a byte at each place.
+        let _ = self.state.shape();
+        self.state.word(0)
+    }
+}
