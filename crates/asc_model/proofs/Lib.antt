@@ -13,3 +13,4 @@ pub mod Entries
 pub mod Reaches
 pub mod Computing
 pub mod Shapes
+pub mod Registers

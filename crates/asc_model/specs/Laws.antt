@@ -5,11 +5,11 @@ use Rattle.asc_model.specs.declared.fault.Fault.{Fault}
 use Rattle.asc_model.specs.Shape.{Shape}
 use Rattle.asc_model.specs.State.{State, IsState}
 use Rattle.asc_model.specs.Machine.{Machine, IsMachine, view_of, state_of}
-use Rattle.asc_model.specs.Step.{At, Call, Bad, next}
+use Rattle.asc_model.specs.Step.{At, Call, Bad, fetch, next}
 use Rattle.asc_model.specs.Instruction.{Row, fits, operands, table, decode}
 use Rattle.asc_model.specs.Places.{places_read, places_written, writes, bytes_after}
 use Rattle.asc_model.specs.Plain.{plain}
-use Rattle.asc_model.specs.DependencyVector.{first_reads, written_in}
+use Rattle.asc_model.specs.DependencyVector.{is_among, first_reads, written_in}
 use Rattle.asc_model.specs.Entry.{Entry, IsTrueEntry, entry_of}
 use Rattle.asc_model.specs.declared.why.Why.{Why}
 use Rattle.asc_model.specs.Reach.{Bounds, IsReach, reach_of}
@@ -82,6 +82,23 @@ pub record DecodesByRows (version : Version) : Type 0 where
 
 abbrev pub DecodeIsTheTable : Type 0
 DecodeIsTheTable = (version : Version) → DecodesByRows version
+
+-- ---- registers
+
+-- Two lists have the same places of the pc and of registers.
+abbrev pub HaveSameRegisters : List ℕ → List ℕ → Type 0
+HaveSameRegisters a b = (place : ℕ) → place < 128 → is_among place a ≡ is_among place b
+
+pub record RegistersAlike (s t : State) : Type 0 where
+  pub read : HaveSameRegisters (places_read s) (places_read t)
+  pub written : HaveSameRegisters (places_written s) (places_written t)
+
+-- Which registers a step reads and writes depends on its fetched word alone, where it goes on: it is the same in two
+-- states of one version whose steps fetch the same word.
+abbrev pub RegistersFollowWords : Type 0
+RegistersFollowWords = (s t after other : State) → t.shape.version ≡ s.shape.version
+    → fetch t.shape (view_of t) ≡ fetch s.shape (view_of s) → next s ≡ At after → next t ≡ At other
+    → RegistersAlike s t
 
 -- ---- frames
 

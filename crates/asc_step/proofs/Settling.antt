@@ -337,9 +337,11 @@ pub runs_fetched : (f f2 : Face) (shape : Shape) (place word : ℕ) (i : Instr) 
     → f2 ≡ face_after_reads f (places_from place 4) → Some i ≡ decode shape.version word → RunsSettled true f2.marks i
 runs_fetched f f2 shape place word i same settled read e2 decoded told =
     let later : IsSettled f2 place = subst (λ (face : Face). IsSettled face place) (sym e2) (settled-reads f (places_from place 4) place settled) in
-    let state : f2.state ≡ f.state = ap (λ (face : Face). face.state) e2 ∙ state-reads f (places_from place 4) in
-    (later.pc, later.registers i (ap (λ (s : State). decode s.shape.version (word_at s.bytes place)) state ∙ ap (λ (x : Shape). decode x.version (word_at f.state.bytes place)) (sym same)
-    ∙ ap (decode shape.version) (sym read) ∙ sym decoded))
+    let state : f2.state ≡ f.state = ap (λ (face : Face). face.state) e2 ∙ state-reads f (places_from place 4) in (
+      later.pc,
+      later.registers i (ap (λ (s : State). decode s.shape.version (word_at s.bytes place)) state ∙ ap (λ (x : Shape). decode x.version (word_at f.state.bytes place)) (sym same)
+          ∙ ap (decode shape.version) (sym read) ∙ sym decoded),
+    )
 
 -- the pc of a settled word is read by no touch
 pub settled_pc : (f : Face) (place : ℕ) → IsSettled f place → f ≡ face_after_reads f (places_from 0 4)

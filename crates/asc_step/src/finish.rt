@@ -169,7 +169,13 @@ fn atomic_fault(shape: Shape, address: u32, outside: FaultKind) -> Option<FaultK
 }
 
 #[inline(always)]
-fn load_reserved<B: Words, const SETTLED: bool>(bytes: &mut B, shape: Shape, pc: u32, rd: u8, address: u32) -> Stepped
+fn load_reserved<B: Words, const SETTLED: bool>(
+    bytes: &mut B,
+    shape: Shape,
+    pc: u32,
+    rd: u8,
+    address: u32,
+) -> Stepped
     requires shape { shape ≡ (B.face bytes.old).state.shape }
     requires rd { rd < 32 }
     requires at { AtInstruction (B.face bytes.old) pc }
