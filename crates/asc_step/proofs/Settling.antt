@@ -24,6 +24,7 @@ use Rattle.asc_model.specs.Step.{Outcome, Goes, Calls, Fails, fault_outcome, is_
 use Rattle.asc_model.specs.Places.{places_from, register_places, data_places, operand_places, places_read, cells_of, cells_of_outcome, writes}
 use Rattle.asc_model.proofs.Changes.{holds-parts}
 use Rattle.asc_model.proofs.Numbers.{length-bytes_after}
+use Rattle.asc_model.proofs.Registers.{StoresNone, decoded-StoresNone}
 use Rattle.asc_model.proofs.Steps.{by_branch}
 use Rattle.asc_model.proofs.Touches.{state-TouchesPlaces}
 use Rattle.asc_model.proofs.Views.{view_of-fetch, view_of-pc}
@@ -36,98 +37,6 @@ use Rattle.asc_step.specs.declared.stepped.Stepped.TheVariants as answers
 use Rattle.asc_step.specs.Step.{Attempts, face_after}
 use Rattle.asc_step.specs.Execute.{Puts, PutsSettled, RunsSettled, answer_of}
 use Rattle.asc_step.proofs.Steps.{fetch_fault, fetched_tests, outcome-fetched, outcome-unfetched, places_read-fetched, stepped_of-next}
-
--- ---- stores have no destination
-
-abbrev is_store : Op → Bool
-is_store Sb = true
-is_store Sh = true
-is_store Sw = true
-is_store op = false
-
-abbrev has_no_destination : Format → Bool
-has_no_destination S = true
-has_no_destination B = true
-has_no_destination Plain = true
-has_no_destination U = false
-has_no_destination J = false
-has_no_destination I = false
-has_no_destination Shift = false
-has_no_destination R = false
-
-abbrev stores_fit : List Row → Bool
-stores_fit [] = true
-stores_fit (row ∷ rows) = (not (is_store row.op) || has_no_destination row.format) && stores_fit rows
-
-table-stores_fit : (version : Version) → stores_fit (table version) ≡ true
-table-stores_fit One = refl
-table-stores_fit Two = refl
-
-clash : (b : Bool) → (not b || false) ≡ true → b ≡ true → ⊥
-clash true h e = false≢true h
-clash false h e = false≢true e
-
-operands-store : (op : Op) (word : ℕ) (format : Format) → (not (is_store op) || has_no_destination format) ≡ true → is_store op ≡ true → rd_of (operands format op word) ≡ 0
-operands-store op word S h e = refl
-operands-store op word B h e = refl
-operands-store op word Plain h e = refl
-operands-store op word U h e = absurd (clash (is_store op) h e)
-operands-store op word J h e = absurd (clash (is_store op) h e)
-operands-store op word I h e = absurd (clash (is_store op) h e)
-operands-store op word Shift h e = absurd (clash (is_store op) h e)
-operands-store op word R h e = absurd (clash (is_store op) h e)
-
-operands-op : (op : Op) (word : ℕ) (format : Format) → op_of (operands format op word) ≡ op
-operands-op op word S = refl
-operands-op op word B = refl
-operands-op op word Plain = refl
-operands-op op word U = refl
-operands-op op word J = refl
-operands-op op word I = refl
-operands-op op word Shift = refl
-operands-op op word R = refl
-
-abbrev IfStores : Option Instr → Type 0
-IfStores None = Unit {0}
-IfStores (Some i) = is_store (op_of i) ≡ true → rd_of i ≡ 0
-
-find-IfStores : (rows : List Row) (word : ℕ) → stores_fit rows ≡ true → IfStores (find rows word)
-find-IfStores [] word h = tt
-find-IfStores (row ∷ rows) word h =
-    let both = and_parts (not (is_store row.op) || has_no_destination row.format) (stores_fit rows) h in
-    by_branch IfStores (fits row.key word) (Some (operands row.format row.op word)) (find rows word)
-    (λ e store. operands-store row.op word row.format both.0 (sym (ap is_store (operands-op row.op word row.format)) ∙ store)) (λ e. find-IfStores rows word both.1)
-
-decode-IfStores : (version : Version) (word : ℕ) → IfStores (decode version word)
-unfolding decode
-decode-IfStores version word = find-IfStores (table version) word (table-stores_fit version)
-
-abbrev StoresNone : Effect → ℕ → Type 0
-StoresNone (Store n address value) rd = rd ≡ 0
-StoresNone (Set value) rd = Unit {0}
-StoresNone (Load n signed address) rd = Unit {0}
-StoresNone (Jump target) rd = Unit {0}
-StoresNone (LoadReserved address) rd = Unit {0}
-StoresNone (StoreConditional address value) rd = Unit {0}
-StoresNone (Modify address change) rd = Unit {0}
-StoresNone GuestCall rd = Unit {0}
-StoresNone Breakpoint rd = Unit {0}
-
-branch-StoresNone : (test : Bool) (target rd : ℕ) → StoresNone (branch test target) rd
-branch-StoresNone true target rd = tt
-branch-StoresNone false target rd = tt
-
-effect-StoresNone : (op : Op) (pc a b i rd : ℕ) → (is_store op ≡ true → rd ≡ 0) → StoresNone (effect op pc a b i) rd
-effect-StoresNone Beq pc a b i rd h = branch-StoresNone (a == b) (pc +w i) rd
-effect-StoresNone Bne pc a b i rd h = branch-StoresNone (not (a == b)) (pc +w i) rd
-effect-StoresNone Blt pc a b i rd h = branch-StoresNone (int_lt (signed a) (signed b)) (pc +w i) rd
-effect-StoresNone Bge pc a b i rd h = branch-StoresNone (not (int_lt (signed a) (signed b))) (pc +w i) rd
-effect-StoresNone Bltu pc a b i rd h = branch-StoresNone (nat_lt a b) (pc +w i) rd
-effect-StoresNone Bgeu pc a b i rd h = branch-StoresNone (not (nat_lt a b)) (pc +w i) rd
-effect-StoresNone Sb pc a b i rd h = h refl
-effect-StoresNone Sh pc a b i rd h = h refl
-effect-StoresNone Sw pc a b i rd h = h refl
-effect-StoresNone _ pc a b i rd h = tt
 
 -- ---- what an outcome writes
 
@@ -199,8 +108,7 @@ outcome_of-both shape m rd Breakpoint h = tt
 -- of a decoded word
 decoded-both : (shape : Shape) (m : Machine) (version : Version) (word : ℕ) (i : Instr) → decode version word ≡ Some i → WritesBoth shape (rd_of i) (outcome_of shape m (rd_of i) (effect_of m i))
 decoded-both shape m version word i e =
-    outcome_of-both shape m (rd_of i) (effect_of m i)
-    (effect-StoresNone (op_of i) m.pc (register m (rs1_of i)) (register m (rs2_of i)) (imm_of i) (rd_of i) (subst IfStores e (decode-IfStores version word)))
+    outcome_of-both shape m (rd_of i) (effect_of m i) (decoded-StoresNone m version word i e)
 
 went≢ : (fault : Fault) → answers.Fault fault ≡ answers.Went → ⊥
 went≢ fault e = absurd (cc)

@@ -67,7 +67,8 @@ fn step_anew<B: Words>(bytes: &mut B, rare: &mut Stepped)
 {
     let shape = bytes.shape();
     let pc = bytes.peek_pc();
-    *rare = step_touching(bytes, shape);
+    let stepped = step_touching(bytes, shape, rare);
+    *rare = stepped;
     if let Stepped::Went = *rare {
         bytes.settle(shape.place_of(pc));
     }
@@ -75,7 +76,7 @@ fn step_anew<B: Words>(bytes: &mut B, rare: &mut Stepped)
 
 /// Takes one step, and touches all its places.
 #[inline(always)]
-fn step_touching<B: Words>(bytes: &mut B, shape: Shape) -> Stepped
+fn step_touching<B: Words>(bytes: &mut B, shape: Shape, rare: &mut Stepped) -> Stepped
     requires shape { shape ≡ (B.face bytes.old).state.shape }
     requires room { step_room ≤ room_of (B.face bytes.old).marks }
     ensures { Attempts (B.face bytes.old) (B.face bytes.new) result }
@@ -87,9 +88,12 @@ fn step_touching<B: Words>(bytes: &mut B, shape: Shape) -> Stepped
         return fault(kind, pc, pc);
     }
     let word = read_word(bytes, shape.place_of(pc));
-    match decode(word, has_atomics(shape.version())) {
+    match decode_likely(word) {
         Some(instruction) => execute::<B, false>(bytes, shape, pc, instruction),
-        None => fault(FaultKind::Illegal, pc, word),
+        None => {
+            execute_word(bytes, pc, word, rare);
+            *rare
+        }
     }
 }
 
