@@ -1,6 +1,6 @@
 -- Lemmas on pages.
-use Rattle.std.proofs.Common.{nat_lt, cond, ◌≡◌, inl, inr, ℕ, zero, suc, ◌+◌, ◌*◌, ◌-◌, ◌/◌, ◌%◌, ◌≤◌, ◌<◌, Bool, true, false, Option, None, Some, List, [], ◌∷◌, ◌++◌, length, take, drop, replicate, refl, sym, ap, ◌∙◌, arith, max, min, subst, slice_index, slice_index_or, length-append, length-take}
-use Rattle.std.proofs.lemmas.List.{get_or_past, get_or_append_left, get_or-append_right, get_or-replicate, get_or-drop, get_or-take, length-replicate}
+use Rattle.std.proofs.Common.{nat_lt, cond, ◌≡◌, inl, inr, ℕ, zero, suc, ◌+◌, ◌*◌, ◌-◌, ◌/◌, ◌%◌, ◌≤◌, ◌<◌, Bool, true, false, Option, None, Some, List, [], ◌∷◌, ◌++◌, length, take, replicate, refl, sym, ap, ◌∙◌, arith, max, min, subst, slice_index, slice_index_or, length-append, length-take}
+use Rattle.std.proofs.lemmas.List.{get_or_past, get_or_append_left, get_or-append_right, get_or-replicate, get_or-take, length-replicate}
 use Rattle.std.specs.Global.{Vec}
 use Rattle.std.proofs.lemmas.List.FromFn.{length-map-range_with_len, get_or-map-range_with_len}
 use Rattle.std.proofs.lemmas.Bool.{cases_lt}
@@ -135,15 +135,17 @@ zeros-at n k = elim (cases_lt k n) [
   | inr past ↦ get_or_past (replicate n 0) k 0 (omega (arith, length-replicate {A = ℕ} n 0))
 ]
 
--- bytes over the first zeros of a page
-pub written_over : (page bytes new : List ℕ) (n k : ℕ) → page ≡ replicate 1024 0 → n ≡ min (length bytes) 1024 → k ≡ n → new ≡ take k bytes → (i : ℕ) → i < 1024
-    → slice_index (new ++ drop k page) i ≡ slice_index bytes i
-written_over page bytes new n k blank least same is i within =
-    let size : length new ≡ k = ap (λ (l : List ℕ). length l) is ∙ (let e : length (take k bytes) ≡ k = omega (arith, length-take k bytes) in e) in
-    elim (cases_lt i k) [
-      | inl below ↦ get_or_append_left new (drop k page) 0 i (omega arith) ∙ ap (λ (l : List ℕ). slice_index l i) is ∙ get_or-take k bytes i 0 below
-      | inr above ↦ get_or-append_right new (drop k page) k i 0 size above ∙ get_or-drop k page (i - k) 0
-          ∙ ap (λ (l : List ℕ). slice_index l (k + (i - k))) blank ∙ zeros-at 1024 (k + (i - k)) ∙ sym (get_or_past bytes i 0 (omega arith))
+-- bytes over the first ones of a page, and zeros over the others
+pub written_over : (bytes new zeros rest behind : List ℕ) (n k m : ℕ) → n ≡ min (length bytes) 1024 → k ≡ n → new ≡ take k bytes → length zeros ≡ 1024 - n → zeros ≡ replicate m 0 → (i : ℕ) → i < 1024
+    → slice_index (take n (new ++ rest) ++ (zeros ++ behind)) i ≡ slice_index bytes i
+written_over bytes new zeros rest behind n k m least same is count blank i within =
+    let size : length new ≡ n = ap (λ (l : List ℕ). length l) is ∙ (let e : length (take k bytes) ≡ n = omega (arith, length-take k bytes) in e) in
+    let first : length (take n (new ++ rest)) ≡ n = omega (arith, length-take n (new ++ rest), length-append new rest) in
+    elim (cases_lt i n) [
+      | inl below ↦ get_or_append_left (take n (new ++ rest)) (zeros ++ behind) 0 i (omega arith) ∙ get_or-take n (new ++ rest) i 0 below ∙ get_or_append_left new rest 0 i (omega arith)
+          ∙ ap (λ (l : List ℕ). slice_index l i) is ∙ get_or-take k bytes i 0 (omega arith)
+      | inr above ↦ get_or-append_right (take n (new ++ rest)) (zeros ++ behind) n i 0 first above ∙ get_or_append_left zeros behind 0 (i - n) (omega arith)
+          ∙ ap (λ (l : List ℕ). slice_index l (i - n)) blank ∙ zeros-at m (i - n) ∙ sym (get_or_past bytes i 0 (omega arith))
     ]
 
 -- no groups have no bytes

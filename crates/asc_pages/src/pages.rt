@@ -1,11 +1,12 @@
-ghost use Rattle.std.specs.Prelude.{◌≡◌, ◌+◌, ◌*◌, ◌/◌, ◌%◌, ◌^◌, ◌<◌, ◌≤◌, ℕ, [], max, min, false, IfOk, None, length, replicate, slice_index, slice_index_or};
+ghost use Rattle.std.specs.Prelude.{◌≡◌, ◌⊎◌, ◌+◌, ◌*◌, ◌/◌, ◌%◌, ◌^◌, ◌<◌, ◌≤◌, ℕ, [], max, min, false, IfOk, MatchResult, None, length, slice_index, slice_index_or};
 ghost use Rattle.asc_model.specs.Number.{word_at};
-ghost use Rattle.asc_pages.specs.Pages.{IsPage, ArePages, AreGroups, KeptPages, KeptGroups, Keeps, Tells, IsShared, base_bytes, behind_in, group_in, held, number_in, page_bytes, page_in, position_in};
+ghost use Rattle.asc_pages.specs.Pages.{IsPage, ArePages, AreGroups, KeptPages, KeptGroups, Keeps, Tells, IsShared, base_bytes, behind_in, bytes_in, group_in, held, number_in, page_bytes, page_in, position_in};
 
 use crate::Marks;
 use asc_outside::Memory;
 use std::alloc::Global;
 use std::marker::Model;
+use std::mem;
 use std::sync::Arc;
 
 /// How many places a page has.
@@ -64,17 +65,8 @@ impl Pages {
     pub fn none(alloc: Global) -> Result<Pages, Memory>
         ensures { IfOk result (λ pages. pages ≡ []) }
     {
-        let groups = Groups {
-            list: Vec::new(alloc),
-            low: 0,
-            gap: 0,
-        };
-        let top = Top {
-            first: Vec::new(alloc),
-            groups,
-        };
         Ok(Pages {
-            top: Arc::new(alloc, top)?,
+            top: Arc::new(alloc, blank_top(alloc))?,
         })
     }
 
@@ -128,11 +120,63 @@ impl Pages {
         requires kept { Keeps changed.now self.now bytes.now }
         ensures { IfOk result (λ pages. Tells pages bytes.now) }
     {
-        let first = pages_of(alloc, bytes, changed, &self.top.first, 0)?;
-        let groups = groups_of(alloc, bytes, changed, &self.top.groups)?;
+        let top = top_of(alloc, bytes, changed, &self.top, blank_top(alloc))?;
         Ok(Pages {
-            top: Arc::new(alloc, Top { first, groups })?,
+            top: Arc::new(alloc, top)?,
         })
+    }
+
+    /// Makes these the pages of bytes, as `of` does. What they were is of no account, but memory that nobody else has is
+    /// used again. Where memory is wanting they stay, or are all blank.
+    #[inline]
+    pub fn renew(
+        &mut self,
+        alloc: Global,
+        bytes: &[u8],
+        changed: &Marks,
+        base: &Option<Pages>,
+    ) -> Result<(), Memory>
+        requires most { length bytes.now < 2 ^ 32 }
+        requires marks { length changed.now ≡ length bytes.now / 1024 + 1 }
+        requires kept { Keeps changed.now (base_bytes base.now) bytes.now }
+        ensures { MatchResult result (λ _. Tells self.new bytes.now)
+            (λ _. (self.new ≡ self.old) ⊎ (self.new ≡ [])) }
+    {
+        match base {
+            Some(base) if !changed.is_clear() => self.write(alloc, bytes, changed, base),
+            _ => {
+                *self = Pages::of(alloc, bytes, changed, base)?;
+                Ok(())
+            }
+        }
+    }
+
+    // The same, where a page is marked and there is a base.
+    #[inline(never)]
+    fn write(
+        &mut self,
+        alloc: Global,
+        bytes: &[u8],
+        changed: &Marks,
+        base: &Pages,
+    ) -> Result<(), Memory>
+        requires most { length bytes.now < 2 ^ 32 }
+        requires marks { length changed.now ≡ length bytes.now / 1024 + 1 }
+        requires kept { Keeps changed.now base.now bytes.now }
+        ensures { MatchResult result (λ _. Tells self.new bytes.now)
+            (λ _. (self.new ≡ self.old) ⊎ (self.new ≡ [])) }
+    {
+        match Arc::get_mut(&mut self.top) {
+            Some(top) => {
+                let spare = mem::replace(top, blank_top(alloc));
+                *top = top_of(alloc, bytes, changed, &base.top, spare)?;
+                Ok(())
+            }
+            None => {
+                *self = base.copied(alloc, bytes, changed)?;
+                Ok(())
+            }
+        }
     }
 
     /// The word at a place that is a multiple of 4.
@@ -315,9 +359,65 @@ fn number(low: usize, gap: usize, k: usize) -> usize
     if k < low { k } else { k + gap }
 }
 
-// The groups of bytes behind the first one.
+// No page at all. It takes no memory.
 #[inline]
-fn groups_of(alloc: Global, bytes: &[u8], changed: &Marks, kept: &Groups) -> Result<Groups, Memory>
+fn blank_top(alloc: Global) -> Top
+    ensures { bytes_in result.first.items result.groups.list.items result.groups.low result.groups.gap ≡ [] }
+{
+    let groups = Groups {
+        list: Vec::new(alloc),
+        low: 0,
+        gap: 0,
+    };
+    Top {
+        first: Vec::new(alloc),
+        groups,
+    }
+}
+
+// The pages of bytes, in the memory of a spare top.
+#[inline]
+fn top_of(
+    alloc: Global,
+    bytes: &[u8],
+    changed: &Marks,
+    kept: &Top,
+    spare: Top,
+) -> Result<Top, Memory>
+    requires most { length bytes.now < 2 ^ 32 }
+    requires marks { length changed.now ≡ length bytes.now / 1024 + 1 }
+    requires first { KeptPages changed.now bytes.now 0 kept.now.first.items }
+    requires groups { KeptGroups changed.now bytes.now kept.now.groups.list.items kept.now.groups.low kept.now.groups.gap }
+    ensures { IfOk result (λ top. Tells (bytes_in top.first.items top.groups.list.items top.groups.low top.groups.gap) bytes.now) }
+{
+    let Top { first, groups } = spare;
+    let first = pages_of(alloc, bytes, changed, &kept.first, 0, first)?;
+    let groups = groups_of(alloc, bytes, changed, &kept.groups, groups)?;
+    Ok(Top { first, groups })
+}
+
+// A list of so many parts, in the memory of another one. What they are is of no account.
+#[inline]
+fn sized<T: Drop>(
+    mut parts: Vec<Option<Arc<T>>>,
+    size: usize,
+) -> Result<Vec<Option<Arc<T>>>, Memory>
+    ensures { IfOk result (λ parts. length parts.items ≡ size) }
+{
+    parts.reserve_exact(size.saturating_sub(parts.len()))?;
+    parts.resize_with(size, || None)?;
+    Ok(parts)
+}
+
+// The groups of bytes behind the first one, in the memory of spare ones.
+#[inline]
+fn groups_of(
+    alloc: Global,
+    bytes: &[u8],
+    changed: &Marks,
+    kept: &Groups,
+    spare: Groups,
+) -> Result<Groups, Memory>
     requires most { length bytes.now < 2 ^ 32 }
     requires marks { length changed.now ≡ length bytes.now / 1024 + 1 }
     requires kept { KeptGroups changed.now bytes.now kept.now.list.items kept.now.low kept.now.gap }
@@ -326,10 +426,18 @@ fn groups_of(alloc: Global, bytes: &[u8], changed: &Marks, kept: &Groups) -> Res
     let count = (changed.len() - 1) / GROUP;
     let (low, end) = common(changed.free_groups(), blank_run(kept), count);
     let used = low + (count - end);
-    let mut list = Vec::with_capacity(alloc, used)?;
+    let mut list = sized(spare.list, used)?;
     for k in 0..used {
         let h = number(low, end - low, k);
-        list.push_reserved(group_of(alloc, bytes, changed, &kept.list, position(kept, h), h + 1)?);
+        put_group(
+            alloc,
+            bytes,
+            changed,
+            &kept.list,
+            position(kept, h),
+            h + 1,
+            &mut list[k],
+        )?;
     }
     Ok(Groups {
         list,
@@ -338,30 +446,63 @@ fn groups_of(alloc: Global, bytes: &[u8], changed: &Marks, kept: &Groups) -> Res
     })
 }
 
-// Group g of bytes: part k of those that are kept, shared, where no page of it is changed.
+// Puts group g of bytes in the place of another one: part k of those that are kept, shared, where no page of it is
+// changed.
 #[inline]
-fn group_of(
+fn put_group(
     alloc: Global,
     bytes: &[u8],
     changed: &Marks,
     kept: &[Group],
     k: usize,
     g: usize,
-) -> Result<Group, Memory>
+    group: &mut Group,
+) -> Result<(), Memory>
     requires most { length bytes.now < 2 ^ 32 }
     requires marks { length changed.now ≡ length bytes.now / 1024 + 1 }
     requires group { 32 * g < length changed.now }
     requires kept { KeptPages changed.now bytes.now (32 * g) (held (slice_index_or kept.now k None)) }
-    ensures { IfOk result (λ group. ArePages bytes.now (32 * g) (held group)) }
+    ensures { IfOk result (λ _. ArePages bytes.now (32 * g) (held group.new)) }
 {
     if changed.used_pages(g) == 0 {
-        return share_part(kept, k);
+        *group = share_part(kept, k)?;
+        Ok(())
+    } else {
+        write_group(alloc, bytes, changed, group_at(kept, k), g, group)
     }
-    let pages = pages_of(alloc, bytes, changed, group_at(kept, k), g)?;
-    Ok(Some(Arc::new(alloc, pages)?))
 }
 
-// The pages of group g of bytes: copies of those that are changed, and the others of those that are kept, shared.
+// Writes group g of bytes, of which those of `kept` are kept, over another one where that is nobody else's, and else puts
+// it in its place.
+#[inline]
+fn write_group(
+    alloc: Global,
+    bytes: &[u8],
+    changed: &Marks,
+    kept: &[Page],
+    g: usize,
+    group: &mut Group,
+) -> Result<(), Memory>
+    requires most { length bytes.now < 2 ^ 32 }
+    requires marks { length changed.now ≡ length bytes.now / 1024 + 1 }
+    requires group { 32 * g < length changed.now }
+    requires kept { KeptPages changed.now bytes.now (32 * g) kept.now }
+    ensures { IfOk result (λ _. ArePages bytes.now (32 * g) (held group.new)) }
+{
+    if let Some(part) = group {
+        if let Some(pages) = Arc::get_mut(part) {
+            let spare = mem::replace(pages, Vec::new(alloc));
+            *pages = pages_of(alloc, bytes, changed, kept, g, spare)?;
+            return Ok(());
+        }
+    }
+    let pages = pages_of(alloc, bytes, changed, kept, g, Vec::new(alloc))?;
+    *group = Some(Arc::new(alloc, pages)?);
+    Ok(())
+}
+
+// The pages of group g of bytes, in the memory of spare ones: copies of those that are changed, and the others of those that
+// are kept, shared.
 #[inline(never)]
 fn pages_of(
     alloc: Global,
@@ -369,6 +510,7 @@ fn pages_of(
     changed: &Marks,
     kept: &[Page],
     g: usize,
+    spare: Vec<Page>,
 ) -> Result<Vec<Page>, Memory>
     requires most { length bytes.now < 2 ^ 32 }
     requires marks { length changed.now ≡ length bytes.now / 1024 + 1 }
@@ -378,39 +520,67 @@ fn pages_of(
 {
     let (from, to) = part_ends(g, changed.len());
     let used = used_of(changed.used_pages(g), kept.len(), to - from);
-    let mut pages = Vec::with_capacity(alloc, used)?;
-    for p in from..from + used {
-        pages.push_reserved(page_of(alloc, bytes, p, changed.is_marked(p), kept, p - from)?);
+    let mut pages = sized(spare, used)?;
+    for k in 0..used {
+        put_page(
+            alloc,
+            bytes,
+            from + k,
+            changed.is_marked(from + k),
+            kept,
+            k,
+            &mut pages[k],
+        )?;
     }
     Ok(pages)
 }
 
-// Page p of bytes: a copy where it is changed, and else page k of those that are kept, shared.
+// Puts page p of bytes in the place of another one: a copy where it is changed, and else page k of those that are kept,
+// shared.
 #[inline]
-fn page_of(
+fn put_page(
     alloc: Global,
     bytes: &[u8],
     p: usize,
     changed: bool,
     kept: &[Page],
     k: usize,
-) -> Result<Page, Memory>
+    page: &mut Page,
+) -> Result<(), Memory>
     requires length { length bytes.now < 2 ^ 32 }
     requires page { p < length bytes.now / 1024 + 1 }
     requires kept { changed ≡ false → IsPage bytes.now p (page_in kept.now k) }
-    ensures { IfOk result (λ page. IsPage bytes.now p (page_bytes page)) }
+    ensures { IfOk result (λ _. IsPage bytes.now p (page_bytes page.new)) }
 {
     if changed {
-        return Ok(Some(copy_of(alloc, &bytes[p * PAGE..])?));
+        copy_to(alloc, &bytes[p * PAGE..], page)
+    } else {
+        *page = share_part(kept, k)?;
+        Ok(())
     }
-    share_part(kept, k)
+}
+
+// Puts a page of the first bytes of a list, and of zeros behind those that there are, in the place of another one, or over
+// it where that is nobody else's.
+//
+// It stands out of the loop over a group's pages, which then keeps what it has in registers.
+#[inline(never)]
+fn copy_to(alloc: Global, bytes: &[u8], page: &mut Page) -> Result<(), Memory>
+    ensures { IfOk result (λ _. (i : ℕ) → i < 1024 → slice_index (page_bytes page.new) i ≡ slice_index bytes.now i) }
+{
+    if let Some(part) = page {
+        if let Some(old) = Arc::get_mut(part) {
+            write_over(old, bytes);
+            return Ok(());
+        }
+    }
+    *page = Some(copy_of(alloc, bytes)?);
+    Ok(())
 }
 
 // A page of the first bytes of a list, and zeros behind those that there are.
 //
-// It stands out of the loop over a group's pages, which then keeps what it has in registers. The bytes are written into
-// the page where it lies: one that is made first is copied twice.
-#[inline(never)]
+// The bytes are written into the page where it lies: one that is made first is copied twice.
 fn copy_of(alloc: Global, bytes: &[u8]) -> Result<Arc<[u8; PAGE]>, Memory>
     ensures { IfOk result (λ page. (i : ℕ) → i < 1024 → slice_index page.value i ≡ slice_index bytes.now i) }
 {
@@ -423,12 +593,12 @@ fn copy_of(alloc: Global, bytes: &[u8]) -> Result<Arc<[u8; PAGE]>, Memory>
     Ok(page)
 }
 
-// Writes the first bytes of a list over a page of zeros.
+// Writes the first bytes of a list over a page, and zeros behind those that there are.
 #[inline]
 fn write_over(page: &mut [u8; PAGE], bytes: &[u8])
-    requires { page.old ≡ replicate 1024 0 }
     ensures { (i : ℕ) → i < 1024 → slice_index page.new i ≡ slice_index bytes.now i }
 {
     let len = bytes.len().min(PAGE);
     page[0..len].copy_from_slice(&bytes[0..len]);
+    page[len..PAGE].fill(0);
 }

@@ -33,6 +33,85 @@ fn pages_of(alloc: Global, len: usize) -> Option<Pages> {
     Pages::of(alloc, &bytes, &marks, &None).ok()
 }
 
+// Pages over others that are longer or shorter, and shared or not, and the others where they are shared.
+#[test]
+fn pages_over_others(rt: HostRuntime) {
+    for (len, old) in [(1024, 33_000), (33_000, 1025), (70_000, 70_001)] {
+        for is_shared in [false, true] {
+            let spare = pages_of(rt.alloc(), old).expect(&rt, "memory");
+            let other = if is_shared { spare.share().ok() } else { None };
+            let pages = over(rt.alloc(), spare, len).expect(&rt, "memory");
+            assert!(rt; has_bytes(&pages, len, 5), "{len} over {old}");
+            if let Some(other) = other {
+                assert!(rt; has_bytes(&other, old, 7), "{old} under {len}");
+            }
+        }
+    }
+}
+
+// Pages over some that share all but one with others, which stay.
+#[test]
+fn pages_over_shared_ones(rt: HostRuntime) {
+    for len in [5000, 70_000] {
+        let (first, second) = sharing(rt.alloc(), len).expect(&rt, "memory");
+        assert!(rt; has_bytes(&second, len, 7), "{len}");
+        let pages = over(rt.alloc(), second, len).expect(&rt, "memory");
+        assert!(rt;
+            has_bytes(&pages, len, 5) && has_bytes(&first, len, 7),
+            "{len}"
+        );
+    }
+}
+
+// Pages of which all but one are those of others, and these.
+fn sharing(alloc: Global, len: usize) -> Option<(Pages, Pages)> {
+    if len < 1024 || len >= 1 << 20 {
+        return None;
+    }
+    let mut bytes = vec![in alloc; 7; len].ok()?;
+    bytes[len - 1] = 9;
+    let mut marks = Marks::new(alloc, len / PAGE + 1).ok()?;
+    marks.mark_all();
+    let first = Pages::of(alloc, &bytes, &marks, &None).ok()?;
+    let base = Some(first.share().ok()?);
+    marks.clear();
+    marks.mark(1);
+    if bytes.len() >= 1 << 20 || marks.len() != bytes.len() / PAGE + 1 {
+        return None;
+    }
+    let second = Pages::of(alloc, &bytes, &marks, &base).ok()?;
+    Some((first, second))
+}
+
+// Pages of bytes of which the last one is 9 and the others are 5, in the memory of spare ones.
+fn over(alloc: Global, spare: Pages, len: usize) -> Option<Pages> {
+    if len == 0 || len >= 1 << 20 {
+        return None;
+    }
+    let mut bytes = vec![in alloc; 5; len].ok()?;
+    bytes[len - 1] = 9;
+    let mut marks = Marks::new(alloc, len / PAGE + 1).ok()?;
+    marks.mark_all();
+    let base = Some(Pages::none(alloc).ok()?);
+    let mut pages = spare;
+    if marks.len() != bytes.len() / PAGE + 1 {
+        return None;
+    }
+    pages.renew(alloc, &bytes, &marks, &base).ok()?;
+    Some(pages)
+}
+
+// Whether pages have so many bytes, of which the last one is 9 and the others are this one.
+fn has_bytes(pages: &Pages, len: usize, byte: u8) -> bool {
+    for place in 0..len {
+        let wanted = if len - place == 1 { 9 } else { byte };
+        if pages.page(place / PAGE).get(place % PAGE) != Some(&wanted) {
+            return false;
+        }
+    }
+    true
+}
+
 #[test]
 fn no_pages(rt: HostRuntime) {
     let pages = Pages::none(rt.alloc()).expect(&rt, "memory");

@@ -1,11 +1,7 @@
-use Rattle.std.proofs.Common.{◌∙◌, [], List, Option, ap}
+use Rattle.std.proofs.Common.{◌∙◌, ap}
 use Rattle.asc_pages.specs.declared.pages.Top.{Top}
-use Rattle.asc_pages.specs.Pages.{Page, Group, bytes_in}
-use Rattle.asc_pages.proofs.Copies.{bytes_of_none}
+use Rattle.asc_pages.specs.Pages.{bytes_in}
 use Rattle.asc_pages.proofs.pages.Pages.none.Goals as goal
 
 pub returns : goal.returns
-returns c =
-    ap (λ (t : Top). bytes_in t.first.items t.groups.list.items t.groups.low t.groups.gap) c.in_ok-new.ensures.ok
-    ∙ ap (λ (l : List (Option Page)). bytes_in l c.new.result.items 0 0) c.new-2.ensures.items
-    ∙ ap (λ (l : List (Option Group)). bytes_in [] l 0 0) c.new.ensures.items ∙ bytes_of_none
+returns c = ap (λ (t : Top). bytes_in t.first.items t.groups.list.items t.groups.low t.groups.gap) c.in_ok-new.ensures.ok ∙ c.blank_top.ensures
