@@ -139,14 +139,15 @@ fn copies(alloc: Global, state: &State, rounds: u64) -> Option<u64> {
     Some(copy.len() as u64)
 }
 
-/// Changes, and copies of what changed. Two are kept.
+/// Changes, and copies of what changed, each in the memory of the one before the last. Two are kept.
 fn freezes(alloc: Global, state: &mut State, pages: Pages, rounds: u64) -> Option<u64> {
     let mut last = state.freeze(alloc).ok()?;
     let mut prev = Arc::try_clone(&last).ok()?;
     for round in 0..rounds {
         change(state, pages, round);
+        let next = state.freeze_over(alloc, Some(prev)).ok()?;
         prev = last;
-        last = state.freeze(alloc).ok()?;
+        last = next;
     }
     let _ = (prev, last);
     Some(rounds)

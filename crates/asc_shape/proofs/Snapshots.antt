@@ -1,11 +1,11 @@
 -- Lemmas on what a snapshot has.
-use Rattle.std.proofs.Common.{◌≡◌, ℕ, ◌+◌, ◌*◌, ◌/◌, ◌%◌, ◌<◌, ◌≤◌, true, false, cond, nat_lt, List, [], ◌++◌, ◌-◌, length, length-append, length-drop, replicate, take, drop, sym, ap, ◌∙◌, inl, inr, arith, slice_index}
+use Rattle.std.proofs.Common.{◌≡◌, ◌⊎◌, subst, ℕ, ◌+◌, ◌*◌, ◌/◌, ◌%◌, ◌<◌, ◌≤◌, true, false, cond, nat_lt, List, [], ◌++◌, ◌-◌, length, length-append, length-drop, replicate, take, drop, sym, ap, ◌∙◌, inl, inr, arith, slice_index}
 use Rattle.std.proofs.lemmas.Bool.{cases_lt}
 use Rattle.std.proofs.lemmas.Bool.Decides.{nat_tests}
 use Rattle.std.proofs.lemmas.List.{ext_get_or, get_or_past, get_or-take, get_or-drop, get_or-replicate, length-replicate, get_or_append_left, get_or-append_right}
 use Rattle.std.proofs.lemmas.List.FromFn.{length-map-range_with_len, get_or-map-range_with_len}
 use Rattle.asc_model.specs.Shape.{Shape, IsShape, length_of}
-use Rattle.asc_model.specs.State.{State}
+use Rattle.asc_model.specs.State.{State, IsState}
 use Rattle.asc_model.specs.Number.{word_at, bytes_of}
 use Rattle.asc_pages.specs.Pages.{Tells}
 use Rattle.asc_shape.specs.Frozen.{frozen, frozen_byte}
@@ -52,6 +52,26 @@ frozen_zeros n pages none =
       | inr above ↦ pages-frozen n (replicate 136 0) pages i within above ∙ ap (λ (l : List ℕ). slice_index l i) none ∙ get_or_past [] i 0 (omega arith)
           ∙ sym (get_or-replicate n i 0 0 within)
     ])
+
+-- a state of the same front whose pages are those or none
+pub frozen_left : (shape : Shape) (front old new : List ℕ) → IsState (record { shape = shape; bytes = frozen (length_of shape) front old }) → (new ≡ old) ⊎ (new ≡ [])
+    → IsState (record { shape = shape; bytes = frozen (length_of shape) front new })
+frozen_left shape front old new so (inl same) = subst (λ (pages : List ℕ). IsState (record { shape = shape; bytes = frozen (length_of shape) front pages })) (sym same) so
+frozen_left shape front old new so (inr none) =
+    let n = length_of shape in
+    record {
+      shape = so.shape;
+      length = length-frozen n front new;
+      bytes = λ i. elim (cases_lt i n) [
+        | inl within ↦ elim (cases_lt i 136) [
+          | inl below ↦ let one = front-frozen n front new i within below in let other = front-frozen n front old i within below in let was = so.bytes i in omega (arith, one, other, was)
+          | inr above ↦
+              let one = pages-frozen n front new i within above ∙ ap (λ (l : List ℕ). slice_index l i) none ∙ get_or_past [] i 0 (omega arith) in
+              omega (arith, one)
+        ]
+        | inr past ↦ let one = get_or_past (frozen n front new) i 0 (omega (arith, length-frozen n front new)) in omega (arith, one)
+      ];
+    }
 
 -- the fields of a snapshot and the state that it is
 pub front_tells : (s : State) (shape : Shape) (front pages : List ℕ) → record { shape = shape; bytes = frozen (length_of shape) front pages } ≡ s → (i : ℕ) → i < length_of shape → i < 136

@@ -43,7 +43,7 @@ impl Snapshot {
     pub fn of(alloc: Global, state: &State) -> Result<Arc<Snapshot>, Memory>
         ensures { IfOk result (λ s. s.value ≡ state.now) }
     {
-        state.snapshot(alloc)
+        state.snapshot(alloc, None)
     }
 
     /// The state of this shape whose bytes are all 0. It has no pages.
@@ -63,7 +63,8 @@ impl Snapshot {
         )?)
     }
 
-    /// The state of these bytes. Pages that are not changed are shared with the base.
+    /// The state of these bytes. Pages that are not changed are shared with the base. The memory of a spare copy that has
+    /// this shape and is nobody else's is used again.
     #[inline]
     pub(crate) fn made(
         alloc: Global,
@@ -71,12 +72,21 @@ impl Snapshot {
         bytes: &[u8],
         changed: &Marks,
         base: &Option<Pages>,
+        spare: Option<Arc<Snapshot>>,
     ) -> Result<Arc<Snapshot>, Memory>
         requires length { length bytes.now ≡ length_of shape }
         requires marks { length changed.now ≡ length_of shape / 1024 + 1 }
         requires kept { Keeps changed.now (base_bytes base.now) bytes.now }
         ensures { IfOk result (λ s. s.value ≡ record { shape = shape; bytes = bytes.now }) }
     {
+        if let Some(mut spare) = spare {
+            if let Some(old) = Arc::get_mut(&mut spare) {
+                if old.shape() == shape {
+                    old.renew(alloc, bytes, changed, base)?;
+                    return Ok(spare);
+                }
+            }
+        }
         let _ = shape.base();
         elements_are_bytes(bytes);
         let pages = Pages::of(alloc, bytes, changed, base)?;
@@ -91,7 +101,29 @@ impl Snapshot {
         )?)
     }
 
+    // Makes this the state of these bytes, as `made` makes it. Where memory is wanting it is some state.
+    #[inline]
+    fn renew(
+        &mut self,
+        alloc: Global,
+        bytes: &[u8],
+        changed: &Marks,
+        base: &Option<Pages>,
+    ) -> Result<(), Memory>
+        requires length { length bytes.now ≡ length_of self.old.shape }
+        requires marks { length changed.now ≡ length_of self.old.shape / 1024 + 1 }
+        requires kept { Keeps changed.now (base_bytes base.now) bytes.now }
+        ensures { IfOk result (λ _. self.new ≡ record self.old { bytes = bytes.now }) }
+    {
+        let _ = self.shape.base();
+        elements_are_bytes(bytes);
+        self.pages.renew(alloc, bytes, changed, base)?;
+        self.front = *front_of(bytes);
+        Ok(())
+    }
+
     /// The shape. A caller's proof learns from it that this is a state.
+    #[inline]
     pub fn shape(&self) -> Shape
         ensures shape { result ≡ self.now.shape }
         ensures state { IsState self.now }

@@ -293,11 +293,24 @@ impl State {
         self.base = None;
     }
 
-    /// A copy of this state, which costs what changed since the base.
-    pub(crate) fn snapshot(&self, alloc: Global) -> Result<Arc<Snapshot>, Memory>
+    /// A copy of this state, which costs what changed since the base, in the memory of another one as far as nobody else
+    /// has that.
+    #[inline]
+    pub(crate) fn snapshot(
+        &self,
+        alloc: Global,
+        spare: Option<Arc<Snapshot>>,
+    ) -> Result<Arc<Snapshot>, Memory>
         ensures { IfOk result (λ s. s.value ≡ self.now) }
     {
-        Snapshot::made(alloc, self.shape, &self.bytes, &self.changed, &self.base)
+        Snapshot::made(
+            alloc,
+            self.shape,
+            &self.bytes,
+            &self.changed,
+            &self.base,
+            spare,
+        )
     }
 
     /// A copy of this state, which stays. It costs what changed since the last one that was made so; after `new` and
@@ -306,7 +319,19 @@ impl State {
         ensures stays { self.new ≡ self.old }
         ensures frozen { IfOk result (λ s. s.value ≡ self.old) }
     {
-        let snapshot = self.snapshot(alloc)?;
+        self.freeze_over(alloc, None)
+    }
+
+    /// The same, in the memory of another copy as far as nobody else has that.
+    pub fn freeze_over(
+        &mut self,
+        alloc: Global,
+        spare: Option<Arc<Snapshot>>,
+    ) -> Result<Arc<Snapshot>, Memory>
+        ensures stays { self.new ≡ self.old }
+        ensures frozen { IfOk result (λ s. s.value ≡ self.old) }
+    {
+        let snapshot = self.snapshot(alloc, spare)?;
         if !self.changed.is_clear() {
             let base = snapshot.pages().share()?;
             self.base = Some(base);
