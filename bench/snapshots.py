@@ -12,7 +12,7 @@ the pc and a byte in each of 1, 4 and 16 places 16 KiB apart changed, for a gues
 state, and for `fill` after one byte changed.
 
 Instructions are of memory of 64 KiB, 1 MiB and 64 MiB of which 4, 64 or 480 KiB are used: for a freeze after the pc
-changed, and after a byte of one page changed too, each with letting go of the copy before; and for `fill`. What the
+changed, and after a byte of one page changed too, each in the memory of the copy before the last; and for `fill`. What the
 changes cost is taken off. The last column is a byte in the first page and one in the last. Below stands what a word of
 a guess costs, of one copy and of two, with some 11 of the loop around it.
 """
