@@ -6,11 +6,11 @@ use Rattle.std.proofs.lemmas.Bool.{eqb-true, cases_eq}
 use Rattle.std.proofs.lemmas.List.Elements.{filter-append}
 use Rattle.std.proofs.Math.ListN.{length-set}
 use Rattle.crossbeam_queue.specs.Fifo.{Pushes, Pops, Forks, Merges, Learns}
-use Rattle.crossbeam_queue.proofs.Lists.{at_set, at_snoc}
+use Rattle.crossbeam_queue.proofs.Lists.{at_longer, at_set, at_snoc, set_here, set_else}
 use Rattle.asc_jobs.specs.declared.job.Job.{Job}
 use Rattle.asc_jobs.specs.declared.hand.Hand.{Hand}
 use Rattle.asc_jobs.specs.Hands.{first_hand, new_hand, spent_hand, one_part_more, pushed_by, popped_by, merge_jobs, join_hands}
-use Rattle.asc_jobs.specs.JobRule.{all_parts, CountUp, taken_by, AreOwned, KnowsPushed, Knows, JobRule}
+use Rattle.asc_jobs.specs.JobRule.{all_parts, CountUp, taken_by, AreOwned, KnowsPushed, Knows, IsThere, JobRule}
 use Rattle.asc_jobs.specs.Jobs.{HasAllParts}
 use Rattle.asc_jobs.proofs.Lists.{Each, each, agree, numbered_range, numbered_front, numbered_next, numbered_more, merged, parts_set, parts_more, alone, within, view_at, owned_by, owned_more, whole}
 
@@ -29,6 +29,14 @@ only zero v at = subst (Knows 0 [] 1 (λ k. 0) [] 0) (some-injective _ v at) (re
 })
 only (suc n) v at = absurd (some-ne-none v (sym at))
 
+-- the giver's pass gives still, where a pass gives as before
+stays : (views : List Hand) (giver pass : ℕ) (old new : Hand) → get_elem? views pass ≡ some old → new.gives ≡ old.gives → IsThere views giver → IsThere (set views pass new) giver
+stays [] giver pass old new at same there = absurd (some-ne-none there.0 (sym there.1))
+stays (x ∷ xs) zero zero old new at same there = (new, refl, same ∙ ap (λ (v : Hand). v.gives) (sym (some-injective x old at) ∙ some-injective x there.0 there.1) ∙ there.2)
+stays (x ∷ xs) zero (suc pass) old new at same there = there
+stays (x ∷ xs) (suc giver) zero old new at same there = there
+stays (x ∷ xs) (suc giver) (suc pass) old new at same there = stays xs giver pass old new at same there
+
 -- the queue is opened
 pub begins : JobRule [] (first_hand ∷ [])
 begins = record {
@@ -43,6 +51,7 @@ begins = record {
   owned = tt;
   parts = omega arith;
   known = only;
+  there = (first_hand, refl, refl);
 }
 
 -- a push lands
@@ -76,6 +85,7 @@ pushes n pass v x gives ticket few items views room h at =
               popped = o.popped;
               idle = o.idle;
             });
+        there = stays views h.giver pass v w at refl h.there;
       },
       refl,
     )
@@ -146,6 +156,7 @@ pops pass v part x items views h at =
         known = at_changed (Knows h.giver h.jobs h.opened owner taken) views pass w
             (record { pushed = fit.pushed; popped = ap (λ l. l ++ x ∷ []) fit.popped ∙ sym (taken_mine h.owner pass h.taken x old); idle = λ none. absurd (omega (arith, none, part)) })
             (λ j u other there. let o = h.known j u there in record { pushed = o.pushed; popped = o.popped ∙ sym (taken_other h.owner pass j h.taken x old other); idle = o.idle });
+        there = stays views h.giver pass v w at refl h.there;
       },
       (refl, small_ticket),
     )
@@ -194,6 +205,7 @@ forks pass v gives new items views h at =
       owned = subst (AreOwned (length (vs ++ new_hand ∷ [])) h.owner) (sym empty) tt;
       parts = omega (arith, parts_more vs new_hand, parts_set views pass v l at, h.parts);
       known = λ j u there. ⊎_elim (λ x. old j u x) (λ (is : new_hand ≡ u). subst (F j) is (fresh j)) (at_snoc vs new_hand u j there);
+      there = let g = stays views h.giver pass v l at refl h.there in (g.0, at_longer vs (new_hand ∷ []) h.giver g.0 g.1, g.2);
     }
 
 -- who owns what, once a pass has taken another in
@@ -233,6 +245,19 @@ other_giver : (giver pass other j : ℕ) (jobs : List Job) (opened : ℕ) (b : B
     → KnowsPushed giver jobs opened other b pw ow → KnowsPushed giver jobs opened j c pu ou → KnowsPushed (cond b pass giver) jobs opened j c pu ou
 other_giver giver pass other j jobs opened true pw ow c pu ou apart g f = record { own = λ e. absurd (apart ((f.own e).0 ∙ sym (g.own refl).0)); none = f.none }
 other_giver giver pass other j jobs opened false pw ow c pu ou apart g f = f
+
+-- the giver's pass gives still, or the one that took it in
+joined_there : (views : List Hand) (giver pass other : ℕ) (v w : Hand) → get_elem? views pass ≡ some v → get_elem? views other ≡ some w → ¬ (other ≡ pass) → IsThere views giver → (b : Bool) → w.gives ≡ b
+    → IsThere (set (set views pass (join_hands v w)) other spent_hand) (cond b pass giver)
+joined_there views giver pass other v w at was apart there true does = (
+  join_hands v w,
+  set_else (set views pass (join_hands v w)) other pass spent_hand (λ e. apart (sym e)) ∙ set_here views pass (join_hands v w) (within views pass v at),
+  sym (or-true v.gives w.gives does),
+)
+joined_there views giver pass other v w at was apart there false isnt =
+    let g = stays views giver pass v (join_hands v w) at (sym (or-false v.gives w.gives isnt)) there in
+    let is_other : giver ≡ other → ⊥ = λ e. true≢false (sym there.2 ∙ ap (λ (u : Hand). u.gives) (some-injective there.0 w (sym there.1 ∙ ap (get_elem? views) e ∙ was)) ∙ isnt) in
+    (g.0, set_else (set views pass (join_hands v w)) other giver spent_hand is_other ∙ g.1, g.2)
 
 -- a pass takes in another
 pub merges : (pass : ℕ) (v : Hand) (other : ℕ) (w : Hand) → 0 < v.parts → Merges JobRule pass v other w (join_hands v w) spent_hand
@@ -289,4 +314,5 @@ merges pass v other w part items views h at apart at' =
             idle = o.idle;
           })
           j u there two);
+      there = joined_there views h.giver pass other v w at was apart h.there w.gives refl;
     }

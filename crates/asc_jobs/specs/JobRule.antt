@@ -24,8 +24,8 @@ abbrev pub all_parts : List Hand → ℕ
 all_parts [] = 0
 all_parts (v ∷ vs) = v.parts + all_parts vs
 
--- There is at most one giver: no pass but its own gives. It knows which jobs were pushed and in how many parts the queue
--- was opened; every other knows nothing of these.
+-- No pass but the giver's gives. It knows which jobs were pushed and in how many parts the queue was opened; every other
+-- knows nothing of these.
 pub record KnowsPushed (giver : ℕ) (jobs : List Job) (opened : ℕ) (pass : ℕ) (gives : Bool) (pushed : List Job) (told : ℕ) : Type 0 where
   pub own : gives ≡ true → (pass ≡ giver) × (pushed ≡ jobs) × (told ≡ opened)
   pub none : gives ≡ false → (pushed ≡ []) × (told ≡ 0)
@@ -36,8 +36,13 @@ pub record Knows (giver : ℕ) (jobs : List Job) (opened : ℕ) (owner : ℕ →
   pub popped : v.popped ≡ taken_by owner pass taken
   pub idle : v.parts ≡ 0 → v.popped ≡ []
 
+-- the pass of this number gives
+abbrev pub IsThere : (hands : List Hand) → (pass : ℕ) → Type 0
+IsThere hands pass = (v : Hand) × (get_elem? hands pass ≡ some v) × (v.gives ≡ true)
+
 -- The jobs pushed so far are those taken and then those that the queue holds, at most 2^61. Their tickets count up from 0.
--- Each job taken is one pass's, and stands in that pass's list alone, once. At most one pass gives.
+-- Each job taken is one pass's, and stands in that pass's list alone, once. There is one giver: the pass of this number
+-- gives, and no other does.
 pub record JobRule (items : List Job) (hands : List Hand) : Type 0 where
   pub jobs : List Job
   pub taken : List Job
@@ -50,3 +55,4 @@ pub record JobRule (items : List Job) (hands : List Hand) : Type 0 where
   pub owned : AreOwned (length hands) owner taken
   pub parts : all_parts hands ≡ opened
   pub known : (pass : ℕ) (v : Hand) → get_elem? hands pass ≡ some v → Knows giver jobs opened owner taken pass v
+  pub there : IsThere hands giver
