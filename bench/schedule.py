@@ -1,12 +1,13 @@
 #!/usr/bin/env python3
 """Reckons what workers gain, by the order in which visits, jobs and jumps come. It runs no asc, and needs none.
 
-    python3 bench/schedule.py [--visits N] [--ahead A] [--right SHARE] [--job R..] [--most W]
+    python3 bench/schedule.py [--visits N] [--ahead A] [--right SHARE] [--job R..] [--most W] [--queue Q]
 
 Time goes in laps of a plain run. A walk makes N visits. At each it offers a job for the visit A later, if there is room
-in a queue of 2W. A worker takes the oldest job, and its entry is there R laps later, give or take a twentieth. Where
+in a queue of Q, or 2W. A worker takes the oldest job, and its entry is there R laps later, give or take a twentieth. Where
 the entry of a visit is there, and right, the walk is at the next visit at once, and else a lap later. For each R and W
-are printed, once where jobs are offered at each visit, and once at a share of the visits, as `Pace` of asc_live does:
+are printed, once where the jobs for all visits are offered, and once where those of the workers' share are, as `Share` of
+asc_live says:
 
     the gain over a plain run, and its part of 1 + W * SHARE / R
     how many jobs were pushed, and how many visits the walk jumped from
@@ -18,43 +19,21 @@ import argparse
 import random
 
 
-class Always:
-    """Jobs are offered at each visit."""
-
-    def offers(self):
-        return True
-
-    def note(self, pushed):
-        pass
+def every(workers, visit):
+    """The jobs for all visits are offered."""
+    return True
 
 
-class Pace:
-    """Jobs are offered at a share of the visits: crates/asc_live/src/pace.rt."""
-
-    def __init__(self):
-        self.visits, self.taken, self.credit = 32, 16, 0
-
-    def offers(self):
-        whole = 8 * self.visits
-        self.credit += 9 * self.taken
-        if self.credit < whole:
-            return False
-        self.credit = min(self.credit - whole, whole)
-        return True
-
-    def note(self, pushed):
-        self.visits += 1
-        self.taken += pushed
-        if self.visits >= 64:
-            self.visits, self.taken, self.credit = self.visits // 2, (self.taken + 1) // 2, self.credit // 2
-        self.taken = max(self.taken, self.visits // 4)
+def share(workers, visit):
+    """One visit in each row of W + 1 is left to the walk: crates/asc_live/src/share.rt."""
+    return workers > 0 and visit % (workers + 1) != 1
 
 
 class Crew:
     """A queue and the workers that take jobs from it."""
 
-    def __init__(self, workers, job, right, chance):
-        self.room, self.job, self.right, self.chance = 2 * workers, job, right, chance
+    def __init__(self, workers, room, job, right, chance):
+        self.room, self.job, self.right, self.chance = room, job, right, chance
         self.free = [0.0] * workers
         self.queue, self.pushed, self.entries = [], 0, {}
 
@@ -81,15 +60,16 @@ class Crew:
         return True
 
 
-def walk(crew, pace, visits, ahead):
+def walk(crew, offers, visits, ahead):
     """How long a walk takes, and from how many visits it jumps."""
     now, jumps, issued = 0.0, 0, 0
     for visit in range(1, visits + 1):
         crew.work(now)
         if visit > 1:
-            offered = crew.pushed < crew.room or pace.offers()
-            due = range(max(issued, visit) + 1, visit + ahead + 1) if offered else ()
-            pace.note(sum([crew.push(later, now) for later in due]) > 0)
+            filled = crew.pushed >= crew.room
+            for later in range(max(issued, visit) + 1, visit + ahead + 1):
+                if not filled or offers(len(crew.free), later):
+                    crew.push(later, now)
             issued = visit + ahead
         if crew.entries.get(visit, now + 1) <= now:
             jumps += 1
@@ -105,14 +85,15 @@ def main():
     parser.add_argument("--right", type=float, default=1.0, metavar="SHARE", help="how many guesses are right (1)")
     parser.add_argument("--job", type=float, nargs="+", default=[1.5, 1.8, 2.2], metavar="R", help="laps a job takes")
     parser.add_argument("--most", type=int, default=3, help="the most workers (3)")
+    parser.add_argument("--queue", type=int, metavar="Q", help="how many jobs the queue holds (2W)")
     asked = parser.parse_args()
-    print(f"{'R':>4} {'W':>3}   {'at each visit':30}   {'at a share of them':30}")
+    print(f"{'R':>4} {'W':>3}   {'for all visits':30}   {'for the share':30}")
     for job in asked.job:
         for workers in range(1, asked.most + 1):
             cells = []
-            for pace in (Always(), Pace()):
-                crew = Crew(workers, job, asked.right, random.Random(1))
-                time, jumps = walk(crew, pace, asked.visits, asked.ahead)
+            for offers in (every, share):
+                crew = Crew(workers, asked.queue or 2 * workers, job, asked.right, random.Random(1))
+                time, jumps = walk(crew, offers, asked.visits, asked.ahead)
                 gain = asked.visits / time
                 part = gain / (1 + workers * asked.right / job)
                 cells.append(f"{gain:5.2f} {part:5.2f}  {crew.pushed:5} pushed {jumps:5} jumps")

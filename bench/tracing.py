@@ -16,7 +16,8 @@ of a trace of all steps, and for `start` of a tracer of a state of 1 MiB.
 With --count it prints the processor's instructions, as `valgrind --tool=callgrind` counts them and independent of load,
 and STEPS is 200,000 where it is not given: for a step of a `State` by `step_many`, and of a trace; and with traces of 1000
 steps how many places they touch, and what they cost more a touched place for the first touch with `reset`, and for
-`Entry::of`. Long fills of the C library are counted as wide writes, and not byte by byte.
+`Entry::of`. Behind these stands what `matches` takes a read place of such an entry, and `put` a written one. Of the memory
+480 KiB are used. Long fills of the C library are counted as wide writes, and not byte by byte.
 """
 
 import os
@@ -94,7 +95,9 @@ fn measured(alloc: Global, which: u64, what: u64, rounds: u64, span: u64) -> Opt
     if span == 0 || !walk(&mut state, 20) {{
         return None;
     }}
-    if what != 0 {{
+    if what > 4 {{
+        entries(alloc, &mut state, what == 5, rounds, span)
+    }} else if what != 0 {{
         traces(alloc, &state, what, rounds, span)
     }} else if walk(&mut state, span) {{
         Some(0)
@@ -112,6 +115,12 @@ fn looping(alloc: Global, which: u64) -> Option<State> {{
         }}
         state.write(at, &word.to_le_bytes());
         at = at.wrapping_add(4);
+    }}
+    for page in 0..480u32 {{
+        let at = 0x40000 + 1024 * page;
+        if state.holds(at, 1) {{
+            state.write(at, &[7]);
+        }}
     }}
     state.set_pc(0x10000);
     Some(state)
@@ -157,6 +166,43 @@ fn traces(alloc: Global, state: &State, what: u64, rounds: u64, span: u64) -> Op
         }}
     }}
     Some(touched)
+}}
+
+/// Rounds of the entry of a trace: it is compared with the state that it was traced from, or put into it. The number is
+/// that of the places which it reads, or writes, where all its parts are words.
+fn entries(alloc: Global, state: &mut State, compares: bool, rounds: u64, span: u64) -> Option<usize>
+    requires {{ 1 ≤ span }}
+{{
+    let entry = traced_entry(alloc, state, span)?;
+    let parts = if compares {{ entry.reads().len() }} else {{ entry.writes().len() }};
+    for _ in 0..rounds {{
+        if compares {{
+            if !entry.matches(state) {{
+                return None;
+            }}
+        }} else if entry.shape() == state.shape() {{
+            entry.put(state);
+        }}
+    }}
+    parts.checked_mul(4)
+}}
+
+fn traced_entry(alloc: Global, state: &State, span: u64) -> Option<Arc<Entry>>
+    requires {{ 1 ≤ span }}
+{{
+    let mut tracer = Tracer::new(alloc, state.shape(), 65_536).ok()?;
+    let snapshot = Snapshot::of(alloc, state).ok()?;
+    tracer.start(started(&snapshot, 2)?);
+    let stop = Stop {{
+        pc: 1,
+        laps: 1,
+        span,
+    }};
+    let steps = trace(&mut tracer, &stop, &mut Never).steps;
+    if steps != span {{
+        return None;
+    }}
+    Entry::of(alloc, &mut tracer, steps).ok()
 }}
 
 fn started(snapshot: &Arc<Snapshot>, what: u64) -> Option<Guess>
@@ -253,7 +299,7 @@ def build(folder):
 # ---------------------------------------------------------------------------------------------------------------------
 # Measuring
 
-PLAIN, RESET, START, ENTRY, STRIDE = range(5)
+PLAIN, RESET, START, ENTRY, STRIDE, COMPARE, PUT = range(7)
 SPAN = 1000
 
 def seconds(command):
@@ -282,6 +328,11 @@ def measure(path, names, cost, steps):
             return all_of_it - cost(words(loop, what, 1, 1))[0], int(shown)
         yield name, taken(PLAIN, 1, steps)[0], taken(RESET, 1, steps)[0], taken
 
+def alone(taken, what, rounds):
+    """What one round costs a place, once the entry is made."""
+    cost, places = taken(what, rounds + 1, SPAN)
+    return (cost - taken(what, 1, SPAN)[0]) / rounds / places
+
 def main():
     given = [word for word in sys.argv[1:] if word != "--count"]
     count = "--count" in sys.argv[1:]
@@ -290,15 +341,17 @@ def main():
     with tempfile.TemporaryDirectory() as folder:
         path, names = build(folder)
         if count:
-            print("          plain  traced   ratio  places  first and reset  Entry::of  first and start  of two")
+            print("          plain  traced   ratio  places  first and reset  Entry::of  first and start  of two  matches  put")
             for name, plain, traced, taken in measure(path, names, instructions, steps):
                 reset, places = taken(RESET, rounds, SPAN)
                 entry = taken(ENTRY, rounds, SPAN)[0]
                 start = taken(START, rounds, SPAN)[0]
                 stride = taken(STRIDE, rounds, SPAN)[0]
+                compare, put = (alone(taken, what, rounds) for what in (COMPARE, PUT))
                 print(f"{name:8}{plain / steps:7.1f}{traced / steps:8.1f}{traced / plain:8.2f}{places:8}"
                       f"{(reset - traced) / rounds / places:17.1f}{(entry - reset) / rounds / places:11.1f}"
-                      f"{(start - traced) / rounds / places:17.1f}{(stride - traced) / rounds / places:8.1f}")
+                      f"{(start - traced) / rounds / places:17.1f}{(stride - traced) / rounds / places:8.1f}"
+                      f"{compare:9.1f}{put:5.1f}")
             name = names[0]
             words = lambda *numbers: [str(path), *map(str, numbers)]
             for what in (START, STRIDE):

@@ -1,5 +1,5 @@
 -- What a walk beside workers comes to.
-use Rattle.std.proofs.Common.{◌≡◌, ℕ, ◌+◌, ◌*◌, ◌<◌, ◌≤◌, List, [], All, get_or, subst, Option, Some, None, refl, sym, ap, ◌∙◌, arith, length}
+use Rattle.std.proofs.Common.{◌≡◌, ℕ, ◌+◌, ◌<◌, List, [], All, get_or, subst, Option, Some, None, refl, sym, ap, ◌∙◌, arith, length}
 use Rattle.asc_traj.specs.declared.guessing.Guessing.{Guessing}
 use Rattle.asc_traj.specs.Finder.{Plan, Queue}
 use Rattle.asc_jobs.specs.Jobs.{Giver}
@@ -26,8 +26,8 @@ same_queue : (a b : Queue) → Some a ≡ Some b → a ≡ b
 same_queue a b e = ap (λ (q : Option Queue). elim q [ Some q ↦ q | None ↦ a ]) e
 
 -- a walk leaves its helper the queue of which the giver was handed to it
-pub kept_giver : (readers : ShardReaders) (giver : Giver) (guessing : Guessing) (was now : Walk) (old new : Outside) (l k : Live ShardReaders) (ended : Ended) (left : Giver)
-    → l ≡ new_live readers giver guessing → Walks was now old new (aid_of l) (aid_of k) ended → left ≡ k.pusher.giver → (left.queue ≡ giver.queue) × ((left.opened ≡ giver.opened) × (left.capacity ≡ giver.capacity))
+pub kept_giver : {many : ℕ} → (readers : ShardReaders) (giver : Giver) (guessing : Guessing) (was now : Walk) (old new : Outside) (l k : Live ShardReaders) (ended : Ended) (left : Giver)
+    → l ≡ new_live readers giver guessing many → Walks was now old new (aid_of l) (aid_of k) ended → left ≡ k.pusher.giver → (left.queue ≡ giver.queue) × ((left.opened ≡ giver.opened) × (left.capacity ≡ giver.capacity))
 kept_giver readers giver guessing was now old new l k ended left is walks end =
     let same : queue_of left ≡ queue_of giver =
     ap queue_of end ∙ same_queue (queue_of k.pusher.giver) (queue_of l.pusher.giver) walks.goes.goes.helped.plans.queue
@@ -37,15 +37,15 @@ kept_giver readers giver guessing was now old new l k ended left is walks end =
 -- ---- a walk
 
 -- what is known of the walk is known of the crew's work
-pub went : (guessing : Guessing) (was now : Walk) (old new : Outside) (readers : ShardReaders) (giver : Giver) (l k : Live ShardReaders) (worked : Worked)
-    → l ≡ new_live readers giver guessing → giver.pushed ≡ [] → readers.tally ≡ tally 0 0 0 → IsLive k
+pub went : {many : ℕ} → (guessing : Guessing) (was now : Walk) (old new : Outside) (readers : ShardReaders) (giver : Giver) (l k : Live ShardReaders) (worked : Worked)
+    → l ≡ new_live readers giver guessing many → giver.pushed ≡ [] → readers.tally ≡ tally 0 0 0 → IsLive k
     → Walks was now old new (aid_of l) (aid_of k) worked.ended
     → worked.made ≡ length k.pusher.giver.pushed → worked.refused ≡ k.pusher.refused → worked.full ≡ k.pusher.full
     → length k.pusher.giver.pushed ≡ worked.taken.tally.ran + worked.taken.left
     → (crew : Crew) → giver.capacity ≡ crew.queue → worked.workers ≡ crew.workers → WentBeside guessing crew was now old new worked
-went guessing was now old new readers giver l k worked is none told good walks made refused full jobs crew capacity workers =
+went {many} guessing was now old new readers giver l k worked is none told good walks made refused full jobs crew capacity workers =
     let made_none : length l.pusher.giver.pushed ≡ 0 = ap (λ (l : Live ShardReaders). length l.pusher.giver.pushed) is ∙ ap length none in
-    let plan : plan_of l ≡ new_plan guessing (Some (queue_of giver)) = ap plan_of is ∙ ap (λ n. record { made = n; refused = 0; full = 0; seen = (plan_of (new_live readers giver guessing)).seen; queue = Some (queue_of giver) }) (ap length none) in
+    let plan : plan_of l ≡ new_plan guessing (Some (queue_of giver)) = ap plan_of is ∙ ap (λ n. record { made = n; refused = 0; full = 0; seen = (plan_of (new_live readers giver guessing many)).seen; queue = Some (queue_of giver) }) (ap length none) in
     record {
       first = aid_of l;
       last = aid_of k;

@@ -4,3 +4,4 @@ pub mod Tasks
 pub mod Seeing
 pub mod LawsHold
 pub mod Crews
+pub mod Shares

@@ -1,6 +1,7 @@
 -- What is pushed one after another.
-use Rattle.std.proofs.Common.{◌≡◌, ◌≤◌, ◌<◌, ℕ, zero, suc, ◌+◌, List, [], ◌∷◌, ◌++◌, length, map, refl, sym, ap, ◌∙◌, inl, inr, subst, arith, append_assoc}
+use Rattle.std.proofs.Common.{◌≡◌, ◌≤◌, ◌<◌, ℕ, zero, suc, ◌+◌, Bool, true, List, [], ◌∷◌, ◌++◌, length, map, filter, refl, sym, ap, ◌∙◌, inl, inr, subst, arith, append_assoc}
 use Rattle.std.proofs.lemmas.List.{append-nil, map-append, length-append}
+use Rattle.std.proofs.lemmas.List.Elements.{filter-append}
 use Rattle.std.specs.Arc.{arc_value}
 use Rattle.std.specs.Global.{Global}
 use Rattle.std.specs.declared.sync.Arc.{Arc}
@@ -18,13 +19,15 @@ raised-more count a zero = ap (raised count) (let e : a ≡ a + 0 = omega arith 
 raised-more count a (suc b) = ap one_more (raised-more count a b) ∙ ap (raised count) (let e : suc (a + b) ≡ a + suc b = omega arith in e)
 
 -- nothing
-pub Pushes-none : (p : Pusher) → Pushes [] p p
-Pushes-none p = record {
+pub Pushes-none : (offers : Due → Bool) (p : Pusher) → Pushes offers [] p p
+Pushes-none offers p = record {
   jobs = [];
   lacked = 0;
   left_out = 0;
+  left = 0;
   some = refl;
   all = omega arith;
+  rest = omega arith;
   giver = ap (λ xs. record p.giver { pushed = xs }) (sym (append-nil p.giver.pushed));
   tickets = tt;
   full = omega arith;
@@ -32,102 +35,139 @@ Pushes-none p = record {
   refused = refl;
 }
 
-pushed-is : (due : List Due) (p q : Pusher) (s : Pushes due p q) → q.giver.pushed ≡ p.giver.pushed ++ s.jobs
-pushed-is due p q s = ap (λ (g : Giver). g.pushed) s.giver
+pushed-is : (offers : Due → Bool) (due : List Due) (p q : Pusher) (s : Pushes offers due p q) → q.giver.pushed ≡ p.giver.pushed ++ s.jobs
+pushed-is offers due p q s = ap (λ (g : Giver). g.pushed) s.giver
 
-pub pushed-length : (due : List Due) (p q : Pusher) (s : Pushes due p q) → length q.giver.pushed ≡ length p.giver.pushed + length s.jobs
-pushed-length due p q s = ap length (pushed-is due p q s) ∙ length-append p.giver.pushed s.jobs
+pub pushed-length : (offers : Due → Bool) (due : List Due) (p q : Pusher) (s : Pushes offers due p q) → length q.giver.pushed ≡ length p.giver.pushed + length s.jobs
+pushed-length offers due p q s = ap length (pushed-is offers due p q s) ∙ length-append p.giver.pushed s.jobs
 
 pub room-more : (a b capacity m n : ℕ) → (0 < a → capacity ≤ m) → (0 < b → capacity ≤ n) → m ≤ n → 0 < a + b → capacity ≤ n
 room-more zero b capacity m n p q more h = q (omega (arith, h))
 room-more (suc a) b capacity m n p q more h = let x = p (omega arith) in omega (arith, x, more)
 
 -- one after another
-pub Pushes-more : (xs ys : List Due) (p q r : Pusher) → Pushes xs p q → Pushes ys q r → Pushes (xs ++ ys) p r
-Pushes-more xs ys p q r s t =
-    let more = pushed-length xs p q s in
-    let most = pushed-length ys q r t in
+pub Pushes-more : (offers : Due → Bool) (xs ys : List Due) (p q r : Pusher) → Pushes offers xs p q → Pushes offers ys q r → Pushes offers (xs ++ ys) p r
+Pushes-more offers xs ys p q r s t =
+    let more = pushed-length offers xs p q s in
+    let most = pushed-length offers ys q r t in
+    let both : filter offers (xs ++ ys) ≡ filter offers xs ++ filter offers ys = filter-append offers xs ys in
+    let many = ap length both ∙ length-append (filter offers xs) (filter offers ys) in
     record {
       jobs = s.jobs ++ t.jobs;
       lacked = s.lacked + t.lacked;
       left_out = s.left_out + t.left_out;
-      some = subst (λ l. IsSublist l (xs ++ ys)) (sym (map-append due_of s.jobs t.jobs)) (IsSublist-append (map due_of s.jobs) xs (map due_of t.jobs) ys s.some t.some);
-      all = omega (arith, length-append xs ys, length-append s.jobs t.jobs, s.all, t.all);
+      left = s.left + t.left;
+      some = subst (λ l. IsSublist l (filter offers (xs ++ ys))) (sym (map-append due_of s.jobs t.jobs))
+          (subst (λ l. IsSublist (map due_of s.jobs ++ map due_of t.jobs) l) (sym both) (IsSublist-append (map due_of s.jobs) (filter offers xs) (map due_of t.jobs) (filter offers ys) s.some t.some));
+      all = omega (arith, many, length-append s.jobs t.jobs, s.all, t.all);
+      rest = omega (arith, many, length-append xs ys, s.rest, t.rest);
       giver = t.giver ∙ ap (λ (g : Giver). record g { pushed = g.pushed ++ t.jobs }) s.giver ∙ ap (λ l. record p.giver { pushed = l }) (append_assoc p.giver.pushed s.jobs t.jobs);
       tickets = CountUp-append (length p.giver.pushed) s.jobs t.jobs s.tickets (subst (λ n. CountUp n t.jobs) more t.tickets);
       full = omega (arith, s.full, t.full);
-      room = λ h. room-more s.lacked t.lacked p.giver.capacity (length q.giver.pushed) (length r.giver.pushed) s.room (λ k. subst (λ c. c ≤ length r.giver.pushed) (ap (λ (g : Giver). g.capacity) s.giver) (t.room k)) (omega (arith, most)) h;
+      room = λ h. room-more (s.lacked + s.left) (t.lacked + t.left) p.giver.capacity (length q.giver.pushed) (length r.giver.pushed) s.room
+          (λ k. subst (λ c. c ≤ length r.giver.pushed) (ap (λ (g : Giver). g.capacity) s.giver) (t.room k)) (omega (arith, most)) (omega (arith, h));
       refused = t.refused ∙ ap (λ n. raised n t.left_out) s.refused ∙ raised-more p.refused s.left_out t.left_out;
     }
 
 -- at most as many as are due
-pub Pushes-few : (due : List Due) (p q : Pusher) → Pushes due p q → (length p.giver.pushed ≤ length q.giver.pushed) × ((p.full ≤ q.full) × (length q.giver.pushed + q.full ≤ length p.giver.pushed + p.full + length due))
-Pushes-few due p q s = let more = pushed-length due p q s in
-    (omega (arith, more), (omega (arith, s.full), omega (arith, more, s.full, s.all)))
+pub Pushes-few : (offers : Due → Bool) (due : List Due) (p q : Pusher) → Pushes offers due p q
+    → (length p.giver.pushed ≤ length q.giver.pushed) × ((p.full ≤ q.full) × (length q.giver.pushed + q.full ≤ length p.giver.pushed + p.full + length due))
+Pushes-few offers due p q s = let more = pushed-length offers due p q s in
+    (omega (arith, more), (omega (arith, s.full), omega (arith, more, s.full, s.all, s.rest)))
+
+-- of all that are offered
+abbrev pub each : Due → Bool
+each d = true
 
 -- a job for which memory was wanting
-pub Pushes-refused : (d : Due) (p q : Pusher) → q ≡ record p { refused = one_more p.refused } → Pushes (d ∷ []) p q
+pub Pushes-refused : (d : Due) (p q : Pusher) → q ≡ record p { refused = one_more p.refused } → Pushes each (d ∷ []) p q
 Pushes-refused d p q e = record {
   jobs = [];
   lacked = 0;
   left_out = 1;
+  left = 0;
   some = inl refl;
   all = omega arith;
+  rest = omega arith;
   giver = ap (λ (x : Pusher). x.giver) e ∙ ap (λ xs. record p.giver { pushed = xs }) (sym (append-nil p.giver.pushed));
   tickets = tt;
-  full = ap (λ (x : Pusher). x.full) e ∙ (let n : p.full ≡ p.full + 0 = omega arith in n);
+  full = ap (λ (x : Pusher). x.full) e ∙ (let n : p.full ≡ p.full + 0 + 0 = omega arith in n);
   room = λ h. absurd (let x : ⊥ = omega (arith, h) in x);
   refused = ap (λ (x : Pusher). x.refused) e;
 }
 
 -- a job that found no room
-pub Pushes-full : (d : Due) (p q : Pusher) → q.giver ≡ p.giver → q.full ≡ p.full + 1 → q.refused ≡ p.refused → p.giver.capacity ≤ length p.giver.pushed → Pushes (d ∷ []) p q
+pub Pushes-full : (d : Due) (p q : Pusher) → q.giver ≡ p.giver → q.full ≡ p.full + 1 → q.refused ≡ p.refused → p.giver.capacity ≤ length p.giver.pushed → Pushes each (d ∷ []) p q
 Pushes-full d p q giver full refused room = record {
   jobs = [];
   lacked = 1;
   left_out = 0;
+  left = 0;
   some = inl refl;
   all = omega arith;
+  rest = omega arith;
   giver = giver ∙ ap (λ xs. record p.giver { pushed = xs }) (sym (append-nil p.giver.pushed));
   tickets = tt;
-  full = full;
+  full = full ∙ (let n : p.full + 1 ≡ p.full + 1 + 0 = omega arith in n);
   room = λ h. subst (λ (g : Giver). p.giver.capacity ≤ length g.pushed) (sym giver) room;
   refused = refused;
 }
 
--- none of them
-IsSublist-none : {A : Type 0} → (xs : List A) → IsSublist [] xs
-IsSublist-none [] = refl
-IsSublist-none (x ∷ xs) = inl (IsSublist-none xs)
-
--- jobs that were left
-pub Pushes-left : (due : List Due) (p q : Pusher) → q ≡ record p { full = p.full + length due } → p.giver.capacity ≤ length p.giver.pushed → Pushes due p q
-Pushes-left due p q e room = record {
-  jobs = [];
-  lacked = length due;
-  left_out = 0;
-  some = IsSublist-none due;
-  all = omega arith;
-  giver = ap (λ (x : Pusher). x.giver) e ∙ ap (λ xs. record p.giver { pushed = xs }) (sym (append-nil p.giver.pushed));
-  tickets = tt;
-  full = ap (λ (x : Pusher). x.full) e;
-  room = λ h. subst (λ (x : Pusher). p.giver.capacity ≤ length x.giver.pushed) (sym e) room;
-  refused = ap (λ (x : Pusher). x.refused) e;
-}
-
 -- a job that was pushed
-pub Pushes-one : (d : Due) (p q : Pusher) (job : Job) → due_of job ≡ d → job.ticket ≡ length p.giver.pushed → q.giver ≡ after_push p.giver job → q.full ≡ p.full → q.refused ≡ p.refused → Pushes (d ∷ []) p q
+pub Pushes-one : (d : Due) (p q : Pusher) (job : Job) → due_of job ≡ d → job.ticket ≡ length p.giver.pushed → q.giver ≡ after_push p.giver job → q.full ≡ p.full → q.refused ≡ p.refused → Pushes each (d ∷ []) p q
 Pushes-one d p q job asks ticket giver full refused = record {
   jobs = job ∷ [];
   lacked = 0;
   left_out = 0;
+  left = 0;
   some = inr ([], ap (λ x. x ∷ []) asks, refl);
   all = omega arith;
+  rest = omega arith;
   giver = giver;
   tickets = (ticket, tt);
-  full = full ∙ (let n : p.full ≡ p.full + 0 = omega arith in n);
+  full = full ∙ (let n : p.full ≡ p.full + 0 + 0 = omega arith in n);
   room = λ h. absurd (let x : ⊥ = omega (arith, h) in x);
   refused = refused;
+}
+
+filter-each : (due : List Due) → filter each due ≡ due
+filter-each [] = refl
+filter-each (d ∷ due) = ap (λ ds. d ∷ ds) (filter-each due)
+
+-- jobs that are all offered
+pub Pushes-offered : (offers : Due → Bool) (due : List Due) (p q : Pusher) → filter offers due ≡ due → Pushes each due p q → Pushes offers due p q
+Pushes-offered offers due p q all s =
+    let same : filter each due ≡ filter offers due = filter-each due ∙ sym all in
+    record {
+      jobs = s.jobs;
+      lacked = s.lacked;
+      left_out = s.left_out;
+      left = s.left;
+      some = subst (λ ds. IsSublist (map due_of s.jobs) ds) same s.some;
+      all = ap length (sym same) ∙ s.all;
+      rest = s.rest ∙ ap (λ ds. length ds + s.left) same;
+      giver = s.giver;
+      tickets = s.tickets;
+      full = s.full;
+      room = s.room;
+      refused = s.refused;
+    }
+
+-- jobs none of which is offered
+pub Pushes-left : (offers : Due → Bool) (due : List Due) (p q : Pusher) → filter offers due ≡ [] → q ≡ record p { full = p.full + length due } → p.giver.capacity ≤ length p.giver.pushed → Pushes offers due p q
+Pushes-left offers due p q none e room = record {
+  jobs = [];
+  lacked = 0;
+  left_out = 0;
+  left = length due;
+  some = subst (λ ds. IsSublist [] ds) (sym none) refl;
+  all = ap length none;
+  rest = let few = ap length none in omega (arith, few);
+  giver = ap (λ (x : Pusher). x.giver) e ∙ ap (λ xs. record p.giver { pushed = xs }) (sym (append-nil p.giver.pushed));
+  tickets = tt;
+  full = ap (λ (x : Pusher). x.full) e ∙ (let n : p.full + length due ≡ p.full + 0 + length due = omega arith in n);
+  room = λ h. subst (λ (x : Pusher). p.giver.capacity ≤ length x.giver.pushed) (sym e) room;
+  refused = ap (λ (x : Pusher). x.refused) e;
 }
 
 -- a job of two copies asks for what their states say

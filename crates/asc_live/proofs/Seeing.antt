@@ -13,7 +13,7 @@ use Rattle.asc_run.specs.Serial.{kinds_of, tasks_of}
 use Rattle.asc_run.specs.Seen.{Sees, seen, newly_guessed, guesses_at}
 use Rattle.asc_run.proofs.Seeings.{newly-later, guesses_until-more}
 use Rattle.asc_live.specs.Due.{Due, Pusher, Pushes, HasFilled, jobs_of, raised}
-use Rattle.asc_live.specs.Live.{Live, IsLive, HasSeen, Visits, queue_of, plan_of, due_by, issued_by, seen_after}
+use Rattle.asc_live.specs.Live.{Live, IsLive, HasSeen, Visits, queue_of, plan_of, due_by, issued_by, offers_at, seen_after}
 use Rattle.asc_live.proofs.Pushing.{Pushes-few, pushed-length, room-more}
 use Rattle.asc_live.proofs.Tasks.{kinds-few, twice, visit-length}
 
@@ -107,12 +107,12 @@ raised-none : (n : ℕ) → raised 0 n ≡ 0 → n ≡ 0
 raised-none zero e = refl
 raised-none (suc n) e = absurd (let x : ⊥ = omega (arith, e) in x)
 
--- where memory was not wanting, each job that is due was pushed, found no room or was given up
-all-made : (due : List Due) (p q : Pusher) → Pushes due p q → p.refused ≡ 0 → q.refused ≡ 0 → length q.giver.pushed + q.full ≡ length p.giver.pushed + p.full + length due
-all-made due p q s e f =
+-- where memory was not wanting, each job that is due was pushed, found no room or was left to the run
+all-made : (offers : Due → Bool) (due : List Due) (p q : Pusher) → Pushes offers due p q → p.refused ≡ 0 → q.refused ≡ 0 → length q.giver.pushed + q.full ≡ length p.giver.pushed + p.full + length due
+all-made offers due p q s e f =
     let none = raised-none s.left_out (ap (λ c. raised c s.left_out) (sym e) ∙ sym s.refused ∙ f) in
-    let more = pushed-length due p q s in let all = s.all in let full = s.full in
-    omega (arith, none, more, all, full)
+    let more = pushed-length offers due p q s in
+    omega (arith, none, more, s.all, s.rest, s.full)
 
 -- ---- one visit more
 
@@ -164,10 +164,10 @@ seen-was number refused n (Some b) e = elim (eqb_tells number (b + 1)) [
 ]
 
 pushes-sees : {F : Type 0} (n : ℕ) (now : State) (old : Live F) (p : Pusher) → IsLive old → HasSeen n old → (HasFilled old.pusher.giver → (last : State) × (old.last ≡ Some last))
-    → Pushes (due_by (n + 1) old.last (Some now) old) old.pusher p → p.refused ≡ 0
+    → Pushes (offers_at (n + 1) old) (due_by (n + 1) old.last (Some now) old) old.pusher p → p.refused ≡ 0
     → length p.giver.pushed + p.full ≡ length old.pusher.giver.pushed + old.pusher.full + guesses_at old.guessing (n + 1)
 pushes-sees n now old p q h pair pushes none =
-    all-made (due_by (n + 1) old.last (Some now) old) old.pusher p pushes h.refused none
+    all-made (offers_at (n + 1) old) (due_by (n + 1) old.last (Some now) old) old.pusher p pushes h.refused none
     ∙ ap (λ m. length old.pusher.giver.pushed + old.pusher.full + m) (due-seen n now old q h pair)
 
 issued-none : {F : Type 0} (n : ℕ) (now : State) (old : Live F) → HasSeen n old → n + 1 < 2 → issued_by (n + 1) old.last (Some now) old ≡ 0
@@ -180,7 +180,7 @@ issued-some n now old h pair more =
     let last = last-kept n old h pair (omega (arith, more)) in
     ap (λ last. issued_by (n + 1) last (Some now) old) last.1
 
-after-seen : {F : Type 0} (n : ℕ) (now : State) (old : Live F) (p : Pusher) → n + 1 ≤ 2 ^ 40 → IsLive old → HasSeen n old → (HasFilled old.pusher.giver → (last : State) × (old.last ≡ Some last)) → Pushes (due_by (n + 1) old.last (Some now) old) old.pusher p → p.refused ≡ 0
+after-seen : {F : Type 0} (n : ℕ) (now : State) (old : Live F) (p : Pusher) → n + 1 ≤ 2 ^ 40 → IsLive old → HasSeen n old → (HasFilled old.pusher.giver → (last : State) × (old.last ≡ Some last)) → Pushes (offers_at (n + 1) old) (due_by (n + 1) old.last (Some now) old) old.pusher p → p.refused ≡ 0
     → HasSeen (n + 1) (after (n + 1) now old p)
 after-seen n now old p most q h pair pushes none = record {
   most = most;
@@ -197,24 +197,24 @@ issued-small number None now old most ahead issued = issued
 issued-small number (Some last) now old most ahead issued = omega (arith, most, ahead)
 
 -- guesses find no room, or are given up, only once the queue had been filled up
-room-after : (due : List Due) (p q : Pusher) → Pushes due p q → (0 < p.full → p.giver.capacity ≤ length p.giver.pushed) → 0 < q.full → q.giver.capacity ≤ length q.giver.pushed
-room-after due p q s was some =
-    let more = pushed-length due p q s in
+room-after : (offers : Due → Bool) (due : List Due) (p q : Pusher) → Pushes offers due p q → (0 < p.full → p.giver.capacity ≤ length p.giver.pushed) → 0 < q.full → q.giver.capacity ≤ length q.giver.pushed
+room-after offers due p q s was some =
+    let more = pushed-length offers due p q s in
     subst (λ c. c ≤ length q.giver.pushed) (sym (ap (λ (g : Giver). g.capacity) s.giver))
-    (room-more p.full s.lacked p.giver.capacity (length p.giver.pushed) (length q.giver.pushed) was s.room (omega (arith, more)) (omega (arith, some, s.full)))
+    (room-more p.full (s.lacked + s.left) p.giver.capacity (length p.giver.pushed) (length q.giver.pushed) was s.room (omega (arith, more)) (omega (arith, some, s.full)))
 
-after-live : {F : Type 0} (number : ℕ) (now : State) (old : Live F) (p : Pusher) → number ≤ 2 ^ 40 → IsLive old → (HasFilled old.pusher.giver → (last : State) × (old.last ≡ Some last)) → Pushes (due_by number old.last (Some now) old) old.pusher p → IsLive (after number now old p)
+after-live : {F : Type 0} (number : ℕ) (now : State) (old : Live F) (p : Pusher) → number ≤ 2 ^ 40 → IsLive old → (HasFilled old.pusher.giver → (last : State) × (old.last ≡ Some last)) → Pushes (offers_at number old) (due_by number old.last (Some now) old) old.pusher p → IsLive (after number now old p)
 after-live number now old p most q pair pushes = record {
   least = q.least;
   most = q.most;
   issued = issued-small number old.last now old most q.most q.issued;
-  room = room-after (due_by number old.last (Some now) old) old.pusher p pushes q.room;
+  room = room-after (offers_at number old) (due_by number old.last (Some now) old) old.pusher p pushes q.room;
   seen = λ n e.
       let was = seen-was number p.refused n old.seen e in
       let h = q.seen was.0 was.1 in
       subst (λ m. HasSeen m (after number now old p)) (sym was.2.1.1)
       (subst (λ m. HasSeen m (after m now old p)) (sym was.2.0)
-      (after-seen was.0 now old p (omega (arith, most, was.2.0)) q h pair (subst (λ m. Pushes (due_by m old.last (Some now) old) old.pusher p) was.2.0 pushes) was.2.1.0));
+      (after-seen was.0 now old p (omega (arith, most, was.2.0)) q h pair (subst (λ m. Pushes (offers_at m old) (due_by m old.last (Some now) old) old.pusher p) was.2.0 pushes) was.2.1.0));
 }
 
 -- ---- a visit that is passed over
@@ -279,7 +279,7 @@ visit-live number now old new most q (inr (inl v)) = subst IsLive (sym v) (recor
 -- it makes at most 128 guesses
 pub visit-plans : {F : Type 0} (number : ℕ) (now : State) (old new : Live F) → IsLive old → Visits number now old new → Plans 1 (plan_of old) (plan_of new)
 visit-plans number now old new q (inl v) =
-    let grown = Pushes-few _ _ _ v.pushes in
+    let grown = Pushes-few (offers_at number old) _ _ _ v.pushes in
     let few = due-few number old.last now old q.most in
     record {
       made = grown.0;
@@ -299,7 +299,7 @@ visit-sees {F} number now old new q (inl v) before told next same =
     let is = told-is old.seen old.guessing before told in
     let h = q.seen before.number is.0 in
     let none = same ∙ h.refused in
-    let pushes = subst (λ m. Pushes (due_by m old.last (Some now) old) old.pusher new.pusher) next v.pushes in
+    let pushes = subst (λ m. Pushes (offers_at m old) (due_by m old.last (Some now) old) old.pusher new.pusher) next v.pushes in
     let seen_is : new.seen ≡ Some number = ap (λ (l : Live F). l.seen) v.rest ∙ (λ i. seen_after (next i) (none i) (is.0 i)) ∙ seen-next before.number ∙ ap Some (sym next) in
     let guessing_is : new.guessing ≡ before.guessing = ap (λ (l : Live F). l.guessing) v.rest ∙ is.1 in (
       ap (λ (o : Option ℕ). elim o [ Some m ↦ Some (seen m new.guessing) | None ↦ None ]) seen_is ∙ ap (λ g. Some (seen number g)) guessing_is,

@@ -1,5 +1,5 @@
 -- The jobs of a visit: the targets, each once for each kind.
-use Rattle.std.proofs.Common.{◌≡◌, ◌<◌, ◌≤◌, ◌+◌, ◌-◌, ◌*◌, ℕ, zero, suc, Bool, true, false, List, [], ◌∷◌, ◌++◌, length, get_or, map, sym, ap, ◌∙◌, arith, if◌then◌else◌}
+use Rattle.std.proofs.Common.{◌≡◌, ◌<◌, ◌≤◌, ◌+◌, ◌-◌, ◌*◌, ℕ, zero, suc, Bool, true, false, List, [], ◌∷◌, ◌++◌, length, get_or, map, filter, refl, sym, ap, ◌∙◌, arith, if◌then◌else◌}
 use Rattle.std.specs.Prelude.{max, nat_lt}
 use Rattle.std.specs.List.{flat_map, range_with_len}
 use Rattle.std.proofs.lemmas.List.{flat_map_more, map-append, length-append, length-map}
@@ -10,8 +10,8 @@ use Rattle.asc_guess.specs.declared.kind.Kind.TheVariants.{Last, Stride}
 use Rattle.asc_guess.specs.Guess.{targets_of}
 use Rattle.asc_traj.specs.declared.guessing.Guessing.{Guessing}
 use Rattle.asc_run.specs.Serial.{Task, kinds_of, tasks_of}
-use Rattle.asc_live.specs.Due.{Due, Pusher, Pushes, HasFilled, jobs_of, tasks_for}
-use Rattle.asc_live.proofs.Pushing.{Pushes-more, Pushes-left}
+use Rattle.asc_live.specs.Due.{Due, Pusher, Pushes, jobs_of, tasks_for}
+use Rattle.asc_live.proofs.Pushing.{each, Pushes-more, Pushes-offered, Pushes-left}
 
 range-same : (a b n m : ℕ) → 0 < n → range_with_len a n ≡ range_with_len b m → (a ≡ b) × (n ≡ m)
 range-same a b n m some e =
@@ -99,28 +99,37 @@ visit-length prev last g issued number = visit-by (nat_lt number 2) prev last g 
 
 -- the jobs of both kinds, one after the other
 pub Pushes-kinds : (a b : Bool) (prev last : State) (ahead : ℕ) (p q r : Pusher)
-    → Pushes (jobs_of prev last (if a then (Last, ahead) ∷ [] else [])) p q → Pushes (jobs_of prev last (if b then (Stride, ahead) ∷ [] else [])) q r
-    → Pushes (jobs_of prev last (map (λ (kind : Kind). (kind, ahead)) ((if a then Last ∷ [] else []) ++ (if b then Stride ∷ [] else [])))) p r
-Pushes-kinds true true prev last ahead p q r s t = Pushes-more _ _ p q r s t
-Pushes-kinds true false prev last ahead p q r s t = Pushes-more _ _ p q r s t
-Pushes-kinds false true prev last ahead p q r s t = Pushes-more _ _ p q r s t
-Pushes-kinds false false prev last ahead p q r s t = Pushes-more _ _ p q r s t
+    → Pushes each (jobs_of prev last (if a then (Last, ahead) ∷ [] else [])) p q → Pushes each (jobs_of prev last (if b then (Stride, ahead) ∷ [] else [])) q r
+    → Pushes each (jobs_of prev last (map (λ (kind : Kind). (kind, ahead)) ((if a then Last ∷ [] else []) ++ (if b then Stride ∷ [] else [])))) p r
+Pushes-kinds true true prev last ahead p q r s t = Pushes-more each _ _ p q r s t
+Pushes-kinds true false prev last ahead p q r s t = Pushes-more each _ _ p q r s t
+Pushes-kinds false true prev last ahead p q r s t = Pushes-more each _ _ p q r s t
+Pushes-kinds false false prev last ahead p q r s t = Pushes-more each _ _ p q r s t
 
 -- how many jobs one target makes
-pub kinds-length : (prev last : State) (g : Guessing) (ahead : ℕ) → length (jobs_of prev last (map (λ (kind : Kind). (kind, ahead)) (kinds_of g))) ≤ 2
+pub kinds-length : (prev last : State) (g : Guessing) (ahead : ℕ) → length (jobs_of prev last (map (λ (kind : Kind). (kind, ahead)) (kinds_of g))) ≡ length (kinds_of g)
 kinds-length prev last g ahead =
     let f : Kind → Task = λ kind. (kind, ahead) in
-    let e = length-map (map f (kinds_of g)) (job_of prev last) ∙ length-map (kinds_of g) f in
-    let few = kinds-few g in
-    omega (arith, e, few)
+    length-map (map f (kinds_of g)) (job_of prev last) ∙ length-map (kinds_of g) f
 
--- the jobs of a visit, none of which is pushed
-pub Pushes-visit-left : (prev last : State) (g : Guessing) (issued number start n k : ℕ) (p : Pusher)
-    → range_with_len start n ≡ targets_of issued number g.ahead → k ≡ length (kinds_of g) → HasFilled p.giver
-    → Pushes (jobs_of prev last (tasks_of g issued number)) p (record p { full = p.full + k * n })
-Pushes-visit-left prev last g issued number start n k p targets kinds filled =
-    let due = jobs_of prev last (tasks_of g issued number) in
-    let many : length due ≡ k * n =
-    ap (λ ts. length (jobs_of prev last (flat_map (λ target. map (task_at target number) (kinds_of g)) ts))) (sym targets)
-    ∙ jobs-length prev last g number start n ∙ ap (λ m. m * n) (sym kinds) in
-    Pushes-left due p (record p { full = p.full + k * n }) (ap (λ m. record p { full = p.full + m }) (sym many)) filled.capacity
+-- the jobs of one target are all offered, or none is
+kinds-offered : (offers : Due → Bool) (prev last : State) (ahead : ℕ) (offered : Bool) → ((kind : Kind) → offers (job_of prev last (kind, ahead)) ≡ offered) → (kinds : List Kind)
+    → filter offers (jobs_of prev last (map (λ (kind : Kind). (kind, ahead)) kinds)) ≡ (if offered then jobs_of prev last (map (λ (kind : Kind). (kind, ahead)) kinds) else [])
+kinds-offered offers prev last ahead true are [] = refl
+kinds-offered offers prev last ahead false are [] = refl
+kinds-offered offers prev last ahead true are (kind ∷ kinds) =
+    let d = job_of prev last (kind, ahead) in
+    rw (are kind) (ap (λ ds. d ∷ ds) (kinds-offered offers prev last ahead true are kinds))
+kinds-offered offers prev last ahead false are (kind ∷ kinds) = rw (are kind) (kinds-offered offers prev last ahead false are kinds)
+
+-- the jobs of one target that are offered
+pub Pushes-target : (offers : Due → Bool) (prev last : State) (g : Guessing) (ahead : ℕ) (p q : Pusher) → ((kind : Kind) → offers (job_of prev last (kind, ahead)) ≡ true)
+    → Pushes each (jobs_of prev last (map (λ (kind : Kind). (kind, ahead)) (kinds_of g))) p q → Pushes offers (jobs_of prev last (map (λ (kind : Kind). (kind, ahead)) (kinds_of g))) p q
+Pushes-target offers prev last g ahead p q are s = Pushes-offered offers _ p q (kinds-offered offers prev last ahead true are (kinds_of g)) s
+
+-- those of one that is left to the run
+pub Pushes-target-left : (offers : Due → Bool) (prev last : State) (g : Guessing) (ahead : ℕ) (p q : Pusher) → ((kind : Kind) → offers (job_of prev last (kind, ahead)) ≡ false)
+    → q ≡ record p { full = p.full + length (kinds_of g) } → p.giver.capacity ≤ length p.giver.pushed
+    → Pushes offers (jobs_of prev last (map (λ (kind : Kind). (kind, ahead)) (kinds_of g))) p q
+Pushes-target-left offers prev last g ahead p q are e room = Pushes-left offers _ p q (kinds-offered offers prev last ahead false are (kinds_of g))
+    (e ∙ ap (λ n. record p { full = p.full + n }) (sym (kinds-length prev last g ahead))) room

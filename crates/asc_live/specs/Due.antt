@@ -1,5 +1,5 @@
 -- The jobs that are due at a visit, and what becomes of them.
-use Rattle.std.specs.Prelude.{◌≡◌, ◌⊎◌, ℕ, zero, suc, ◌+◌, ◌-◌, ◌<◌, ◌≤◌, List, [], ◌∷◌, ◌++◌, length, map}
+use Rattle.std.specs.Prelude.{◌≡◌, ◌⊎◌, ℕ, zero, suc, ◌+◌, ◌-◌, ◌%◌, ◌<◌, ◌≤◌, ◌==◌, ◌&&◌, ◌||◌, not, nat_lt, nat_le, Bool, List, [], ◌∷◌, ◌++◌, length, map, filter}
 use Rattle.std.specs.Arc.{arc_value}
 use Rattle.std.specs.List.{flat_map, range_with_len}
 use Rattle.asc_model.specs.State.{State}
@@ -45,7 +45,7 @@ raised count (suc n) = one_more (raised count n)
 -- what pushes jobs, and what it counted
 pub record Pusher : Type 0 where
   pub giver : Giver
-  -- how many jobs found no room, or were given up once the queue had been filled up
+  -- how many jobs found no room, or were left to the run or given up once the queue had been filled up
   pub full : ℕ
   -- how often memory was wanting
   pub refused : ℕ
@@ -55,16 +55,32 @@ pub record HasFilled (giver : Giver) : Type 0 where
   pub some : 0 < length giver.pushed
   pub capacity : giver.capacity ≤ length giver.pushed
 
--- Of the jobs that are due some were pushed, in order. Of the others some found no room or were given up, since the queue
--- had been filled up, and for the rest memory was wanting.
-pub record Pushes (due : List Due) (old new : Pusher) : Type 0 where
+-- the same as a test
+abbrev pub is_filled : Giver → Bool
+is_filled giver = nat_lt 0 (length giver.pushed) && nat_le giver.capacity (length giver.pushed)
+
+-- Whether the guesses of a visit are the workers' share. So many workers have all visits but one in each row of as many
+-- and one more: the run itself goes to that one.
+abbrev pub is_shared : (workers target : ℕ) → Bool
+is_shared workers target = nat_lt 0 workers && not (target % (workers + 1) == 1)
+
+-- Whether a job that is due at a visit is offered to the workers: each one is until the queue had been filled up, and from
+-- then on those of their share.
+abbrev pub is_offered : (filled : Bool) → (workers number : ℕ) → Due → Bool
+is_offered filled workers number due = not filled || is_shared workers (number + due.ahead)
+
+-- Of the jobs that are due some are offered; the others are left to the run itself, once the queue had been filled up. Of
+-- those offered some were pushed, in order, and some found no room. For the rest memory was wanting.
+pub record Pushes (offers : Due → Bool) (due : List Due) (old new : Pusher) : Type 0 where
   pub jobs : List Job
   pub lacked : ℕ
   pub left_out : ℕ
-  pub some : IsSublist (map due_of jobs) due
-  pub all : length due ≡ length jobs + lacked + left_out
+  pub left : ℕ
+  pub some : IsSublist (map due_of jobs) (filter offers due)
+  pub all : length (filter offers due) ≡ length jobs + lacked + left_out
+  pub rest : length due ≡ length (filter offers due) + left
   pub giver : new.giver ≡ record old.giver { pushed = old.giver.pushed ++ jobs }
   pub tickets : CountUp (length old.giver.pushed) jobs
-  pub full : new.full ≡ old.full + lacked
-  pub room : 0 < lacked → old.giver.capacity ≤ length new.giver.pushed
+  pub full : new.full ≡ old.full + lacked + left
+  pub room : 0 < lacked + left → old.giver.capacity ≤ length new.giver.pushed
   pub refused : new.refused ≡ raised old.refused left_out

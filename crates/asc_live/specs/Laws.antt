@@ -1,8 +1,9 @@
--- The law of how many guesses are made.
-use Rattle.std.specs.Prelude.{◌≡◌, ℕ, ◌+◌, Option, Some}
+-- The laws of how many guesses are made, and of the workers' share of them.
+use Rattle.std.specs.Prelude.{◌≡◌, ℕ, ◌+◌, ◌-◌, ◌*◌, ◌/◌, ◌<◌, nat_lt, Option, Some}
 use Rattle.asc_traj.specs.declared.guessing.Guessing.{Guessing}
 use Rattle.asc_traj.specs.Finder.{Plan, Queue}
 use Rattle.asc_run.specs.Seen.{SeesAll, seen, guesses_until}
+use Rattle.asc_live.specs.Due.{is_shared}
 
 -- what a helper tells that was not visited yet
 abbrev pub new_plan : Guessing → Option Queue → Plan
@@ -14,3 +15,12 @@ abbrev pub GuessesAreCounted : Type 0
 GuessesAreCounted = (guessing : Guessing) (queue : Option Queue) (visits : ℕ) (first last : Plan)
     → first ≡ new_plan guessing queue
     → SeesAll visits first last → last.refused ≡ 0 → last.made + last.full ≡ guesses_until guessing visits
+
+-- so many workers' share of the visits up to one, in whole ones: W of W + 1
+abbrev pub share : (workers visits : ℕ) → ℕ
+share workers visits = visits * workers / (workers + 1)
+
+-- The guesses of a visit are the workers' just where their share of the visits rises.
+abbrev pub SharesRise : Type 0
+SharesRise = (workers target : ℕ) → 0 < target
+    → is_shared workers target ≡ nat_lt (share workers (target - 1)) (share workers target)

@@ -1,5 +1,5 @@
 -- A helper that has others do what it guesses.
-use Rattle.std.specs.Prelude.{◌≡◌, ◌⊎◌, ℕ, ◌+◌, ◌^◌, ◌≤◌, ◌<◌, nat_lt, ◌==◌, ◌&&◌, List, [], length, Option, Some, None, if◌then◌else◌}
+use Rattle.std.specs.Prelude.{◌≡◌, ◌⊎◌, ℕ, ◌+◌, ◌^◌, ◌≤◌, ◌<◌, nat_lt, ◌==◌, ◌&&◌, Bool, List, [], length, Option, Some, None, if◌then◌else◌}
 use Rattle.std.specs.Global.{Global}
 use Rattle.std.specs.declared.sync.Arc.{Arc}
 use Rattle.asc_model.specs.State.{State}
@@ -9,7 +9,7 @@ use Rattle.asc_traj.specs.declared.guessing.Guessing.{Guessing}
 use Rattle.asc_traj.specs.Finder.{Plan, Queue}
 use Rattle.asc_run.specs.Serial.{kinds_of, tasks_of}
 use Rattle.asc_run.specs.Seen.{seen, guesses_until}
-use Rattle.asc_live.specs.Due.{Due, Pusher, Pushes, HasFilled, jobs_of}
+use Rattle.asc_live.specs.Due.{Due, Pusher, Pushes, HasFilled, is_filled, is_offered, jobs_of}
 
 -- the helper of a walk that has workers beside it
 pub record Live (F : Type 0) : Type 0 where
@@ -23,6 +23,8 @@ pub record Live (F : Type 0) : Type 0 where
   pub pusher : Pusher
   -- up to which visit all were guessed, where memory never was wanting
   pub seen : Option ℕ
+  -- how many workers there are
+  pub workers : ℕ
 
 -- the state of a copy, where there is one
 abbrev pub state_in : Option (Arc State Global) → Option State
@@ -31,8 +33,8 @@ state_in (Some copy) = Some copy.value
 
 -- what is seen of its fields
 abbrev pub live : {F : Type 0} → F → Guessing → (prev last : Option (Arc State Global)) → (issued : ℕ) → Pusher
-    → (seen : Option ℕ) → Live F
-live finder guessing prev last issued pusher seen = record {
+    → (seen : Option ℕ) → (workers : ℕ) → Live F
+live finder guessing prev last issued pusher seen workers = record {
   finder = finder;
   guessing = guessing;
   prev = state_in prev;
@@ -40,11 +42,12 @@ live finder guessing prev last issued pusher seen = record {
   issued = issued;
   pusher = pusher;
   seen = seen;
+  workers = workers;
 }
 
 -- one that was not visited yet, and whose queue never had a job
-abbrev pub new_live : {F : Type 0} → F → Giver → Guessing → Live F
-new_live finder giver guessing = record {
+abbrev pub new_live : {F : Type 0} → F → Giver → Guessing → (workers : ℕ) → Live F
+new_live finder giver guessing workers = record {
   finder = finder;
   guessing = guessing;
   prev = None;
@@ -52,6 +55,7 @@ new_live finder giver guessing = record {
   issued = 0;
   pusher = record { giver = giver; full = 0; refused = 0 };
   seen = Some 0;
+  workers = workers;
 }
 
 -- the queue of a giver, as a finder tells it
@@ -76,6 +80,10 @@ due_by number (Some prev) (Some last) l = if nat_lt (length l.pusher.giver.pushe
 due_by number (Some prev) None l = []
 due_by number None last l = []
 
+-- which of them are offered to the workers
+abbrev pub offers_at : {F : Type 0} → (number : ℕ) → Live F → Due → Bool
+offers_at number l = is_offered (is_filled l.pusher.giver) l.workers number
+
 -- the last visit that is guessed once those jobs were pushed
 abbrev pub issued_by : {F : Type 0} → (number : ℕ) → (prev last : Option State) → Live F → ℕ
 issued_by number (Some prev) (Some last) l = number + l.guessing.ahead
@@ -87,11 +95,11 @@ abbrev pub seen_after : (number refused : ℕ) → Option ℕ → Option ℕ
 seen_after number refused (Some before) = if (number == before + 1) && (refused == 0) then Some number else None
 seen_after number refused None = None
 
--- At a visit its state was kept. Until the queue had been filled up the jobs that are due were pushed, but where memory was
--- wanting. From then on some of them were, or none, and its state is kept so only where that of the visit before was too.
+-- At a visit its state was kept, and the jobs that are due and offered were pushed, but where memory or room was wanting.
+-- Once the queue had been filled up, a state is kept so only where that of the visit before was too.
 pub record Keeps {F : Type 0} (number : ℕ) (now : State) (old new : Live F) : Type 0 where
   pub pair : HasFilled old.pusher.giver → (last : State) × (old.last ≡ Some last)
-  pub pushes : Pushes (due_by number old.last (Some now) old) old.pusher new.pusher
+  pub pushes : Pushes (offers_at number old) (due_by number old.last (Some now) old) old.pusher new.pusher
   pub rest : new ≡ record old {
     prev = old.last;
     last = Some now;

@@ -7,11 +7,11 @@ mod crew;
 mod crew_tests;
 mod laws;
 mod live;
-mod pace;
 mod pusher;
+mod share;
 #[cfg(test)]
 mod tests;
 
 pub use crew::{Crew, Worked, go_beside};
-pub use laws::guesses_are_counted;
+pub use laws::{guesses_are_counted, shares_rise};
 pub use live::Live;

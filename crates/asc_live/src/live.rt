@@ -5,12 +5,12 @@ ghost use Rattle.asc_run.specs.Helped.{aid, Plans, VisitsMachine};
 ghost use Rattle.asc_run.specs.Seen.{Sees};
 ghost use Rattle.asc_run.specs.Serial.{kinds_of};
 ghost use Rattle.asc_live.specs.Laws.{new_plan};
-ghost use Rattle.asc_live.specs.Live.{IsLive, new_live, queue_of, plan_of, refused_visit, due_by, issued_by, seen_after as seen_by, Visits};
-ghost use Rattle.asc_live.specs.Due.{HasFilled, Pushes};
+ghost use Rattle.asc_live.specs.Live.{IsLive, new_live, queue_of, plan_of, refused_visit, due_by, issued_by, offers_at, seen_after as seen_by, Visits};
+ghost use Rattle.asc_live.specs.Due.{HasFilled, Pushes, is_filled};
 
 use crate::budget::Budget;
-use crate::pace::Pace;
 use crate::pusher::Pusher;
+use crate::share::Share;
 use asc_jobs::Giver;
 use asc_outside::{Gate, Point};
 use asc_run::Helper;
@@ -29,9 +29,8 @@ use std::sync::{Arc, Wait};
 /// so are those after it until the budget is whole again. At such a visit no state is kept, nothing is pushed, and the
 /// finder is asked for no step. Which visits are passed over changes no answer of a run.
 ///
-/// At the other visits jobs are then offered at a share alone, spread evenly: at a few more than those at which some job
-/// was pushed. The jobs of the rest count as full. Were they offered at each visit, the walk would jump over many visits
-/// at once, and then go over as many.
+/// Of the guesses that are then due at the other visits, the workers' share is offered to them (`Share`). Those that are
+/// left to the walk count as full.
 ///
 /// Want of memory is counted, and changes no jump's being one.
 #[derive(Drop)]
@@ -41,7 +40,6 @@ pub struct Live<'a, F, G, R> {
     finder: F,
     pusher: Pusher<'a, R>,
     budget: Budget,
-    pace: Pace,
     workers: Vec<Unparker>,
     guessing: Guessing,
     prev: Option<Arc<Snapshot>>,
@@ -53,15 +51,15 @@ pub struct Live<'a, F, G, R> {
 }
 
 impl<'a, F, G, R> Model for Live<'a, F, G, R> {
-    ghost use Rattle.std.specs.Prelude.{Some, None};
+    ghost use Rattle.std.specs.Prelude.{Some, None, length};
     ghost use Rattle.std.specs.Arc.{arc_value};
     ghost use Rattle.asc_live.specs.Live as model;
 
     ghost Value = { model.Live F };
 
-    ghost view = { λ s. model.live s.finder s.guessing s.prev s.last s.issued s.pusher s.seen };
+    ghost view = { λ s. model.live s.finder s.guessing s.prev s.last s.issued s.pusher s.seen (length s.workers.items) };
 
-    ghost invariant = { λ s. model.IsLive (model.live s.finder s.guessing s.prev s.last s.issued s.pusher s.seen) };
+    ghost invariant = { λ s. model.IsLive (model.live s.finder s.guessing s.prev s.last s.issued s.pusher s.seen (length s.workers.items)) };
 }
 
 impl<'a, F, G, R> Live<'a, F, G, R> {
@@ -78,7 +76,7 @@ impl<'a, F, G, R> Live<'a, F, G, R> {
         requires giver { giver.pushed ≡ [] }
         requires least { 1 ≤ guessing.ahead }
         requires most { guessing.ahead ≤ 64 }
-        ensures live { result ≡ new_live finder giver guessing }
+        ensures live { result ≡ new_live finder giver guessing (length workers.items) }
         ensures plan { plan_of result ≡ new_plan guessing (Some (queue_of giver)) }
     {
         Live {
@@ -87,7 +85,6 @@ impl<'a, F, G, R> Live<'a, F, G, R> {
             finder,
             pusher: Pusher::new(rt, giver),
             budget: Budget::new(workers.len()),
-            pace: Pace::new(),
             workers,
             guessing,
             prev: None,
@@ -122,7 +119,6 @@ impl<'a, F, G, R> Live<'a, F, G, R> {
             finder,
             pusher,
             budget: _budget,
-            pace: _pace,
             workers: _workers,
             guessing: _,
             prev: _prev,
@@ -219,19 +215,20 @@ impl<'a, F, G, R: Wait> Live<'a, F, G, R> {
         } else if filled && self.last.is_none() {
             self.begin_row(state, number);
         } else if self.keep(state) {
-            let offered = self.pace.offers(filled);
-            self.push_due(number, offered);
+            self.push_due(number, filled);
         }
     }
 
-    // Where two states are kept, pushes the jobs of a visit, or counts them as full where they are not offered. It wakes a
-    // worker for each job if the visit is paid for.
-    fn push_due(&mut self, number: u64, offered: bool)
+    // Where two states are kept, pushes the jobs of a visit that are offered. It wakes a worker for each if the visit is
+    // paid for.
+    fn push_due(&mut self, number: u64, filled: bool)
         requires seen { self.old.seen ≡ None }
-        requires offered { offered ≡ false → HasFilled self.old.pusher.giver }
+        requires filled { filled ≡ is_filled self.old.pusher.giver }
+        requires room { filled ≡ true → HasFilled self.old.pusher.giver }
         requires number { number ≤ 2 ^ 40 }
         requires full { self.old.pusher.full < 2 ^ 62 }
-        ensures pushes { Pushes (due_by number self.old.prev self.old.last self.old) self.old.pusher self.new.pusher }
+        ensures pushes { Pushes (offers_at number self.old) (due_by number self.old.prev self.old.last self.old)
+            self.old.pusher self.new.pusher }
         ensures rest { self.new ≡ record self.old {
           issued = issued_by number self.old.prev self.old.last self.old;
           pusher = self.new.pusher;
@@ -244,9 +241,12 @@ impl<'a, F, G, R: Wait> Live<'a, F, G, R> {
             return;
         };
         let before = self.pusher.pushed();
+        let share = Share {
+            workers: self.workers.len() as u64,
+            filled,
+        };
         self.pusher
-            .offer_visit(offered, prev, last, &self.guessing, self.issued, number);
-        self.pace.note(before < self.pusher.pushed());
+            .offer_visit(share, prev, last, &self.guessing, self.issued, number);
         self.issued = number + u64::from(self.guessing.ahead);
         if self.budget.has_paid() {
             self.wake_for(before, self.pusher.pushed());
@@ -308,7 +308,7 @@ impl<'a, F: Finder, G, R> Finder for Live<'a, F, G, R> {
 
 impl<'a, F: Finder, G: Gate, R: Wait> Helper for Live<'a, F, G, R> {
     /// Pushes the jobs that are due, and wakes a worker for each if the budget pays for the visit. Once the queue had been
-    /// filled up it does so at a share of the visits; at the others these jobs count as full. A visit costs a copy of what
+    /// filled up it pushes the workers' share of them; the others count as full. A visit costs a copy of what
     /// changed in the state since the last one, and two owners more of a copy for each job.
     ///
     /// A visit that is passed over does none of this: one guess of each kind counts as one that found no room. So it does

@@ -2,9 +2,10 @@ ghost use Rattle.std.specs.Prelude.{◌≡◌, ◌+◌, ◌-◌, ◌<◌, ◌≤
 ghost use Rattle.std.specs.Arc.{arc_value};
 ghost use Rattle.asc_guess.specs.declared.kind.Kind.{Kind as kind_of};
 ghost use Rattle.asc_outside.specs.Outside.{one_more};
-ghost use Rattle.asc_live.specs.Due.{HasFilled, Pushes, jobs_of, tasks_for};
+ghost use Rattle.asc_live.specs.Due.{HasFilled, Pushes, is_filled, is_offered, jobs_of, tasks_for};
 ghost use Rattle.asc_run.specs.Serial.{kinds_of, tasks_of};
 
+use crate::share::Share;
 use asc_guess::{Kind, targets};
 use asc_jobs::{Full, Giver};
 use asc_shape::Snapshot;
@@ -65,7 +66,7 @@ impl<'a, R> Pusher<'a, R> {
         self.giver.pushed()
     }
 
-    /// How many jobs found no room, or were given up.
+    /// How many jobs found no room, or were left to the walk or given up.
     pub(crate) fn full(&self) -> u64
         ensures { result ≡ self.now.full }
     {
@@ -81,6 +82,7 @@ impl<'a, R> Pusher<'a, R> {
 
     /// Whether jobs were pushed, and as many as the queue holds.
     pub(crate) fn has_filled(&self) -> bool
+        ensures test { result ≡ is_filled self.now.giver }
         ensures filled { result ≡ true → HasFilled self.now.giver }
         ensures always { HasFilled self.now.giver → result ≡ true }
     {
@@ -88,7 +90,7 @@ impl<'a, R> Pusher<'a, R> {
         0 < pushed && self.giver.capacity() as u64 <= pushed
     }
 
-    /// Counts one guess of each kind that is on as one that found no room.
+    /// Counts one guess of each kind that is on as one that is not pushed.
     pub(crate) fn give_up(&mut self, guessing: &Guessing)
         requires { self.old.full < 2 ^ 63 }
         ensures { self.new ≡ record self.old { full = self.old.full + length (kinds_of guessing.now) } }
@@ -105,40 +107,39 @@ impl<'a, R> Pusher<'a, R> {
 }
 
 impl<'a, R: Wait> Pusher<'a, R> {
-    /// Pushes the jobs of a visit where they are offered, by the states of the last two: of the targets in rising order,
-    /// and of each kind that is on, `Last` before `Stride`. Where they are not, they count as given up. Once `MOST_JOBS`
-    /// were pushed it does neither.
+    /// Pushes the jobs of a visit that are offered, by the states of the last two: of the targets in rising order, and of
+    /// each kind that is on, `Last` before `Stride`. The others it counts as left to the walk. Once `MOST_JOBS` were
+    /// pushed it does neither.
     pub(crate) fn offer_visit(
         &mut self,
-        offered: bool,
+        share: Share,
         prev: &Arc<Snapshot>,
         last: &Arc<Snapshot>,
         guessing: &Guessing,
         issued: u64,
         number: u64,
     )
-        requires offered { offered ≡ false → HasFilled self.old.giver }
+        requires workers { share.workers + 1 < 2 ^ 64 }
+        requires filled { share.filled ≡ true → HasFilled self.old.giver }
         requires full { self.old.full < 2 ^ 62 }
         requires ahead { guessing.now.ahead ≤ 64 }
         requires issued { issued ≤ 2 ^ 41 }
         requires number { number ≤ 2 ^ 40 }
-        ensures { Pushes (if nat_lt (length self.old.giver.pushed) (2 ^ 60)
+        ensures { Pushes (is_offered share.filled share.workers number)
+            (if nat_lt (length self.old.giver.pushed) (2 ^ 60)
             then jobs_of (arc_value prev.now) (arc_value last.now) (tasks_of guessing.now issued number) else [])
             self.old self.new }
     {
         if self.pushed() < MOST_JOBS {
             let due = targets(issued, number, guessing.ahead);
-            if offered {
-                self.push_targets(prev, last, guessing, number, due.start, due.end);
-            } else {
-                self.full += kinds(guessing) * (due.end - due.start);
-            }
+            self.offer_targets(share, prev, last, guessing, number, due.start, due.end);
         }
     }
 
-    // Pushes the jobs of these targets.
-    fn push_targets(
+    // Pushes the jobs of those of these targets that are offered, and counts those of the others.
+    fn offer_targets(
         &mut self,
+        share: Share,
         prev: &Arc<Snapshot>,
         last: &Arc<Snapshot>,
         guessing: &Guessing,
@@ -146,17 +147,24 @@ impl<'a, R: Wait> Pusher<'a, R> {
         start: u64,
         end: u64,
     )
+        requires workers { share.workers + 1 < 2 ^ 64 }
+        requires filled { share.filled ≡ true → HasFilled self.old.giver }
         requires tickets { length self.old.giver.pushed < 2 ^ 60 }
         requires full { self.old.full < 2 ^ 62 }
         requires rises { start ≤ end }
         requires later { start < end → number ≤ start }
         requires few { end ≤ start + 64 }
         requires near { start < end → end ≤ number + 65 }
-        ensures { Pushes (jobs_of (arc_value prev.now) (arc_value last.now)
+        ensures { Pushes (is_offered share.filled share.workers number)
+            (jobs_of (arc_value prev.now) (arc_value last.now)
             (tasks_for guessing.now number start (end - start))) self.old self.new }
     {
         for target in start..end {
-            self.push_kinds(prev, last, guessing, (target - number) as u32);
+            if share.offers(target) {
+                self.push_kinds(prev, last, guessing, (target - number) as u32);
+            } else {
+                self.give_up(guessing);
+            }
         }
     }
 
@@ -170,7 +178,7 @@ impl<'a, R: Wait> Pusher<'a, R> {
     )
         requires tickets { length self.old.giver.pushed + 1 < 2 ^ 61 }
         requires full { self.old.full + 1 < 2 ^ 63 }
-        ensures { Pushes (jobs_of (arc_value prev.now) (arc_value last.now)
+        ensures { Pushes (λ due. true) (jobs_of (arc_value prev.now) (arc_value last.now)
             (map (λ (kind : kind_of). (kind, ahead)) (kinds_of guessing.now))) self.old self.new }
     {
         self.push_where(guessing.last, prev, last, ahead, Kind::Last);
@@ -188,7 +196,7 @@ impl<'a, R: Wait> Pusher<'a, R> {
     )
         requires tickets { length self.old.giver.pushed < 2 ^ 61 }
         requires full { self.old.full < 2 ^ 63 }
-        ensures { Pushes (jobs_of (arc_value prev.now) (arc_value last.now)
+        ensures { Pushes (λ due. true) (jobs_of (arc_value prev.now) (arc_value last.now)
             (if on then (kind, ahead) ∷ [] else [])) self.old self.new }
     {
         if on {
@@ -200,7 +208,7 @@ impl<'a, R: Wait> Pusher<'a, R> {
     fn push(&mut self, prev: &Arc<Snapshot>, last: &Arc<Snapshot>, ahead: u32, kind: Kind)
         requires tickets { length self.old.giver.pushed < 2 ^ 61 }
         requires full { self.old.full < 2 ^ 63 }
-        ensures { Pushes (record {
+        ensures { Pushes (λ due. true) (record {
           prev = arc_value prev.now;
           last = arc_value last.now;
           ahead = ahead;

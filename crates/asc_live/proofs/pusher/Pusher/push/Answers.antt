@@ -2,7 +2,7 @@
 use Rattle.std.proofs.Common.{[], ◌∷◌, ◌+◌, refl, subst}
 use Rattle.std.specs.Arc.{arc_value}
 use Rattle.asc_live.specs.Due.{Due, Pusher, Pushes}
-use Rattle.asc_live.proofs.Pushing.{Pushes-refused, Pushes-full, Pushes-one, asks-same}
+use Rattle.asc_live.proofs.Pushing.{each, Pushes-refused, Pushes-full, Pushes-one, asks-same}
 use Rattle.asc_live.proofs.pusher.Pusher.push.Goals as goal
 
 pub returns-in_default : goal.returns-in_default
@@ -13,7 +13,7 @@ returns-in-Ok g c =
     let d : Due = record { prev = arc_value c.args.prev.now; last = arc_value c.args.last.now; ahead = c.args.ahead; kind = c.args.kind } in
     let p : Pusher = record { giver = c.self.inside.giver; full = c.self.inside.full; refused = c.self.inside.refused } in
     let q : Pusher = record { giver = c.push.new.self; full = c.self.inside.full; refused = c.self.inside.refused } in
-    subst (λ x. Pushes (d ∷ []) x q) c.self.view_is
+    subst (λ x. Pushes each (d ∷ []) x q) c.self.view_is
     (Pushes-one d p q _ (asks-same _ _ c.args.ahead c.args.kind c.in-Ok.field-0 c.in-Ok-Ok.prev c.in-Ok-Ok.last c.in-Ok-Ok.ensures c.in-Ok-Ok.ensures') c.in-Ok.ensures.ticket c.in-Ok.ensures.pushed refl refl)
 
 pub returns-in-Err : goal.returns-in-Err
@@ -21,4 +21,4 @@ returns-in-Err g c =
     let d : Due = record { prev = arc_value c.args.prev.now; last = arc_value c.args.last.now; ahead = c.args.ahead; kind = c.args.kind } in
     let p : Pusher = record { giver = c.self.inside.giver; full = c.self.inside.full; refused = c.self.inside.refused } in
     let q : Pusher = record { giver = c.push.new.self; full = c.self.inside.full + 1; refused = c.self.inside.refused } in
-    subst (λ x. Pushes (d ∷ []) x q) c.self.view_is (Pushes-full d p q c.in-Err.ensures.same refl refl c.in-Err.ensures.full)
+    subst (λ x. Pushes each (d ∷ []) x q) c.self.view_is (Pushes-full d p q c.in-Err.ensures.same refl refl c.in-Err.ensures.full)
