@@ -16,7 +16,7 @@ pub(crate) enum Seen {
 }
 
 impl Seen {
-    /// What was seen once one more state is, which stays.
+    /// What was seen once one more state is, which stays. Its copy takes the memory of the one that is let go of.
     pub(crate) fn and(self, alloc: Global, state: &mut State) -> Result<Seen, Memory>
         requires { AreOfShape state.old.shape self }
         ensures prev { IfOk result (λ seen. prev_of seen ≡ last_of self) }
@@ -24,11 +24,10 @@ impl Seen {
         ensures shape { IfOk result (λ seen. AreOfShape state.old.shape seen) }
         ensures stays { state.new ≡ state.old }
     {
-        let now = state.freeze(alloc)?;
         Ok(match self {
-            Seen::Nothing => Seen::One(now),
-            Seen::One(last) => Seen::Two(last, now),
-            Seen::Two(_prev, last) => Seen::Two(last, now),
+            Seen::Nothing => Seen::One(state.freeze(alloc)?),
+            Seen::One(last) => Seen::Two(last, state.freeze(alloc)?),
+            Seen::Two(prev, last) => Seen::Two(last, state.freeze_over(alloc, Some(prev))?),
         })
     }
 
