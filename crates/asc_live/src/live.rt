@@ -140,8 +140,8 @@ impl<'a, F, G, R> Live<'a, F, G, R> {
         }
     }
 
-    // Keeps the state of a visit, and lets go of that before the last. Where memory is wanting it answers false, and
-    // both are given up.
+    // Keeps the state of a visit, in the memory of that before the last, which it lets go of. Where memory is wanting it
+    // answers false, and both are given up.
     fn keep(&mut self, state: &mut State) -> bool
         requires { self.old.seen ≡ None }
         ensures kept { result ≡ true → self.new
@@ -149,8 +149,9 @@ impl<'a, F, G, R> Live<'a, F, G, R> {
         ensures stays { state.new ≡ state.old }
         ensures refused { result ≡ false → self.new ≡ refused_visit self.old }
     {
+        let spare = self.prev.take();
         self.prev = self.last.take();
-        match state.freeze(self.alloc) {
+        match state.freeze_over(self.alloc, spare) {
             Ok(now) => {
                 self.last = Some(now);
                 true
