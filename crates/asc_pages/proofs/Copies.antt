@@ -1,14 +1,12 @@
 -- Lemmas on pages.
-use Rattle.std.proofs.Common.{nat_lt, cond, ◌≡◌, inl, inr, ℕ, zero, suc, ◌+◌, ◌*◌, ◌-◌, ◌/◌, ◌%◌, ◌≤◌, ◌<◌, Bool, true, false, Option, None, Some, List, [], ◌∷◌, ◌++◌, length, take, replicate, refl, sym, ap, ◌∙◌, arith, max, min, subst, slice_index, slice_index_or, length-append, length-take}
-use Rattle.std.proofs.lemmas.List.{get_or_past, get_or_append_left, get_or-append_right, get_or-replicate, get_or-take, length-replicate}
-use Rattle.std.specs.Global.{Vec}
+use Rattle.std.proofs.Common.{◌≡◌, inl, inr, ℕ, ◌+◌, ◌*◌, ◌-◌, ◌/◌, ◌%◌, ◌≤◌, ◌<◌, Bool, true, Option, None, List, [], ◌++◌, length, take, drop, replicate, refl, sym, ap, ◌∙◌, arith, max, min, slice_index, slice_index_or, length-append, length-take}
+use Rattle.std.proofs.lemmas.List.{get_or_past, get_or_append_left, get_or-append_right, get_or-replicate, get_or-take, get_or-drop, length-replicate}
 use Rattle.std.proofs.lemmas.List.FromFn.{length-map-range_with_len, get_or-map-range_with_len}
 use Rattle.std.proofs.lemmas.Bool.{cases_lt}
-use Rattle.std.proofs.lemmas.Bool.Decides.{nat_tests}
 use Rattle.asc_model.specs.Number.{word_at}
 use Rattle.asc_model.proofs.Numbers.{word_at-from_le_bytes}
 use Rattle.asc_pages.specs.Marks.{IsUnmarked}
-use Rattle.asc_pages.specs.Pages.{Page, Group, held, page_bytes, page_in, position_in, number_in, behind_in, group_in, byte_in, reach, bytes_in, IsPage, ArePages, AreGroups, KeptPages, KeptGroups, Tells, Keeps, IsShared}
+use Rattle.asc_pages.specs.Pages.{Page, Group, held, page_bytes, page_in, with_gap, group_in, byte_in, bytes_in, IsPage, ArePages, KeptPages, Tells, Keeps}
 
 -- ---- what is left out
 
@@ -20,86 +18,51 @@ past_in pages k past = ap (λ (page : Option Page). page_bytes page) (get_or_pas
 
 -- ---- groups
 
-lt_yes : (i n : ℕ) → i < n → nat_lt i n ≡ true
-lt_yes i n below = grind (arith, nat_tests)
+-- a group before those that are left out, among them, or behind them
+pub group_low : (groups : List (Option Group)) (low gap g : ℕ) → low ≤ length groups → g < low → slice_index_or (with_gap groups low gap) g None ≡ slice_index_or groups g None
+group_low groups low gap g inside below =
+    get_or_append_left (take low groups) (replicate gap None ++ drop low groups) None g (omega (arith, length-take low groups)) ∙ get_or-take low groups g None below
 
-lt_no : (i n : ℕ) → n ≤ i → nat_lt i n ≡ false
-lt_no i n above = grind (arith, nat_tests)
+behind : (groups : List (Option Group)) (low gap g : ℕ) → low ≤ length groups → low ≤ g
+    → slice_index_or (with_gap groups low gap) g None ≡ slice_index_or (replicate gap None ++ drop low groups) (g - low) None
+behind groups low gap g inside above =
+    get_or-append_right (take low groups) (replicate gap None ++ drop low groups) low g None (let e : length (take low groups) ≡ low = omega (arith, length-take low groups) in e) above
 
--- where a group stands: before those that are left out, among them, or behind them
-pub position_low : (low gap all h : ℕ) → h < low → position_in low gap all h ≡ h
-position_low low gap all h below = ap (λ b. cond b h (cond (nat_lt (h - low) gap) all (h - gap))) (lt_yes h low below)
+pub group_left : (groups : List (Option Group)) (low gap g : ℕ) → low ≤ length groups → low ≤ g → g < low + gap → slice_index_or (with_gap groups low gap) g None ≡ None
+group_left groups low gap g inside above left =
+    behind groups low gap g inside above
+    ∙ get_or_append_left (replicate gap None) (drop low groups) None (g - low) (omega (arith, length-replicate {A = Option Group} gap None))
+    ∙ get_or-replicate gap (g - low) None None (omega arith)
 
-pub position_left : (low gap all h : ℕ) → low ≤ h → h < low + gap → position_in low gap all h ≡ all
-position_left low gap all h above below =
-    ap (λ b. cond b h (cond (nat_lt (h - low) gap) all (h - gap))) (lt_no h low above) ∙ ap (λ b. cond b all (h - gap)) (lt_yes (h - low) gap (omega arith))
-
-pub position_high : (low gap all h : ℕ) → low + gap ≤ h → position_in low gap all h ≡ h - gap
-position_high low gap all h above =
-    ap (λ b. cond b h (cond (nat_lt (h - low) gap) all (h - gap))) (lt_no h low (omega arith)) ∙ ap (λ b. cond b all (h - gap)) (lt_no (h - low) gap (omega arith))
-
-pub number_low : (low gap k : ℕ) → k < low → number_in low gap k ≡ k
-number_low low gap k below = ap (λ b. cond b k (k + gap)) (lt_yes k low below)
-
-pub number_high : (low gap k : ℕ) → low ≤ k → number_in low gap k ≡ k + gap
-number_high low gap k above = ap (λ b. cond b k (k + gap)) (lt_no k low above)
-
--- a group past all that are listed
-position_past : (low gap all h : ℕ) → all + gap ≤ h → all ≤ position_in low gap all h
-position_past low gap all h past = elim (cases_lt h low) [
-  | inl below ↦ omega (arith, position_low low gap all h below)
-  | inr above ↦ elim (cases_lt h (low + gap)) [
-    | inl left ↦ omega (arith, position_left low gap all h above left)
-    | inr high ↦ omega (arith, position_high low gap all h high)
-  ]
-]
-
-pub blank_left : (groups : List (Option Group)) (low gap h : ℕ) → low ≤ h → h < low + gap → slice_index_or groups (position_in low gap (length groups) h) None ≡ None
-blank_left groups low gap h above left = get_or_past groups (position_in low gap (length groups) h) None (omega (arith, position_left low gap (length groups) h above left))
-
--- a group behind the first one
-group_behind : (first : List (Option Page)) (groups : List (Option Group)) (low gap h g : ℕ) → g ≡ h + 1 → group_in first groups low gap g ≡ behind_in groups low gap h
-group_behind first groups low gap h zero is = absurd (let e : ⊥ = omega arith in e)
-group_behind first groups low gap h (suc g) is = ap (λ k. behind_in groups low gap k) (let e : g ≡ h = omega arith in e)
-
--- a group that is not listed
-behind_past : (groups : List (Option Group)) (low gap h : ℕ) → reach groups gap ≤ h + 1 → behind_in groups low gap h ≡ []
-behind_past [] low gap h past = ap (λ (group : Option Group). held group) (get_or_past [] (position_in low gap 0 h) None (omega arith))
-behind_past (group ∷ rest) low gap h past =
-    ap (λ (g : Option Group). held g)
-    (get_or_past (group ∷ rest) (position_in low gap (length (group ∷ rest)) h) None (position_past low gap (length (group ∷ rest)) h (omega arith)))
-
-byte_past : (first : List (Option Page)) (groups : List (Option Group)) (low gap i : ℕ) → 32768 * (length first + reach groups gap) ≤ i → byte_in first groups low gap i ≡ 0
-byte_past first groups low gap i past =
-    let k = i / 1024 % 32 in
-    elim (cases_lt (i / 1024 / 32) 1) [
-      | inl none ↦ ap (λ g. slice_index (page_in (group_in first groups low gap g) k) (i % 1024)) (let e : i / 1024 / 32 ≡ 0 = omega arith in e)
-          ∙ ap (λ (l : List ℕ). slice_index l (i % 1024)) (past_in first k (omega arith)) ∙ get_or_past [] (i % 1024) 0 (omega arith)
-      | inr some ↦
-          let h = i / 1024 / 32 - 1 in
-          ap (λ (pages : List (Option Page)). slice_index (page_in pages k) (i % 1024))
-          (group_behind first groups low gap h (i / 1024 / 32) (omega arith) ∙ behind_past groups low gap h (omega arith))
-          ∙ ap (λ (l : List ℕ). slice_index l (i % 1024)) (none_in k) ∙ get_or_past [] (i % 1024) 0 (omega arith)
-    ]
+pub group_high : (groups : List (Option Group)) (low gap g : ℕ) → low ≤ length groups → low + gap ≤ g → slice_index_or (with_gap groups low gap) g None ≡ slice_index_or groups (g - gap) None
+group_high groups low gap g inside above =
+    behind groups low gap g inside (omega arith)
+    ∙ get_or-append_right (replicate gap None) (drop low groups) gap (g - low) None (length-replicate gap None) (omega arith)
+    ∙ get_or-drop low groups (g - low - gap) None
+    ∙ ap (λ k. slice_index_or groups k None) (let e : low + (g - low - gap) ≡ g - gap = omega arith in e)
 
 -- the byte at a place, also behind the last group
-pub byte-bytes_in : (first : List (Option Page)) (groups : List (Option Group)) (low gap i : ℕ) → slice_index (bytes_in first groups low gap) i ≡ byte_in first groups low gap i
+byte_past : (groups : List (Option Group)) (i : ℕ) → 32768 * length groups ≤ i → byte_in groups i ≡ 0
+byte_past groups i past =
+    ap (λ (group : Option Group). slice_index (page_in (held group) (i / 1024 % 32)) (i % 1024)) (get_or_past groups (i / 1024 / 32) None (omega arith))
+    ∙ ap (λ (l : List ℕ). slice_index l (i % 1024)) (none_in (i / 1024 % 32)) ∙ get_or_past [] (i % 1024) 0 (omega arith)
+
+pub byte-bytes_in : (groups : List (Option Group)) (i : ℕ) → slice_index (bytes_in groups) i ≡ byte_in groups i
 unfolding bytes_in
-byte-bytes_in first groups low gap i =
-    let n = 32768 * (length first + reach groups gap) in
+byte-bytes_in groups i =
+    let n = 32768 * length groups in
     elim (cases_lt i n) [
-      | inl within ↦ get_or-map-range_with_len (byte_in first groups low gap) 0 n i i 0 within (omega arith)
-      | inr past ↦ get_or_past (bytes_in first groups low gap) i 0 (omega (arith, length-map-range_with_len (byte_in first groups low gap) 0 n))
-          ∙ sym (byte_past first groups low gap i past)
+      | inl within ↦ get_or-map-range_with_len (byte_in groups) 0 n i i 0 within (omega arith)
+      | inr past ↦ get_or_past (bytes_in groups) i 0 (omega (arith, length-map-range_with_len (byte_in groups) 0 n)) ∙ sym (byte_past groups i past)
     ]
 
 -- a page as it is read
-pub page_read : (bytes : List ℕ) (first : List (Option Page)) (groups : List (Option Group)) (low gap : ℕ) (pages : List (Option Page)) (page : List ℕ) (p : ℕ)
-    → bytes_in first groups low gap ≡ bytes → pages ≡ group_in first groups low gap (p / 32) → page ≡ page_in pages (p % 32)
+pub page_read : (bytes : List ℕ) (groups : List (Option Group)) (pages : List (Option Page)) (page : List ℕ) (p : ℕ)
+    → bytes_in groups ≡ bytes → pages ≡ group_in groups (p / 32) → page ≡ page_in pages (p % 32)
     → (i : ℕ) → i / 1024 ≡ p → slice_index bytes i ≡ slice_index page (i % 1024)
-page_read bytes first groups low gap pages page p is group here i at =
-    ap (λ (l : List ℕ). slice_index l i) (sym is) ∙ byte-bytes_in first groups low gap i
-    ∙ ap (λ q. slice_index (page_in (group_in first groups low gap (q / 32)) (q % 32)) (i % 1024)) at
+page_read bytes groups pages page p is group here i at =
+    ap (λ (l : List ℕ). slice_index l i) (sym is) ∙ byte-bytes_in groups i
+    ∙ ap (λ q. slice_index (page_in (group_in groups (q / 32)) (q % 32)) (i % 1024)) at
     ∙ ap (λ (l : List (Option Page)). slice_index (page_in l (p % 32)) (i % 1024)) (sym group)
     ∙ ap (λ (l : List ℕ). slice_index l (i % 1024)) (sym here)
 
@@ -149,24 +112,18 @@ written_over bytes new zeros rest behind n k m least same is count blank i withi
     ]
 
 -- no groups have no bytes
-pub bytes_of_none : bytes_in [] [] 0 0 ≡ []
+pub bytes_of_none : bytes_in [] ≡ []
 unfolding bytes_in
 bytes_of_none = refl
 
 -- pages that are kept, as a group of them is read
-pub kept_pages : (marks : List Bool) (pages bytes : List ℕ) (first : List (Option Page)) (groups : List (Option Group)) (low gap g : ℕ) → bytes_in first groups low gap ≡ pages → Keeps marks pages bytes
-    → KeptPages marks bytes (32 * g) (group_in first groups low gap g)
-kept_pages marks pages bytes first groups low gap g is kept k within free i far inside here =
+pub kept_pages : (marks : List Bool) (bytes : List ℕ) (groups : List (Option Group)) (g : ℕ) → Keeps marks (bytes_in groups) bytes
+    → KeptPages marks bytes (32 * g) (group_in groups g)
+kept_pages marks bytes groups g kept k within free i far inside here =
     kept i far inside (ap (λ p. slice_index_or marks p true) here ∙ free)
-    ∙ page_read pages first groups low gap (group_in first groups low gap g) (page_in (group_in first groups low gap g) k) (32 * g + k) is
-    (ap (λ h. group_in first groups low gap h) (let e : g ≡ (32 * g + k) / 32 = omega arith in e))
-    (ap (λ j. page_in (group_in first groups low gap g) j) (let e : k ≡ (32 * g + k) % 32 = omega arith in e)) i here
-
-pub kept_groups : (marks : List Bool) (pages bytes : List ℕ) (first : List (Option Page)) (groups : List (Option Group)) (low gap : ℕ) → bytes_in first groups low gap ≡ pages → Keeps marks pages bytes
-    → KeptGroups marks bytes groups low gap
-kept_groups marks pages bytes first groups low gap is kept h =
-    subst (λ (l : List (Option Page)). KeptPages marks bytes (32 * (h + 1)) l) (group_behind first groups low gap h (h + 1) refl)
-    (kept_pages marks pages bytes first groups low gap (h + 1) is kept)
+    ∙ page_read (bytes_in groups) groups (group_in groups g) (page_in (group_in groups g) k) (32 * g + k) refl
+    (ap (λ h. group_in groups h) (let e : g ≡ (32 * g + k) / 32 = omega arith in e))
+    (ap (λ j. page_in (group_in groups g) j) (let e : k ≡ (32 * g + k) % 32 = omega arith in e)) i here
 
 -- a page behind those that are copied
 pub page_behind : (marks : List Bool) (bytes : List ℕ) (g used k : ℕ) (kept pages : List (Option Page)) → length marks ≡ length bytes / 1024 + 1
@@ -186,79 +143,25 @@ group_made marks bytes g used kept pages size free so count each k within = elim
   | inr past ↦ page_behind marks bytes g used k kept pages size free so within past count
 ]
 
--- the pages of the groups behind the first one
-pub groups_made : (marks : List Bool) (bytes : List ℕ) (before groups : List (Option Group)) (from gap_before low gap count free back : ℕ) → length marks ≡ length bytes / 1024 + 1
-    → KeptGroups marks bytes before from gap_before → IsUnmarked marks (32 * free) (32 * (back - free)) → count ≡ (length marks - 1) / 32
-    → length groups + gap ≡ count → low + gap ≤ count
-    → ((h : ℕ) → low ≤ h → h < low + gap → (free ≤ h + 1) × (h + 1 < back) × (slice_index_or before (position_in from gap_before (length before) h) None ≡ None))
-    → ((k : ℕ) → k < length groups → ArePages bytes (32 * (number_in low gap k + 1)) (held (slice_index_or groups k None))) → AreGroups bytes groups low gap
-groups_made marks bytes before groups from gap_before low gap count free back size kept unmarked all count_is order left each h k within i far inside here = elim (cases_lt h low) [
-  | inl below ↦
-      let n = number_low low gap h below in
-      each h (omega arith) k within i far inside (omega arith)
-      ∙ ap (λ j. slice_index (page_in (held (slice_index_or groups j None)) k) (i % 1024)) (sym (position_low low gap (length groups) h below))
-  | inr above ↦ elim (cases_lt h (low + gap)) [
-    | inl blank ↦
-        let so = left h above blank in
-        let first = so.0 in
-        let last = so.1 in
-        kept h k within (unmarked (32 * (h + 1) + k) (omega arith) (omega arith) (omega arith)) i far inside here
-        ∙ ap (λ (group : Option Group). slice_index (page_in (held group) k) (i % 1024)) (so.2 ∙ sym (blank_left groups low gap h above blank))
-    | inr high ↦
-        let n = number_high low gap (h - gap) (omega arith) in
-        each (h - gap) (omega arith) k within i far inside (omega arith)
-        ∙ ap (λ j. slice_index (page_in (held (slice_index_or groups j None)) k) (i % 1024)) (sym (position_high low gap (length groups) h high))
-  ]
-]
+-- the bytes of groups that are told one by one
+groups_told : (bytes : List ℕ) (groups : List (Option Group)) → ((g : ℕ) → ArePages bytes (32 * g) (group_in groups g)) → Tells (bytes_in groups) bytes
+groups_told bytes groups each i far inside = each (i / 1024 / 32) (i / 1024 % 32) (omega arith) i far inside (omega arith) ∙ sym (byte-bytes_in groups i)
 
--- the pages of all groups
-pub pages_told : (bytes : List ℕ) (first : List (Option Page)) (groups : List (Option Group)) (low gap : ℕ) → ArePages bytes 0 first → AreGroups bytes groups low gap
-    → Tells (bytes_in first groups low gap) bytes
-pages_told bytes first groups low gap lowest behind i far inside =
-    let k = i / 1024 % 32 in
-    elim (cases_lt (i / 1024 / 32) 1) [
-      | inl none ↦ lowest k (omega arith) i far inside (omega arith)
-          ∙ ap (λ g. slice_index (page_in (group_in first groups low gap g) k) (i % 1024)) (let e : 0 ≡ i / 1024 / 32 = omega arith in e)
-          ∙ sym (byte-bytes_in first groups low gap i)
-      | inr some ↦
-          let h = i / 1024 / 32 - 1 in
-          behind h k (omega arith) i far inside (omega arith)
-          ∙ ap (λ (pages : List (Option Page)). slice_index (page_in pages k) (i % 1024)) (sym (group_behind first groups low gap h (i / 1024 / 32) (omega arith)))
-          ∙ sym (byte-bytes_in first groups low gap i)
-    ]
-
--- where no page is marked the pages are those that are kept
-pub all_kept : (marks : List Bool) (pages bytes same : List ℕ) → length marks ≡ length bytes / 1024 + 1 → IsUnmarked marks 0 (length marks) → Keeps marks pages bytes → same ≡ pages
-    → Tells same bytes
-all_kept marks pages bytes same size free kept is i far inside =
-    kept i far inside (free (i / 1024) (omega arith) (omega arith) (omega arith)) ∙ ap (λ (l : List ℕ). slice_index l i) (sym is)
-
--- a part more of a list of parts
-pub each_more : {A : Type 0} (P : ℕ → Option A → Type 0) (list new : List (Option A)) (part : Option A) → new ≡ list ++ part ∷ []
-    → ((k : ℕ) → k < length list → P k (slice_index_or list k None)) → P (length list) part
-    → (length new ≡ length list + 1) × ((k : ℕ) → k < length new → P k (slice_index_or new k None))
-each_more {A} P list new part more each is =
-    let size : length new ≡ length list + 1 = ap (λ (l : List (Option A)). length l) more ∙ length-append list (part ∷ []) in (
-      size,
-      (λ k within. subst (λ (l : List (Option A)). P k (slice_index_or l k None)) (sym more)
-          (elim (cases_lt k (length list)) [
-            | inl below ↦ subst (λ (one : Option A). P k one) (sym (get_or_append_left list (part ∷ []) None k below)) (each k below)
-            | inr here ↦ let last : k ≡ length list = omega arith in
-                subst (λ (one : Option A). P k one)
-                (sym (get_or-append_right list (part ∷ []) (length list) k None refl here ∙ ap (λ j. slice_index_or (part ∷ []) j None) (let e : k - length list ≡ 0 = omega arith in e)))
-                (subst (λ j. P j part) (sym last) is)
-          ])),
-    )
-
--- what a part shares
-pub shared_group : (share part : Option Group) → IsShared share part → held share ≡ held part
-shared_group None None is = refl
-shared_group None (Some part) is = absurd is
-shared_group (Some share) None is = absurd is
-shared_group (Some share) (Some part) is = ap (λ (v : Vec (Option Page)). v.items) is
-
-pub shared_page : (share part : Option Page) → IsShared share part → page_bytes share ≡ page_bytes part
-shared_page None None is = refl
-shared_page None (Some part) is = absurd is
-shared_page (Some share) None is = absurd is
-shared_page (Some share) (Some part) is = is
+-- the bytes of groups of which a run is left out
+pub groups_made : (marks : List Bool) (bytes : List ℕ) (before groups : List (Option Group)) (low gap : ℕ) → length marks ≡ length bytes / 1024 + 1
+    → Keeps marks (bytes_in before) bytes → IsUnmarked marks (32 * low) (32 * gap)
+    → ((g : ℕ) → low ≤ g → g < low + gap → slice_index_or before g None ≡ None)
+    → low ≤ length groups → length marks ≤ 32 * (length groups + gap)
+    → ((k : ℕ) → k < length groups → k < low → ArePages bytes (32 * k) (group_in groups k))
+    → ((k : ℕ) → k < length groups → low ≤ k → ArePages bytes (32 * (k + gap)) (group_in groups k)) → Tells (bytes_in (with_gap groups low gap)) bytes
+groups_made marks bytes before groups low gap size kept unmarked blank inner all lows highs = groups_told bytes (with_gap groups low gap)
+    (λ g k within i far inside here. elim (cases_lt g low) [
+      | inl below ↦ lows g (omega arith) below k within i far inside here
+          ∙ ap (λ (group : Option Group). slice_index (page_in (held group) k) (i % 1024)) (sym (group_low groups low gap g inner below))
+      | inr above ↦ elim (cases_lt g (low + gap)) [
+        | inl left ↦ kept_pages marks bytes before g kept k within (unmarked (32 * g + k) (omega arith) (omega arith) (omega arith)) i far inside here
+            ∙ ap (λ (group : Option Group). slice_index (page_in (held group) k) (i % 1024)) (blank g above left ∙ sym (group_left groups low gap g inner above left))
+        | inr high ↦ highs (g - gap) (omega arith) (omega arith) k within i far inside (omega arith)
+            ∙ ap (λ (group : Option Group). slice_index (page_in (held group) k) (i % 1024)) (sym (group_high groups low gap g inner high))
+      ]
+    ])

@@ -1,16 +1,12 @@
-ghost use Rattle.std.specs.Prelude.{◌≡◌, ◌⊎◌, ◌+◌, ◌*◌, ◌-◌, ◌^◌, ◌<◌, ◌≤◌, [], ◌∷◌, ◌++◌, true, false, IfOk, length, replicate, slice_index_or, slice_set};
-ghost use Rattle.asc_pages.specs.Marks.{AreListed, IsUnmarked};
+ghost use Rattle.std.specs.Prelude.{◌≡◌, ◌⊎◌, ◌+◌, ◌*◌, ◌-◌, ◌^◌, ◌<◌, ◌≤◌, [], ◌∷◌, ◌++◌, true, false, if◌then◌else◌, IfOk, length, replicate, slice_index_or, slice_set};
+ghost use Rattle.asc_pages.specs.Marks.{AreMarks, IsUnmarked};
 
 use crate::pages::GROUP;
 use asc_outside::Memory;
 use std::alloc::Global;
 use std::marker::Model;
 
-// At most so many marked pages are listed.
-const LISTED: usize = 64;
-
-/// A mark for each page. Up to where there are marks is told group by group, and which pages are marked, where they are
-/// few, by a list. Of the groups a part in the middle that has none is known.
+/// A mark for each page. Up to where there are marks is told group by group, and which groups have some by a list.
 ///
 /// Contracts see it as the list of them.
 #[derive(Drop)]
@@ -18,10 +14,7 @@ pub struct Marks {
     pages: Vec<bool>,
     // For each group, up to which of its pages one may be marked.
     groups: Vec<usize>,
-    // Up to which group one may have a mark, and from which group on one may have one again.
-    used: usize,
-    back: usize,
-    // The marked pages, as they were marked, and whether there are more.
+    // The groups that have marks, as they got the first one, and whether there are more.
     listed: Vec<usize>,
     more: bool,
 }
@@ -34,7 +27,7 @@ impl Model for Marks {
 
     ghost view = { λ m. m.pages.items };
 
-    ghost invariant = { λ m. AreMarks m.used m.back m.more m.listed.items m.groups.items m.pages.items };
+    ghost invariant = { λ m. AreMarks m.more m.listed.items m.groups.items m.pages.items };
 }
 
 impl Marks {
@@ -47,9 +40,7 @@ impl Marks {
         Ok(Marks {
             pages: vec![in alloc; false; count]?,
             groups: vec![in alloc; 0; groups]?,
-            used: 0,
-            back: groups,
-            listed: Vec::with_capacity(alloc, LISTED)?,
+            listed: Vec::with_capacity(alloc, groups)?,
             more: false,
         })
     }
@@ -76,15 +67,25 @@ impl Marks {
     pub fn is_clear(&self) -> bool
         ensures { result ≡ true → IsUnmarked self.now 0 (length self.now) }
     {
-        self.used == 0 && self.back >= self.groups.len()
+        !self.more && self.listed.is_empty()
     }
 
-    /// The first one and the one behind the last one of groups that have no mark.
+    /// A part of the groups from one on up to another one in which no page is marked.
     #[inline]
-    pub(crate) fn free_groups(&self) -> (usize, usize)
-        ensures { IsUnmarked self.now (32 * result.0) (32 * (result.1 - result.0)) }
+    pub(crate) fn free_run(&self, from: usize, to: usize) -> (usize, usize)
+        requires { from ≤ to }
+        ensures order { result.0 ≤ result.1 }
+        ensures within { (from ≤ result.0) × (result.1 ≤ to) }
+        ensures free { IsUnmarked self.now (32 * result.0) (32 * (result.1 - result.0)) }
     {
-        (self.used, self.back)
+        if self.more {
+            return (to, to);
+        }
+        let mut run = (from, to);
+        for g in &self.listed {
+            run = without_group(run.0, run.1, *g);
+        }
+        run
     }
 
     /// How many pages of group g there are up to the last one that may be marked.
@@ -117,11 +118,9 @@ impl Marks {
     {
         let g = p / GROUP;
         self.pages[p] = true;
-        self.groups[g] = self.groups[g].max(p % GROUP + 1);
-        let (used, back) = without_group(self.used, self.back, g, self.groups.len() / 2);
-        self.used = used;
-        self.back = back;
-        list_page(&mut self.listed, &mut self.more, p);
+        let many = self.groups[g];
+        self.groups[g] = many.max(p % GROUP + 1);
+        list_group(&mut self.listed, &mut self.more, g, many == 0);
     }
 
     /// Marks all pages.
@@ -130,8 +129,6 @@ impl Marks {
     {
         self.pages.fill(true);
         self.groups.fill(GROUP);
-        self.used = self.groups.len();
-        self.back = self.used;
         self.more = true;
     }
 
@@ -141,67 +138,60 @@ impl Marks {
         ensures { self.new ≡ replicate (length self.old) false }
     {
         unmark(&mut self.pages, &mut self.groups, &self.listed, self.more);
-        self.used = 0;
-        self.back = self.groups.len();
         self.listed.clear();
         self.more = false;
     }
 }
 
-// The groups from one on and up to another one without group g: those before it are left out, or where it lies from
-// `half` on, those behind it.
+// The longer one of the parts of a run of groups before and behind group g.
 #[inline]
-fn without_group(used: usize, back: usize, g: usize, half: usize) -> (usize, usize)
-    requires { g < 2 ^ 63 }
-    ensures least { used ≤ result.0 }
-    ensures most { result.1 ≤ back }
+fn without_group(from: usize, to: usize, g: usize) -> (usize, usize)
+    requires { from ≤ to }
+    ensures order { result.0 ≤ result.1 }
+    ensures within { (from ≤ result.0) × (result.1 ≤ to) }
     ensures other { (g < result.0) ⊎ (result.1 ≤ g) }
 {
-    if g < half {
-        (used.max(g + 1), back)
+    if g < from || g >= to {
+        (from, to)
+    } else if g - from < to - g {
+        (g + 1, to)
     } else {
-        (used, back.min(g))
+        (from, g)
     }
 }
 
-// Lists a page, or says that there are more where the list is full.
+// Lists a group that has its first mark, or says that there are more where the list is full.
 #[inline]
-fn list_page(listed: &mut Vec<usize>, more: &mut bool, p: usize)
-    ensures { more.new ≡ false → (more.old ≡ false) × (listed.new.items ≡ listed.old.items ++ p ∷ []) }
+fn list_group(listed: &mut Vec<usize>, more: &mut bool, g: usize, is_first: bool)
+    ensures { more.new ≡ false
+        → (more.old ≡ false) × (listed.new.items ≡ (if is_first then listed.old.items ++ g ∷ [] else listed.old.items)) }
 {
-    if listed.len() < listed.capacity() {
-        listed.push_reserved(p);
-    } else {
-        *more = true;
+    if is_first {
+        if listed.len() < listed.capacity() {
+            listed.push_reserved(g);
+        } else {
+            *more = true;
+        }
     }
 }
 
-// Takes all marks away: those of the listed pages, or where there are more, every one.
+// Takes all marks away: those of the listed groups, or where there are more, every one.
 #[inline]
 fn unmark(pages: &mut [bool], groups: &mut [usize], listed: &[usize], more: bool)
-    requires groups { length pages.old ≤ 32 * length groups.old }
-    requires listed { more ≡ false → AreListed listed.now groups.old pages.old }
+    requires size { length pages.old < 2 ^ 32 }
+    requires marks { AreMarks more listed.now groups.old pages.old }
     ensures pages { pages.new ≡ replicate (length pages.old) false }
     ensures groups { groups.new ≡ replicate (length groups.old) 0 }
 {
     if more {
         pages.fill(false);
         groups.fill(0);
-    } else {
-        unmark_listed(pages, groups, listed);
+        return;
     }
-}
-
-// Takes the marks of the listed pages away, which are all that there are.
-#[inline]
-fn unmark_listed(pages: &mut [bool], groups: &mut [usize], listed: &[usize])
-    requires groups { length pages.old ≤ 32 * length groups.old }
-    requires listed { AreListed listed.now groups.old pages.old }
-    ensures pages { pages.new ≡ replicate (length pages.old) false }
-    ensures groups { groups.new ≡ replicate (length groups.old) 0 }
-{
-    for p in listed {
-        pages[*p] = false;
-        groups[*p / GROUP] = 0;
+    for g in listed {
+        let from = *g * GROUP;
+        let to = pages.len().min(from + GROUP);
+        pages[from..to].fill(false);
+        groups[*g] = 0;
     }
 }

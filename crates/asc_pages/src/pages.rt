@@ -1,6 +1,6 @@
-ghost use Rattle.std.specs.Prelude.{◌≡◌, ◌⊎◌, ◌+◌, ◌*◌, ◌/◌, ◌%◌, ◌^◌, ◌<◌, ◌≤◌, ℕ, [], max, min, false, IfOk, MatchResult, None, length, slice_index, slice_index_or};
+ghost use Rattle.std.specs.Prelude.{◌≡◌, ◌⊎◌, ◌+◌, ◌*◌, ◌/◌, ◌%◌, ◌^◌, ◌<◌, ◌≤◌, ℕ, List, [], Option, max, min, false, IfOk, MatchResult, None, length, slice_index, slice_index_or};
 ghost use Rattle.asc_model.specs.Number.{word_at};
-ghost use Rattle.asc_pages.specs.Pages.{IsPage, ArePages, AreGroups, KeptPages, KeptGroups, Keeps, Tells, IsShared, base_bytes, behind_in, bytes_in, group_in, held, number_in, page_bytes, page_in, position_in};
+ghost use Rattle.asc_pages.specs.Pages.{Group, IsPage, ArePages, KeptPages, Keeps, Tells, IsShared, base_bytes, bytes_in, group_in, held, page_bytes, page_in, with_gap};
 
 use crate::Marks;
 use asc_outside::Memory;
@@ -24,22 +24,27 @@ type Page = Option<Arc<[u8; PAGE]>>;
 // A group of pages that is left out is blank.
 type Group = Option<Arc<Vec<Page>>>;
 
-// The groups behind the first one. A run of them that are blank is left out of the list: so memory of which the first
-// and the last pages are used has a short one.
+// Groups. A run of them that are blank is left out of the list: so memory of which the first and the last pages are used has
+// a short one.
+//
+// Contracts see them as the list of all.
 #[derive(Drop)]
 struct Groups {
     list: Vec<Group>,
     // How many lie before those that are left out, and how many those are.
     low: usize,
     gap: usize,
-    ghost within: { low ≤ length list.items },
 }
 
-// The pages of the first group stand by themselves: they take fewer pieces of memory so.
-#[derive(Drop)]
-struct Top {
-    first: Vec<Page>,
-    groups: Groups,
+impl Model for Groups {
+    ghost use Rattle.asc_pages.specs.Pages.{Group, with_gap};
+    ghost use Rattle.std.specs.Prelude.{◌≤◌, List, Option, length};
+
+    ghost Value = { List (Option Group) };
+
+    ghost view = { λ s. with_gap s.list.items s.low s.gap };
+
+    ghost invariant = { λ s. s.low ≤ length s.list.items };
 }
 
 /// Pages of bytes that do not change. They can be shared, also by threads, and share what they have in common with
@@ -48,7 +53,7 @@ struct Top {
 /// Contracts see them as their bytes. Behind the last one all are 0.
 #[derive(Drop)]
 pub struct Pages {
-    top: Arc<Top>,
+    top: Arc<Groups>,
 }
 
 impl Model for Pages {
@@ -57,7 +62,7 @@ impl Model for Pages {
 
     ghost Value = { List ℕ };
 
-    ghost view = { λ s. bytes_in s.top.value.first.items s.top.value.groups.list.items s.top.value.groups.low s.top.value.groups.gap };
+    ghost view = { λ s. bytes_in s.top.value };
 }
 
 impl Pages {
@@ -66,7 +71,7 @@ impl Pages {
         ensures { IfOk result (λ pages. pages ≡ []) }
     {
         Ok(Pages {
-            top: Arc::new(alloc, blank_top(alloc))?,
+            top: Arc::new(alloc, no_groups(alloc))?,
         })
     }
 
@@ -92,38 +97,9 @@ impl Pages {
         requires kept { Keeps changed.now (base_bytes base.now) bytes.now }
         ensures { IfOk result (λ pages. Tells pages bytes.now) }
     {
-        match base {
-            None => Pages::none(alloc)?.after(alloc, bytes, changed),
-            Some(base) => base.after(alloc, bytes, changed),
-        }
-    }
-
-    // The pages of bytes that have these where they are not marked.
-    #[inline]
-    fn after(&self, alloc: Global, bytes: &[u8], changed: &Marks) -> Result<Pages, Memory>
-        requires most { length bytes.now < 2 ^ 32 }
-        requires marks { length changed.now ≡ length bytes.now / 1024 + 1 }
-        requires kept { Keeps changed.now self.now bytes.now }
-        ensures { IfOk result (λ pages. Tells pages bytes.now) }
-    {
-        if changed.is_clear() {
-            return self.share();
-        }
-        self.copied(alloc, bytes, changed)
-    }
-
-    // The same, where a page is marked.
-    #[inline(never)]
-    fn copied(&self, alloc: Global, bytes: &[u8], changed: &Marks) -> Result<Pages, Memory>
-        requires most { length bytes.now < 2 ^ 32 }
-        requires marks { length changed.now ≡ length bytes.now / 1024 + 1 }
-        requires kept { Keeps changed.now self.now bytes.now }
-        ensures { IfOk result (λ pages. Tells pages bytes.now) }
-    {
-        let top = top_of(alloc, bytes, changed, &self.top, blank_top(alloc))?;
-        Ok(Pages {
-            top: Arc::new(alloc, top)?,
-        })
+        let mut pages = Pages::none(alloc)?;
+        pages.renew(alloc, bytes, changed, base)?;
+        Ok(pages)
     }
 
     /// Makes these the pages of bytes, as `of` does. What they were is of no account, but memory that nobody else has is
@@ -143,15 +119,16 @@ impl Pages {
             (λ _. (self.new ≡ self.old) ⊎ (self.new ≡ [])) }
     {
         match base {
-            Some(base) if !changed.is_clear() => self.write(alloc, bytes, changed, base),
-            _ => {
-                *self = Pages::of(alloc, bytes, changed, base)?;
+            None => self.write(alloc, bytes, changed, &Pages::none(alloc)?),
+            Some(base) if changed.is_clear() => {
+                *self = base.share()?;
                 Ok(())
             }
+            Some(base) => self.write(alloc, bytes, changed, base),
         }
     }
 
-    // The same, where a page is marked and there is a base.
+    // The same, where there is a base.
     #[inline(never)]
     fn write(
         &mut self,
@@ -168,12 +145,13 @@ impl Pages {
     {
         match Arc::get_mut(&mut self.top) {
             Some(top) => {
-                let spare = mem::replace(top, blank_top(alloc));
-                *top = top_of(alloc, bytes, changed, &base.top, spare)?;
+                let spare = mem::replace(top, no_groups(alloc));
+                *top = groups_of(alloc, bytes, changed, &base.top, spare)?;
                 Ok(())
             }
             None => {
-                *self = base.copied(alloc, bytes, changed)?;
+                let groups = groups_of(alloc, bytes, changed, &base.top, no_groups(alloc))?;
+                self.top = Arc::new(alloc, groups)?;
                 Ok(())
             }
         }
@@ -212,78 +190,25 @@ pub fn word_in(bytes: &[u8], at: usize) -> u32
     u32::from_le_bytes([part[0], part[1], part[2], part[3]])
 }
 
-// The first page of a group and the page behind its last one, of so many pages.
-#[inline]
-fn part_ends(part: usize, count: usize) -> (usize, usize)
-    requires count { count < 2 ^ 32 }
-    requires part { 32 * part < count }
-    ensures from { result.0 ≡ 32 * part }
-    ensures to { result.1 ≡ min (32 * part + 32) count }
-{
-    let from = part * GROUP;
-    (from, count.min(from + GROUP))
-}
-
-// How many of `count` parts are used, where one list uses so many of them, and another one so many.
-#[inline]
-fn used_of(one: usize, other: usize, count: usize) -> usize
-    ensures { result ≡ min (max one other) count }
-{
-    one.max(other).min(count)
-}
-
 // The pages of group g, or none where it is left out.
 #[inline]
-fn pages_in(top: &Top, g: usize) -> &[Page]
-    ensures { result.now ≡ group_in top.now.first.items top.now.groups.list.items top.now.groups.low top.now.groups.gap g }
+fn pages_in(groups: &Groups, g: usize) -> &[Page]
+    ensures { result.now ≡ group_in groups.now g }
 {
-    if g == 0 {
-        &top.first[..]
+    if g < groups.low {
+        group_pages(&groups.list[g])
     } else {
-        pages_behind(&top.groups, g - 1)
-    }
-}
-
-// The pages of group h of those behind the first one, or none where it is left out.
-#[inline]
-fn pages_behind(groups: &Groups, h: usize) -> &[Page]
-    ensures { result.now ≡ behind_in groups.now.list.items groups.now.low groups.now.gap h }
-{
-    if h < groups.low {
-        group_pages(&groups.list[h])
-    } else {
-        pages_above(groups, h)
+        pages_above(groups, g)
     }
 }
 
 // The same of a group behind those that come first in the list.
 #[inline]
-fn pages_above(groups: &Groups, h: usize) -> &[Page]
-    ensures { result.now ≡ behind_in groups.now.list.items groups.now.low groups.now.gap h }
+fn pages_above(groups: &Groups, g: usize) -> &[Page]
+    ensures { result.now ≡ group_in groups.now g }
 {
-    group_at(&groups.list, position(groups, h))
-}
-
-// Where group h of those behind the first one stands in the list, or the list's end where it is left out.
-#[inline]
-fn position(groups: &Groups, h: usize) -> usize
-    ensures { result ≡ position_in groups.now.low groups.now.gap (length groups.now.list.items) h }
-{
-    if h < groups.low {
-        h
-    } else if h - groups.low < groups.gap {
-        groups.list.len()
-    } else {
-        h - groups.gap
-    }
-}
-
-// The pages of part g of a list of groups, or none where it is left out.
-#[inline]
-fn group_at(groups: &[Group], g: usize) -> &[Page]
-    ensures { result.now ≡ held (slice_index_or groups.now g None) }
-{
-    match groups.get(g) {
+    let place = position(groups.low, groups.gap, groups.list.len(), g);
+    match groups.list.get(place) {
         Some(group) => group_pages(group),
         None => &[],
     }
@@ -297,6 +222,23 @@ fn group_pages(group: &Group) -> &[Page]
     match group {
         Some(group) => &group[..],
         None => &[],
+    }
+}
+
+// Where group g stands in a list of so many from which `gap` groups behind the first `low` are left out, or the list's end
+// where it is one of these.
+#[inline]
+fn position(low: usize, gap: usize, len: usize, g: usize) -> usize
+    requires { low ≤ len }
+    ensures { (list : List (Option Group)) → length list ≡ len
+        → slice_index_or (with_gap list low gap) g None ≡ slice_index_or list result None }
+{
+    if g < low {
+        g
+    } else if g - low < gap {
+        len
+    } else {
+        g - gap
     }
 }
 
@@ -323,77 +265,42 @@ fn share_part<T>(parts: &[Option<Arc<T>>], k: usize) -> Result<Option<Arc<T>>, M
     }
 }
 
-// A run of groups that are blank.
-fn blank_run(groups: &Groups) -> (usize, usize)
-    ensures { (h : ℕ) → result.0 ≤ h → h < result.1
-        → slice_index_or groups.now.list.items (position_in groups.now.low groups.now.gap (length groups.now.list.items) h) None ≡ None }
-{
-    if groups.list.len() <= groups.low {
-        (groups.list.len(), usize::MAX)
-    } else {
-        (groups.low, groups.low.saturating_add(groups.gap))
-    }
-}
-
-// What two runs of `count` groups have in common, the first of them told with the group before all.
-fn common(free: (usize, usize), blank: (usize, usize), count: usize) -> (usize, usize)
+// A run of groups of `count` that are blank.
+fn blank_run(groups: &Groups, count: usize) -> (usize, usize)
     ensures order { result.0 ≤ result.1 }
     ensures most { result.1 ≤ count }
-    ensures within { (h : ℕ) → result.0 ≤ h → h < result.1 → (free.0 ≤ h + 1) × (h + 1 < free.1) × (blank.0 ≤ h) × (h < blank.1) }
+    ensures blank { (g : ℕ) → result.0 ≤ g → g < result.1 → slice_index_or groups.now g None ≡ None }
 {
-    let low = free.0.saturating_sub(1).max(blank.0).min(count);
-    let end = free.1.saturating_sub(1).min(blank.1).min(count);
-    if low < end {
-        (low, end)
+    if groups.list.is_empty() {
+        (0, count)
     } else {
-        (count, count)
+        (
+            groups.low.min(count),
+            groups.low.saturating_add(groups.gap).min(count),
+        )
     }
 }
 
-// The number of the group in place k of a list from which a run of `gap` groups is left out.
+// The number of the group in place k of a list from which `gap` groups behind the first `low` are left out.
 #[inline]
 fn number(low: usize, gap: usize, k: usize) -> usize
     requires { k + gap < 2 ^ 64 }
-    ensures { result ≡ number_in low gap k }
+    ensures below { k < low → result ≡ k }
+    ensures above { low ≤ k → result ≡ k + gap }
 {
     if k < low { k } else { k + gap }
 }
 
-// No page at all. It takes no memory.
+// No groups. They take no memory.
 #[inline]
-fn blank_top(alloc: Global) -> Top
-    ensures { bytes_in result.first.items result.groups.list.items result.groups.low result.groups.gap ≡ [] }
+fn no_groups(alloc: Global) -> Groups
+    ensures { bytes_in result ≡ [] }
 {
-    let groups = Groups {
+    Groups {
         list: Vec::new(alloc),
         low: 0,
         gap: 0,
-    };
-    Top {
-        first: Vec::new(alloc),
-        groups,
     }
-}
-
-// The pages of bytes, in the memory of a spare top.
-#[inline]
-fn top_of(
-    alloc: Global,
-    bytes: &[u8],
-    changed: &Marks,
-    kept: &Top,
-    spare: Top,
-) -> Result<Top, Memory>
-    requires most { length bytes.now < 2 ^ 32 }
-    requires marks { length changed.now ≡ length bytes.now / 1024 + 1 }
-    requires first { KeptPages changed.now bytes.now 0 kept.now.first.items }
-    requires groups { KeptGroups changed.now bytes.now kept.now.groups.list.items kept.now.groups.low kept.now.groups.gap }
-    ensures { IfOk result (λ top. Tells (bytes_in top.first.items top.groups.list.items top.groups.low top.groups.gap) bytes.now) }
-{
-    let Top { first, groups } = spare;
-    let first = pages_of(alloc, bytes, changed, &kept.first, 0, first)?;
-    let groups = groups_of(alloc, bytes, changed, &kept.groups, groups)?;
-    Ok(Top { first, groups })
 }
 
 // A list of so many parts, in the memory of another one. What they are is of no account.
@@ -409,7 +316,7 @@ fn sized<T: Drop>(
     Ok(parts)
 }
 
-// The groups of bytes behind the first one, in the memory of spare ones.
+// The groups of bytes, in the memory of spare ones.
 #[inline]
 fn groups_of(
     alloc: Global,
@@ -420,24 +327,17 @@ fn groups_of(
 ) -> Result<Groups, Memory>
     requires most { length bytes.now < 2 ^ 32 }
     requires marks { length changed.now ≡ length bytes.now / 1024 + 1 }
-    requires kept { KeptGroups changed.now bytes.now kept.now.list.items kept.now.low kept.now.gap }
-    ensures { IfOk result (λ groups. AreGroups bytes.now groups.list.items groups.low groups.gap) }
+    requires kept { Keeps changed.now (bytes_in kept.now) bytes.now }
+    ensures { IfOk result (λ groups. Tells (bytes_in groups) bytes.now) }
 {
-    let count = (changed.len() - 1) / GROUP;
-    let (low, end) = common(changed.free_groups(), blank_run(kept), count);
+    let count = changed.len().div_ceil(GROUP);
+    let blank = blank_run(kept, count);
+    let (low, end) = changed.free_run(blank.0, blank.1);
     let used = low + (count - end);
     let mut list = sized(spare.list, used)?;
     for k in 0..used {
-        let h = number(low, end - low, k);
-        put_group(
-            alloc,
-            bytes,
-            changed,
-            &kept.list,
-            position(kept, h),
-            h + 1,
-            &mut list[k],
-        )?;
+        let g = number(low, end - low, k);
+        put_group(alloc, bytes, changed, kept, g, &mut list[k])?;
     }
     Ok(Groups {
         list,
@@ -446,29 +346,28 @@ fn groups_of(
     })
 }
 
-// Puts group g of bytes in the place of another one: part k of those that are kept, shared, where no page of it is
-// changed.
+// Puts group g of bytes in the place of another one: that of those that are kept, shared, where no page of it is changed.
 #[inline]
 fn put_group(
     alloc: Global,
     bytes: &[u8],
     changed: &Marks,
-    kept: &[Group],
-    k: usize,
+    kept: &Groups,
     g: usize,
     group: &mut Group,
 ) -> Result<(), Memory>
     requires most { length bytes.now < 2 ^ 32 }
     requires marks { length changed.now ≡ length bytes.now / 1024 + 1 }
     requires group { 32 * g < length changed.now }
-    requires kept { KeptPages changed.now bytes.now (32 * g) (held (slice_index_or kept.now k None)) }
+    requires kept { KeptPages changed.now bytes.now (32 * g) (group_in kept.now g) }
     ensures { IfOk result (λ _. ArePages bytes.now (32 * g) (held group.new)) }
 {
     if changed.used_pages(g) == 0 {
-        *group = share_part(kept, k)?;
+        let place = position(kept.low, kept.gap, kept.list.len(), g);
+        *group = share_part(&kept.list, place)?;
         Ok(())
     } else {
-        write_group(alloc, bytes, changed, group_at(kept, k), g, group)
+        write_group(alloc, bytes, changed, pages_in(kept, g), g, group)
     }
 }
 
@@ -518,8 +417,9 @@ fn pages_of(
     requires kept { KeptPages changed.now bytes.now (32 * g) kept.now }
     ensures { IfOk result (λ pages. ArePages bytes.now (32 * g) pages.items) }
 {
-    let (from, to) = part_ends(g, changed.len());
-    let used = used_of(changed.used_pages(g), kept.len(), to - from);
+    let from = g * GROUP;
+    let room = GROUP.min(changed.len() - from);
+    let used = room.min(kept.len().max(changed.used_pages(g)));
     let mut pages = sized(spare, used)?;
     for k in 0..used {
         put_page(
@@ -574,23 +474,20 @@ fn copy_to(alloc: Global, bytes: &[u8], page: &mut Page) -> Result<(), Memory>
             return Ok(());
         }
     }
-    *page = Some(copy_of(alloc, bytes)?);
+    *page = Some(page_of(alloc, bytes)?);
     Ok(())
 }
 
 // A page of the first bytes of a list, and zeros behind those that there are.
 //
-// The bytes are written into the page where it lies: one that is made first is copied twice.
-fn copy_of(alloc: Global, bytes: &[u8]) -> Result<Arc<[u8; PAGE]>, Memory>
+// It stands out of `copy_to`, which would else fill the room for it at each call.
+#[inline(never)]
+fn page_of(alloc: Global, bytes: &[u8]) -> Result<Arc<[u8; PAGE]>, Memory>
     ensures { IfOk result (λ page. (i : ℕ) → i < 1024 → slice_index page.value i ≡ slice_index bytes.now i) }
 {
-    let mut page = Arc::new(alloc, [0; PAGE])?;
-    match Arc::get_mut(&mut page) {
-        Some(zeros) => write_over(zeros, bytes),
-        // It is nobody else's yet.
-        None => return Err(Memory),
-    }
-    Ok(page)
+    let mut page = [0; PAGE];
+    write_over(&mut page, bytes);
+    Ok(Arc::new(alloc, page)?)
 }
 
 // Writes the first bytes of a list over a page, and zeros behind those that there are.
