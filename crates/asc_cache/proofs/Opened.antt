@@ -3,8 +3,10 @@ use Rattle.std.proofs.Common.{◌≡◌, ℕ, zero, suc, ◌+◌, ◌<◌, ◌�
 use Rattle.std.proofs.lemmas.Bool.{cases_lt}
 use Rattle.std.specs.Result.{is_err}
 use Rattle.asc_shard.specs.Content.{content_of}
-use Rattle.asc_cache.specs.ShardRule.{Front, IsAlike, IsFolded}
+use Rattle.asc_cache.specs.History.{stored_in, tried_in}
+use Rattle.asc_cache.specs.ShardRule.{Front, IsAlike, IsLogged, IsWritten}
 use Rattle.asc_cache.specs.declared.instance.Instance.{Instance}
+use Rattle.asc_cache.specs.declared.instance.Operation.{Operation}
 use Rattle.asc_cache.specs.Cache.{Cache, ShardWriter, ShardReader, ShardReaders, AreLater, AreOpened, IsOpened, IsOwnReader}
 
 -- a list with one element more, at its old places and at the new one
@@ -69,14 +71,23 @@ pub no-error : {T E P : Type 0} (r : Result T E) → OnOk r P → is_err r ≡ f
 no-error (Ok x) holds none = holds
 no-error (Err x) holds none = absurd (clash none)
 
--- what is shown of a shard that was empty, and of one like it
-pub begun : (whole : Front) (first shown after : Instance) → whole.log ≡ [] → first.shard.held ≡ [] → first.front ≡ whole → shown ≡ first → IsAlike shown after
-    → IsFolded after × (whole.book ≡ after.front.book) × (whole.log ≡ after.front.log)
-begun whole first shown after none empty front is alike =
+-- what a writer has of a shard that was empty, and of one like it
+pub begun : (whole : Front) (first shown after : Instance) (pending : List Operation) → whole.log ≡ [] → first.shard.held ≡ [] → first.front ≡ whole → shown ≡ first → IsAlike shown after
+    → pending ≡ [] → IsWritten after pending whole whole 0
+begun whole first shown after pending none empty front is alike idle =
     let same : after.front ≡ whole = alike.1 ∙ ap (λ (x : Instance). x.front) is ∙ front in
     let held : after.shard.held ≡ [] = ap (λ s. s.held) (alike.0 ∙ ap (λ (x : Instance). x.shard) is) ∙ empty in
-    let log : after.front.log ≡ [] = ap (λ (f : Front). f.log) same ∙ none in
-    (held ∙ sym (ap (content_of after.shard.capacity) log), sym (ap (λ (f : Front). f.book) same), sym (ap (λ (f : Front). f.log) same))
+    let list : tried_in after.front.log ≡ [] = ap (λ (f : Front). tried_in f.log) same ∙ ap tried_in none in
+    let book : whole.book ≡ after.front.book = sym (ap (λ (f : Front). f.book) same) in
+    let stored : stored_in whole.log ≡ tried_in after.front.log = ap stored_in none ∙ sym list in
+    record {
+      folded = held ∙ sym (ap (content_of after.shard.capacity) list);
+      book = book;
+      logged = subst (λ p. IsLogged after p whole) (sym idle) stored;
+      told_book = book;
+      told_list = stored;
+      counted = ap length none;
+    }
 
 -- a shard that is the same is as like it
 pub told : (shown after now : Instance) → now ≡ after → IsAlike shown after → IsAlike shown now

@@ -22,7 +22,7 @@ pub record ShardWriter : Type 0 where
   pub capacity : ℕ
   -- all stored insertions, the oldest first
   pub stored : List Entry
-  -- whether an entry is pending, since for want of memory its list or its publication was refused
+  -- whether an entry is pending, since its publication was refused
   pub refused : Bool
 
 -- a shard's reader

@@ -1,4 +1,5 @@
 pub mod Cache
+pub mod History
 pub mod Insert
 pub mod LogRule
 pub mod ShardRule

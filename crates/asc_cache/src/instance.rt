@@ -1,4 +1,5 @@
 ghost use Rattle.std.specs.Prelude.{◌≡◌, length};
+ghost use Rattle.asc_cache.specs.History.{tried_in};
 
 use crate::log::Front;
 use asc_shard::Shard;
@@ -7,31 +8,30 @@ use left_right::Absorb;
 use std::alloc::{AllocError, Global};
 use std::sync::Arc;
 
-/// What is done to an instance. An insertion is two of these, one after the other: so the first may be refused before
-/// the list of insertions has it.
+/// An insertion, with the log up to where its entry was tried.
 #[derive(Drop)]
-pub(crate) enum Operation {
-    /// An entry is inserted.
-    Inserts(Arc<Entry, Global>),
-    /// The list of insertions comes this far.
-    Reaches(Reached),
-}
-
-/// The list of insertions up to one of them, with its length.
-#[derive(Drop)]
-pub(crate) struct Reached {
+pub(crate) struct Operation {
+    pub entry: Arc<Entry, Global>,
+    /// How many insertions that makes.
     pub stored: u64,
+    /// How many notes the log then has.
+    pub notes: u64,
     pub front: Front,
-    ghost counted: { length front.log ≡ stored },
+    ghost stored_is: { length (tried_in front.log) ≡ stored },
+    ghost notes_is: { length front.log ≡ notes },
 }
 
-/// One of the two instances of a doubled shard, with the list of insertions that it has taken in and its length.
+/// One of the two instances of a doubled shard, with the log up to the last insertion that it has taken in.
 #[derive(Drop)]
 pub(crate) struct Instance {
     pub shard: Shard,
+    /// How many insertions it has taken in.
     pub stored: u64,
+    /// How many notes its log has.
+    pub notes: u64,
     pub front: Front,
-    ghost counted: { length front.log ≡ stored },
+    ghost stored_is: { length (tried_in front.log) ≡ stored },
+    ghost notes_is: { length front.log ≡ notes },
 }
 
 impl Absorb<Operation> for Instance {
@@ -44,16 +44,11 @@ impl Absorb<Operation> for Instance {
     ghost applied = { absorbed };
 
     fn absorb_first(&mut self, operation: &Operation, _other: &Instance) -> Result<(), AllocError> {
-        match operation {
-            Operation::Inserts(entry) => {
-                let entry = Arc::try_clone(entry)?;
-                self.shard.insert(entry);
-            }
-            Operation::Reaches(reached) => {
-                self.stored = reached.stored;
-                self.front = reached.front.again();
-            }
-        }
+        let entry = Arc::try_clone(&operation.entry)?;
+        self.shard.insert(entry);
+        self.stored = operation.stored;
+        self.notes = operation.notes;
+        self.front = operation.front.again();
         Ok(())
     }
 }

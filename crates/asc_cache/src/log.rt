@@ -1,14 +1,23 @@
-ghost use Rattle.std.specs.Prelude.{◌≡◌, ◌++◌, ◌∷◌, [], length, true};
+ghost use Rattle.std.specs.Prelude.{◌≡◌, ◌++◌, ◌∷◌, [], length, true, false};
 ghost use Rattle.asc_cache.specs.LogRule.{AreOfOneList, head_of};
 
 use asc_traj::Entry;
 use logbook::{Gain, Offer, Plain, Play, Rule, Seen, Start, Word};
 use std::snapshot::Snapshot;
 
-// The rule of the list of insertions: its word is its length.
+/// A note of the log, which keeps no bytes of it.
+#[derive(Drop)]
+pub(crate) enum Note {
+    /// This entry is tried behind all that is stored.
+    Tries(Snapshot<Entry>),
+    /// What was tried last is stored.
+    Stores,
+}
+
+// The rule of the log: its word is its length.
 pub(crate) struct Counted;
 
-impl Rule<Entry, ()> for Counted {
+impl Rule<Note, ()> for Counted {
     ghost use Rattle.std.specs.Prelude.{[]};
     ghost use base.Fml.{ftrue};
     ghost use Rattle.asc_cache.specs.LogRule.{LogRule};
@@ -28,7 +37,7 @@ impl Rule<Entry, ()> for Counted {
 
 struct NoGain;
 
-impl Gain<Entry, ()> for NoGain {
+impl Gain<Note, ()> for NoGain {
     ghost use base.Fml.{ftrue};
 
     ghost after = { λ names about answer. ftrue };
@@ -36,35 +45,35 @@ impl Gain<Entry, ()> for NoGain {
 
 struct Append;
 
-impl Play<Entry, ()> for Append {
+impl Play<Note, ()> for Append {
     ghost use Rattle.asc_cache.specs.LogRule.{Appends};
 
     ghost then = { Appends };
 }
 
-impl Plain<Snapshot<Entry>, Entry, ()> for Append {
+impl Plain<Note, Note, ()> for Append {
     ghost use Rattle.std.specs.Prelude.{None};
 
-    ghost ask = { λ e. e.value };
+    ghost ask = { λ n. n };
 
-    ghost state = { λ e. None };
+    ghost state = { λ n. None };
 }
 
-/// A beginning of the list of insertions. It has no bytes, and `again` copies it.
-pub(crate) type Front = Seen<Entry, (), Counted>;
+/// A beginning of the log. It has no bytes, and `again` copies it.
+pub(crate) type Front = Seen<Note, (), Counted>;
 
-/// The whole list of insertions, with the right to append.
+/// The whole log, with the right to append.
 #[derive(Drop)]
 pub(crate) struct Log {
-    head: Word<Entry, (), Counted>,
-    count: u64,
+    head: Word<Note, (), Counted>,
+    pub count: u64,
     pub whole: Front,
     ghost head_is: { head ≡ head_of whole.book },
     ghost counted: { length whole.log ≡ count },
 }
 
 impl Log {
-    /// An empty list.
+    /// An empty log.
     pub fn new() -> Log
         ensures { result.whole.log ≡ [] }
     {
@@ -76,21 +85,17 @@ impl Log {
         }
     }
 
-    /// Appends an entry, and answers whether that was done: it always is below 2^64 - 1 entries, since no one else
-    /// appends.
-    pub fn append(&mut self, entry: &Snapshot<Entry>) -> bool
+    /// Appends a note, and answers whether that was done: it always is below 2^64 - 1 notes, since no one else appends.
+    pub fn append(&mut self, note: &Note) -> bool
         ensures book { self.new.whole.book ≡ self.old.whole.book }
-        ensures appended { result ≡ true → self.new.whole.log ≡ self.old.whole.log ++ entry.now.value ∷ [] }
+        ensures appended { result ≡ true → self.new.whole.log ≡ self.old.whole.log ++ note.now ∷ [] }
+        ensures refused { result ≡ false → self.new ≡ self.old }
     {
         if self.count == u64::MAX {
             return false;
         }
         let mut whole = self.whole.again();
-        let mut offer: Offer<Entry, (), Counted, NoGain> = whole.plain::<
-            NoGain,
-            Snapshot<Entry>,
-            Append,
-        >(entry);
+        let mut offer: Offer<Note, (), Counted, NoGain> = whole.plain::<NoGain, Note, Append>(note);
         let mut pen = whole.no_pen();
         let count = self.count;
         let found = self

@@ -4,7 +4,7 @@ ghost use Rattle.left_right.specs.Sides.{view};
 ghost use Rattle.asc_traj.specs.Content.{longest};
 ghost use Rattle.asc_traj.specs.Finder.{IsJump};
 ghost use Rattle.asc_shard.specs.Content.{content_of, IsContent};
-ghost use Rattle.asc_cache.specs.LogRule.{AreOfOneList};
+ghost use Rattle.asc_cache.specs.History.{stored_in, tried_in};
 ghost use Rattle.asc_cache.specs.ShardRule.{sight, HasLooked};
 ghost use Rattle.asc_cache.specs.Cache.{IsLater, content_seen, found_by};
 
@@ -22,32 +22,35 @@ pub(crate) type ReadHandle = Reader<Instance, Sight, Logged>;
 /// What a writer tells its reader: all insertions that are stored then.
 #[derive(Drop)]
 pub struct Told {
+    // The log up to the note that they are stored, and how many notes that is.
     front: Front,
+    notes: u64,
     // The number of the shard in the cache.
     index: usize,
-    stored: u64,
 }
 
 impl Model for Told {
     ghost use Rattle.std.specs.Prelude.{◌≡◌, length};
+    ghost use Rattle.asc_cache.specs.History.{stored_in};
     ghost use Rattle.asc_cache.specs.Cache as model;
 
     ghost Value = { model.Told };
 
-    ghost view = { λ t. record { shard = t.front.book; index = t.index; stored = t.front.log } };
+    ghost view = { λ t. record { shard = t.front.book; index = t.index; stored = stored_in t.front.log } };
 
-    ghost invariant = { λ t. length t.front.log ≡ t.stored };
+    ghost invariant = { λ t. length t.front.log ≡ t.notes };
 }
 
 impl Told {
-    /// What the shown instance has taken in, of the shard of this number.
-    pub(crate) fn of(shown: &Instance, index: usize) -> Told
-        ensures { result ≡ record { shard = shown.now.front.book; index = index; stored = shown.now.front.log } }
+    /// What a log of so many notes says is stored, of the shard of this number.
+    pub(crate) fn of(front: &Front, notes: u64, index: usize) -> Told
+        requires { length front.now.log ≡ notes }
+        ensures { result ≡ record { shard = front.now.book; index = index; stored = stored_in front.now.log } }
     {
         Told {
-            front: shown.front.again(),
+            front: front.again(),
+            notes,
             index,
-            stored: shown.stored,
         }
     }
 
@@ -64,6 +67,7 @@ impl Told {
 pub(crate) struct ShardReader {
     // It is there except while it looks.
     handle: Option<ReadHandle>,
+    // The log up to the last insertion that it has seen.
     front: Front,
     // How many insertions it has seen.
     stored: u64,
@@ -75,16 +79,17 @@ impl Model for ShardReader {
     ghost use Rattle.std.specs.Option.{ForSome};
     ghost use Rattle.left_right.specs.Sides.{view as known_at};
     ghost use Rattle.asc_shard.specs.Content.{content_of, IsContent};
+    ghost use Rattle.asc_cache.specs.History.{tried_in};
     ghost use Rattle.asc_cache.specs.ShardRule.{sight};
     ghost use Rattle.asc_cache.specs.Cache as model;
 
     ghost Value = { model.ShardReader };
 
-    ghost view = { λ r. record { shard = r.front.book; capacity = r.capacity; seen = r.front.log } };
+    ghost view = { λ r. record { shard = r.front.book; capacity = r.capacity; seen = tried_in r.front.log } };
 
     ghost invariant = { λ r. (0 < r.capacity) × IsSome r.handle
         × ForSome r.handle (λ h. known_at h.place ≡ sight r.capacity r.front)
-        × (length r.front.log ≡ r.stored) × IsContent r.capacity (content_of r.capacity r.front.log) };
+        × (length (tried_in r.front.log) ≡ r.stored) × IsContent r.capacity (content_of r.capacity (tried_in r.front.log)) };
 }
 
 /// What a reader has seen, with its handle.
@@ -100,7 +105,7 @@ fn look<R: Wait>(handle: ReadHandle, rt: &R, state: &mut State, left: u64) -> (L
     requires { 0 < (view handle.place).capacity }
     ensures looked { HasLooked (view handle.place) (view result.0.handle.place) result.0.front result.0.stored }
     ensures longest { result.1
-        ≡ longest (content_of (view handle.place).capacity result.0.front.log) state.old left }
+        ≡ longest (content_of (view handle.place).capacity (tried_in result.0.front.log)) state.old left }
     ensures jump { IsJump result.1 left state.old state.new }
 {
     let mut handle = handle;
@@ -127,11 +132,11 @@ fn look<R: Wait>(handle: ReadHandle, rt: &R, state: &mut State, left: u64) -> (L
     unreachable!()
 }
 
-/// Enters until it has seen so many insertions.
+/// Enters until it has seen so many notes.
 fn catch_up<R: Wait>(handle: ReadHandle, rt: &R, least: u64) -> Looked
     requires { 0 < (view handle.place).capacity }
     ensures looked { HasLooked (view handle.place) (view result.handle.place) result.front result.stored }
-    ensures least { least ≤ result.stored }
+    ensures least { least ≤ length result.front.log }
 {
     let mut handle = handle;
     for _ in rt.forever() {
@@ -140,9 +145,9 @@ fn catch_up<R: Wait>(handle: ReadHandle, rt: &R, least: u64) -> Looked
                 let shown = reading.get();
                 shown.shard.truth();
                 let front = shown.front.again();
-                let stored = shown.stored;
+                let (stored, notes) = (shown.stored, shown.notes);
                 handle = reading.leave();
-                if least <= stored {
+                if least <= notes {
                     return Looked {
                         handle,
                         front,
@@ -188,7 +193,8 @@ impl ShardReader {
         found
     }
 
-    /// Takes in what the writer told. From now on it sees no less.
+    /// Takes in what the writer told. From now on it sees no less. What is shown lacks the last note that was told: that
+    /// the insertions are stored.
     pub fn learn<R: Wait>(&mut self, rt: &R, told: Told)
         requires { told.shard ≡ self.old.shard }
         ensures later { IsLater self.old self.new }
@@ -197,19 +203,11 @@ impl ShardReader {
         let Some(handle) = self.handle.take() else {
             unreachable!()
         };
-        let looked = catch_up(handle, rt, told.stored);
+        let looked = catch_up(handle, rt, told.notes.saturating_sub(1));
         compare(&told.front, &looked.front);
         self.handle = Some(looked.handle);
         self.front = looked.front;
         self.stored = looked.stored;
-    }
-
-    /// Of what the writer told and what is seen the shorter begins the longer. It does nothing.
-    pub fn compare(&self, told: &Told)
-        requires { told.now.shard ≡ self.now.shard }
-        ensures { AreOfOneList told.now.stored self.now.seen }
-    {
-        compare(&told.front, &self.front);
     }
 
     /// How many insertions it has seen.

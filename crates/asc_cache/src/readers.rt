@@ -3,7 +3,6 @@ ghost use mathlib.Core.List.{IsPrefix};
 ghost use Rattle.asc_model.specs.State.{State};
 ghost use Rattle.asc_traj.specs.Finder.{IsJump, Tells, tally_after};
 ghost use Rattle.asc_shard.specs.Content.{IsContent};
-ghost use Rattle.asc_cache.specs.LogRule.{AreOfOneList};
 ghost use Rattle.asc_cache.specs.Cache.{ShardReader, AreLater, IsLater, IsOwnReader, content_seen, first_found, found_by};
 
 use crate::reader::{ShardReader, Told};
@@ -138,16 +137,6 @@ impl<R: Wait + Drop> ShardReaders<R> {
         ensures tally { self.new.tally ≡ self.old.tally }
     {
         self.learn(writer.tell());
-    }
-
-    /// Of what is stored in a shard and what its reader has seen the shorter begins the longer. It does nothing.
-    pub fn compare<Q: Wait + Drop>(&self, writer: &ShardWriter<Q>)
-        requires { IsOwnReader writer.now self.now.readers }
-        ensures { (d : ShardReader)
-            → AreOfOneList writer.now.stored (slice_index_or self.now.readers writer.now.index d).seen }
-    {
-        let told = writer.tell();
-        self.readers[told.index()].compare(&told);
     }
 
     /// How many insertions the reader of a shard has seen.

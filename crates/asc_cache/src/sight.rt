@@ -4,20 +4,19 @@ use atomic_table::{Join, Split};
 use crossbeam_utils::rule::{Outcome, Protocol};
 
 // The steps at a shard are of six kinds. Each keeps the rule, by a lemma of its own in proofs/Steps.antt:
-// - a reader enters, and has seen the list of what is shown (`enters`);
+// - a reader enters, and has seen the log of what is shown (`enters`);
 // - the writer publishes an insertion, and its own seat knows what it knew (`publishes`);
 // - the writer publishes what there is, at opening, and its seat knows that (`opens`);
 // - a reader is made at opening, which knows nothing (`admits`);
 // - what the writer knows at opening is copied (`tells`);
 // - the reader takes the copy in (`learns`).
-// At the list of insertions there is one kind: its word rises by one, and an entry is appended (`appends_moves` in
-// proofs/Appending.antt).
+// At the log there is one kind: its word rises by one, and a note is appended (`appends_moves` in proofs/Appending.antt).
 
 // What a seat at the shard knows. No value of it is made.
 pub(crate) struct Sight {
     // Its capacity, or 0 until it has looked.
     pub capacity: usize,
-    // The insertions that it has seen.
+    // The log up to the last insertion that it has seen.
     pub front: Front,
 }
 

@@ -146,20 +146,23 @@ static ROWS: [Row; 5] = [
     },
 ];
 
-/// Where an insertion was refused, nothing is stored; the next one is stored, or is refused too.
+/// Where an insertion was refused, nothing is stored. The next one is tried: it is stored, and its reader finds it.
 fn refused<R: Wait + Drop, Q: Abort>(
     rt: &Q,
     alloc: Global,
     writer: &mut ShardWriter<R>,
+    readers: &mut ShardReaders<R>,
     stored: u64,
-) -> Result<(), Memory> {
+) -> Result<(), Memory>
+    requires { IsOwnReader writer.old readers.old.readers }
+{
     assert_eq!(rt; writer.stored(), stored);
     let next = writer.insert(lap_from(alloc, 9)?);
-    assert_eq!(rt;
-        writer.stored(),
-        stored.wrapping_add(u64::from(next.is_ok()))
-    );
-    Ok(())
+    assert!(rt; next.is_ok());
+    readers.meet(writer);
+    assert_eq!(rt; writer.stored(), stored.wrapping_add(1));
+    assert_eq!(rt; readers.seen(writer.index()), writer.stored());
+    find_row(rt, alloc, readers, 9, true)
 }
 
 /// Inserts, and from so many insertions on meets and looks up.
@@ -176,7 +179,7 @@ fn play_row<R: Wait + Drop, Q: Abort>(
 {
     let stored = writer.stored();
     let Ok(became) = writer.insert(lap_from(alloc, row.x5)?) else {
-        refused(rt, alloc, writer, stored)?;
+        refused(rt, alloc, writer, readers, stored)?;
         return Err(Memory);
     };
     assert_eq!(rt; became, row.became);

@@ -14,5 +14,5 @@ compare_exchange-found-requires c =
       book,
       pen.0 ∙ book,
       offer.0,
-      rw (ap (λ w. w.key) h, pen.1, offer.1, offer.3, ap (λ s. s.log) same) (appends_moves self.whole.log c.args.entry.now.value self.count self.counted),
+      rw (ap (λ w. w.key) h, pen.1, offer.1, offer.3, ap (λ s. s.log) same) (appends_moves self.whole.log c.args.note.now self.count self.counted),
     )

@@ -1,11 +1,11 @@
 use Rattle.std.proofs.Common.{drop}
 use Rattle.asc_cache.proofs.Steps.{opens, alike, both_ok}
-use Rattle.asc_cache.proofs.writer.begin.Goals as goal
+use Rattle.asc_cache.proofs.doubled.begin.Goals as goal
 
 pub publish_as-requires : goal.publish_as-requires
 publish_as-requires g c next is =
     let handle = c.args.handle in
-    opens handle.desk.place.id _ handle.desk.shown.value next (alike handle.desk.shown.value next (drop handle.behind handle.log.items) c.requires.none is)
+    opens handle.desk.shown.value next (alike handle.desk.shown.value next (drop handle.behind handle.log.items) c.requires.none is) handle.desk.place.id _
 
 pub returns : goal.returns
 returns g c =
