@@ -3,8 +3,7 @@ use Rattle.std.proofs.Common.{◌≡◌, ℕ, ◌+◌, ◌<◌, ◌≤◌, Bool,
 use Rattle.std.specs.List.{flat_map}
 use Rattle.std.specs.Prelude.{All}
 use Rattle.std.proofs.lemmas.Bool.{cond-true, cond-false}
-use Rattle.std.proofs.lemmas.List.{get_or-set_same, length-set}
-use Rattle.std.proofs.lemmas.List.Elements.{All-nil, All-cons, All-head, All-tail}
+use Rattle.std.proofs.lemmas.List.Elements.{All-nil, All-cons}
 use Rattle.asc_model.specs.declared.fault.Fault.{Fault}
 use Rattle.asc_model.specs.declared.fault.FaultKind.{FaultKind}
 use Rattle.asc_model.specs.declared.fault.FaultKind.TheVariants.{Misaligned, LoadOutside, StoreOutside, Break, AtomicMisaligned}
@@ -23,10 +22,9 @@ use Rattle.asc_model.specs.Places.{places_from, reservation_places, cells, cells
 use Rattle.asc_model.proofs.Numbers.{length-bytes_after}
 use Rattle.asc_model.proofs.Changes.{start_of-least, holds-parts, IsMachine-view_of}
 use Rattle.asc_model.proofs.Views.{view_of-load, view_of-pc}
-use Rattle.asc_model.specs.declared.status.Status.{Status}
-use Rattle.asc_model.specs.declared.status.Status.TheVariants.{Untouched, Read, Written, ReadWritten}
-use Rattle.asc_shape.specs.Face.{Face, FitPlaces, Marks, Untold, Told, status_at, is_untouched, status_after_read, marks_after, face_after_read, face_after_reads, face_after_puts, untouched_count}
-use Rattle.asc_shape.proofs.Faces.{state-reads, state-puts, face_after_puts-append, untouched_count-append, untouched_count-read-le}
+use Rattle.asc_shape.specs.Face.{Face, FitPlaces, face_after_reads, face_after_puts, untouched_count}
+use Rattle.asc_shape.proofs.Faces.{state-reads, state-puts, face_after_puts-append}
+use Rattle.asc_shape.proofs.Settled.{have_statuses, touched-reads, untouched_count-reads-le}
 use Rattle.asc_step.specs.declared.stepped.Stepped.{Stepped}
 use Rattle.asc_step.specs.declared.stepped.Stepped.TheVariants as answers
 use Rattle.asc_step.specs.Execute.{Puts, AtInstruction, IsOfVersion, Finishes, word_fault, answer_of}
@@ -38,15 +36,9 @@ use Rattle.asc_step.proofs.Touches.{face_after_reads-nil, face_after_puts-nil}
 pub length-IsState : (s : State) → IsState s → 136 ≤ length s.bytes
 length-IsState s good = omega (arith, good.length, start_of-least s.shape.version, good.shape.size.least)
 
--- places touched stay so, by the reads one after another
-touched_reads : (f : Face) (places list : List ℕ) → untouched_count f.marks list ≡ 0 → untouched_count (face_after_reads f places).marks list ≡ 0
-unfolding face_after_reads
-touched_reads f [] list h = h
-touched_reads f (place ∷ places) list h = touched_reads (face_after_read f place) places list (omega (arith, untouched_count-read-le f place list))
-
 -- places touched stay so
 pub touched_after_reads : (f g : Face) (places list : List ℕ) → g ≡ face_after_reads f places → untouched_count f.marks list ≡ 0 → untouched_count g.marks list ≡ 0
-touched_after_reads f g places list e h = ap (λ (x : Face). untouched_count x.marks list) e ∙ touched_reads f places list h
+touched_after_reads f g places list e h = ap (λ (x : Face). untouched_count x.marks list) e ∙ omega (arith, untouched_count-reads-le f places list, h)
 
 -- ---- puts
 
@@ -292,50 +284,6 @@ finishes_break f pc rd answer at a = finishes_fails f rd Breakpoint (fault_at Br
 
 -- ---- the instruction's places
 
--- as many statuses as places, where they are told
-abbrev HasStatuses : ℕ → Marks → Type 0
-HasStatuses n Untold = Unit {0}
-HasStatuses n (Told cap statuses touched) = length statuses ≡ n
-
-has_statuses : (n : ℕ) (m : Marks) → FitPlaces n m → HasStatuses n m
-has_statuses n Untold h = tt
-has_statuses n (Told cap statuses touched) h = h.0
-
-has_statuses-after : (n : ℕ) (m : Marks) (place byte : ℕ) → HasStatuses n m → HasStatuses n (marks_after status_after_read m place byte)
-has_statuses-after n Untold place byte h = tt
-has_statuses-after n (Told cap statuses touched) place byte h = length-set statuses place (status_after_read (status_at statuses place)) ∙ h
-
-read_is_touched : (s : Status) → is_untouched (status_after_read s) ≡ false
-read_is_touched Untouched = refl
-read_is_touched Read = refl
-read_is_touched Written = refl
-read_is_touched ReadWritten = refl
-
--- a place that was read is touched
-touched_by_read : (n : ℕ) (m : Marks) (place byte : ℕ) → HasStatuses n m → place < n → untouched_count (marks_after status_after_read m place byte) (place ∷ []) ≡ 0
-unfolding untouched_count
-touched_by_read n Untold place byte h below = refl
-touched_by_read n (Told cap statuses touched) place byte h below =
-    let status = status_after_read (status_at statuses place) in
-    let here : status_at (slice_set statuses place status) place ≡ status = get_or-set_same statuses place status Untouched (omega (arith, h)) in
-    ap (λ b. 0 + cond b 1 0) (ap is_untouched here ∙ read_is_touched (status_at statuses place))
-
-touched_none : (m : Marks) → untouched_count m [] ≡ 0
-unfolding untouched_count
-touched_none Untold = refl
-touched_none (Told cap statuses touched) = refl
-
--- places that were read are touched
-touched_by_reads : (n : ℕ) (f : Face) (places : List ℕ) → HasStatuses n f.marks → All (λ place. place < n) places → untouched_count (face_after_reads f places).marks places ≡ 0
-unfolding face_after_reads face_after_read
-touched_by_reads n f [] h below = touched_none f.marks
-touched_by_reads n f (place ∷ places) h below =
-    let bound = λ (p : ℕ). p < n in
-    let byte = slice_index f.state.bytes place in
-    let first = touched_by_read n f.marks place byte h (All-head bound place places below) in
-    let rest = touched_by_reads n (face_after_read f place) places (has_statuses-after n f.marks place byte h) (All-tail bound place places below) in
-    omega (arith, untouched_count-append (face_after_reads f (place ∷ places)).marks (place ∷ []) places, touched_reads (face_after_read f place) places (place ∷ []) first, rest)
-
 -- the instruction is at hand also after more is read
 pub at_after_reads : (f g : Face) (places : List ℕ) (pc : ℕ) → g ≡ face_after_reads f places → AtInstruction f pc → AtInstruction g pc
 at_after_reads f g places pc e at =
@@ -354,7 +302,7 @@ touched_by_reads_of_pc f good fit =
     let bound = λ (x : ℕ). x < n in
     let below : All bound (places_from 0 4) =
     All-cons bound 0 (1 ∷ 2 ∷ 3 ∷ []) (omega arith) (All-cons bound 1 (2 ∷ 3 ∷ []) (omega arith) (All-cons bound 2 (3 ∷ []) (omega arith) (All-cons bound 3 [] (omega arith) (All-nil bound)))) in
-    touched_by_reads n f (places_from 0 4) (has_statuses n f.marks fit) below
+    touched-reads n f (places_from 0 4) (have_statuses n f.marks fit) below
 
 -- once the pc and the word are read the instruction is at hand
 pub at_fetched : (f f1 f2 : Face) (pc : ℕ) (places : List ℕ) → IsState f.state → FitPlaces (length f.state.bytes) f.marks → pc ≡ word_at f.state.bytes 0

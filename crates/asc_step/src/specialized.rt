@@ -2,7 +2,7 @@
 //!
 //! It comes to what `try_step` comes to. There are two since a plain step is cheaper with such code for all operations,
 //! and a tracer's step with such code for those alone that programs do most.
-ghost use Rattle.std.specs.Prelude.{◌≡◌, ◌≤◌, Some, true};
+ghost use Rattle.std.specs.Prelude.{◌≡◌, ◌≤◌, Some};
 ghost use Rattle.asc_model.specs.Machine.{view_of};
 ghost use Rattle.asc_model.specs.Instruction.{op_of};
 ghost use Rattle.asc_model.specs.Places.{operand_places};
@@ -132,14 +132,14 @@ fn execute_specialized<B: Words, const UNTIL: bool>(
 }
 
 /// Carries out the instruction at this pc, as `execute` does, with code of its own for the operations that programs do
-/// most. The registers of the instruction are settled.
+/// most. The registers of the instruction are settled where `SETTLED` says so.
 ///
 /// Each arm does the same, as in `execute_specialized`. With many more arms the compiler no longer takes this into the
 /// loop of a trace, which then is slower. The last arm is for none of the operations that `decode_likely` answers, and is
 /// a call, so that it takes no room here. What it came to is in `rare`, which the caller's caller keeps: memory for it
 /// here would be filled anew at each step.
 #[inline(always)]
-pub(crate) fn execute_likely<B: Words, K>(
+pub(crate) fn execute_likely<B: Words, K, const SETTLED: bool>(
     bytes: &mut B,
     shape: Shape,
     pc: u32,
@@ -151,7 +151,7 @@ pub(crate) fn execute_likely<B: Words, K>(
     requires at { AtInstruction (B.face bytes.old) pc }
     requires version { let s = (B.face bytes.old).state in
         IsOfVersion s.shape.version (effect_of (view_of s) instruction) }
-    requires settled { RunsSettled true (B.face bytes.old).marks instruction }
+    requires settled { RunsSettled SETTLED (B.face bytes.old).marks instruction }
     requires room { 22 ≤ room_of (B.face bytes.old).marks }
     ensures answer { let s = (B.face bytes.old).state in
         result ≡ answer_of (outcome_of_word s.shape (view_of s) (Some instruction)) }
@@ -161,34 +161,34 @@ pub(crate) fn execute_likely<B: Words, K>(
         (outcome_of_word s.shape (view_of s) (Some instruction)) }
 {
     match operation(instruction) {
-        Op::Lui => execute::<B, true>(bytes, shape, pc, instruction),
-        Op::Jal => execute::<B, true>(bytes, shape, pc, instruction),
-        Op::Jalr => execute::<B, true>(bytes, shape, pc, instruction),
-        Op::Beq => execute::<B, true>(bytes, shape, pc, instruction),
-        Op::Bne => execute::<B, true>(bytes, shape, pc, instruction),
-        Op::Blt => execute::<B, true>(bytes, shape, pc, instruction),
-        Op::Bge => execute::<B, true>(bytes, shape, pc, instruction),
-        Op::Bltu => execute::<B, true>(bytes, shape, pc, instruction),
-        Op::Bgeu => execute::<B, true>(bytes, shape, pc, instruction),
-        Op::Lb => execute::<B, true>(bytes, shape, pc, instruction),
-        Op::Lw => execute::<B, true>(bytes, shape, pc, instruction),
-        Op::Lbu => execute::<B, true>(bytes, shape, pc, instruction),
-        Op::Sb => execute::<B, true>(bytes, shape, pc, instruction),
-        Op::Sw => execute::<B, true>(bytes, shape, pc, instruction),
-        Op::Addi => execute::<B, true>(bytes, shape, pc, instruction),
-        Op::Xori => execute::<B, true>(bytes, shape, pc, instruction),
-        Op::Ori => execute::<B, true>(bytes, shape, pc, instruction),
-        Op::Andi => execute::<B, true>(bytes, shape, pc, instruction),
-        Op::Slli => execute::<B, true>(bytes, shape, pc, instruction),
-        Op::Srli => execute::<B, true>(bytes, shape, pc, instruction),
-        Op::Srai => execute::<B, true>(bytes, shape, pc, instruction),
-        Op::Add => execute::<B, true>(bytes, shape, pc, instruction),
-        Op::Sub => execute::<B, true>(bytes, shape, pc, instruction),
-        Op::Sltu => execute::<B, true>(bytes, shape, pc, instruction),
-        Op::Xor => execute::<B, true>(bytes, shape, pc, instruction),
-        Op::Or => execute::<B, true>(bytes, shape, pc, instruction),
-        Op::And => execute::<B, true>(bytes, shape, pc, instruction),
-        Op::Mul => execute::<B, true>(bytes, shape, pc, instruction),
+        Op::Lui => execute::<B, SETTLED>(bytes, shape, pc, instruction),
+        Op::Jal => execute::<B, SETTLED>(bytes, shape, pc, instruction),
+        Op::Jalr => execute::<B, SETTLED>(bytes, shape, pc, instruction),
+        Op::Beq => execute::<B, SETTLED>(bytes, shape, pc, instruction),
+        Op::Bne => execute::<B, SETTLED>(bytes, shape, pc, instruction),
+        Op::Blt => execute::<B, SETTLED>(bytes, shape, pc, instruction),
+        Op::Bge => execute::<B, SETTLED>(bytes, shape, pc, instruction),
+        Op::Bltu => execute::<B, SETTLED>(bytes, shape, pc, instruction),
+        Op::Bgeu => execute::<B, SETTLED>(bytes, shape, pc, instruction),
+        Op::Lb => execute::<B, SETTLED>(bytes, shape, pc, instruction),
+        Op::Lw => execute::<B, SETTLED>(bytes, shape, pc, instruction),
+        Op::Lbu => execute::<B, SETTLED>(bytes, shape, pc, instruction),
+        Op::Sb => execute::<B, SETTLED>(bytes, shape, pc, instruction),
+        Op::Sw => execute::<B, SETTLED>(bytes, shape, pc, instruction),
+        Op::Addi => execute::<B, SETTLED>(bytes, shape, pc, instruction),
+        Op::Xori => execute::<B, SETTLED>(bytes, shape, pc, instruction),
+        Op::Ori => execute::<B, SETTLED>(bytes, shape, pc, instruction),
+        Op::Andi => execute::<B, SETTLED>(bytes, shape, pc, instruction),
+        Op::Slli => execute::<B, SETTLED>(bytes, shape, pc, instruction),
+        Op::Srli => execute::<B, SETTLED>(bytes, shape, pc, instruction),
+        Op::Srai => execute::<B, SETTLED>(bytes, shape, pc, instruction),
+        Op::Add => execute::<B, SETTLED>(bytes, shape, pc, instruction),
+        Op::Sub => execute::<B, SETTLED>(bytes, shape, pc, instruction),
+        Op::Sltu => execute::<B, SETTLED>(bytes, shape, pc, instruction),
+        Op::Xor => execute::<B, SETTLED>(bytes, shape, pc, instruction),
+        Op::Or => execute::<B, SETTLED>(bytes, shape, pc, instruction),
+        Op::And => execute::<B, SETTLED>(bytes, shape, pc, instruction),
+        Op::Mul => execute::<B, SETTLED>(bytes, shape, pc, instruction),
         _ => {
             execute_rest(bytes, shape, pc, instruction, rare);
             *rare

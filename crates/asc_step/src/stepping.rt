@@ -45,7 +45,13 @@ pub fn try_step_of<B: Words, K>(bytes: &mut B, shape: Shape, rare: &mut Stepped)
         if bytes.is_settled(place) {
             let word = bytes.get_touched(place);
             return match decode_likely(word) {
-                Some(instruction) => execute_likely::<B, K>(bytes, shape, pc, instruction, rare),
+                Some(instruction) => execute_likely::<B, K, true>(
+                    bytes,
+                    shape,
+                    pc,
+                    instruction,
+                    rare,
+                ),
                 None => {
                     execute_word(bytes, pc, word, rare);
                     *rare
@@ -89,7 +95,7 @@ fn step_touching<B: Words>(bytes: &mut B, shape: Shape, rare: &mut Stepped) -> S
     }
     let word = read_word(bytes, shape.place_of(pc));
     match decode_likely(word) {
-        Some(instruction) => execute::<B, false>(bytes, shape, pc, instruction),
+        Some(instruction) => execute_likely::<B, (), false>(bytes, shape, pc, instruction, rare),
         None => {
             execute_word(bytes, pc, word, rare);
             *rare

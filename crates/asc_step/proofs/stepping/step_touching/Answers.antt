@@ -17,15 +17,15 @@ returns-in-Some g c =
 pub read_word-word-requires-clause-room : goal.read_word-word-requires-clause-room
 read_word-word-requires-clause-room g c = omega (arith, room_after_word _ _ 0 c.read_word-pc.ensures.face)
 
-pub execute-requires-clause-room : goal.execute-requires-clause-room
-execute-requires-clause-room g c = omega (arith, room_after_word _ _ 0 c.read_word-pc.ensures.face, room_after_word _ _ _ c.read_word-word.ensures.face)
+pub execute_likely-requires-clause-room : goal.execute_likely-requires-clause-room
+execute_likely-requires-clause-room g c = omega (arith, room_after_word _ _ 0 c.read_word-pc.ensures.face, room_after_word _ _ _ c.read_word-word.ensures.face)
 
-pub execute-requires-clause-at : goal.execute-requires-clause-at
-execute-requires-clause-at g c =
+pub execute_likely-requires-clause-at : goal.execute_likely-requires-clause-at
+execute_likely-requires-clause-at g c =
     at_fetched _ _ _ _ _ c.shape.ensures.state c.shape.ensures.marks c.read_word-pc.ensures.value c.read_word-pc.ensures.face c.read_word-word.ensures.face
 
-pub execute-requires-clause-version : goal.execute-requires-clause-version
-execute-requires-clause-version g c =
+pub execute_likely-requires-clause-version : goal.execute_likely-requires-clause-version
+execute_likely-requires-clause-version g c =
     let same = c.read_word-word.ensures.state ∙ c.read_word-pc.ensures.state in
     effect_of_version _ _ _ _ (subst IsState (sym same) c.shape.ensures.state)
     (ap (λ (x : Shape). x.version) (c.requires.shape ∙ ap (λ (s : State). s.shape) (sym same)))
@@ -37,7 +37,7 @@ returns-in-Some-decode_likely g c =
     let word = c.read_word-word.ensures in
     let known = fetched _ _ _ _ _ _ _ _ _ c.shape.ensures.state c.shape.ensures.marks c.requires.shape pc.value pc.face
     c.in_default.ensures c.place_of.ensures word.value word.face refl (likely-decode c.args.shape.version _ _ c.in-Some-decode_likely.ensures.instruction) in
-    step_fetched _ _ _ _ _ _ known _ _ c.execute.ensures.answer c.execute.ensures.face
+    step_fetched _ _ _ _ _ _ known _ _ c.execute_likely.ensures.answer c.execute_likely.ensures.face
 
 pub execute_word-requires-clause-room : goal.execute_word-requires-clause-room
 execute_word-requires-clause-room g c = omega (arith, room_after_word _ _ 0 c.read_word-pc.ensures.face, room_after_word _ _ _ c.read_word-word.ensures.face)
