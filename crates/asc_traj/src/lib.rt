@@ -1,6 +1,8 @@
 //! Traces of steps, and what is kept of them: entries, which hold from every state that they match.
 #![tactic(auto)]
 
+#[cfg(test)]
+mod beside;
 mod cells;
 mod entry;
 mod finder;
