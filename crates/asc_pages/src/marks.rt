@@ -6,9 +6,9 @@ use asc_outside::Memory;
 use std::alloc::Global;
 use std::marker::Model;
 
-/// A mark for each page. Up to where there are marks is told group by group, and which groups have some by a list.
+/// A mark for each page. Up to where there are marks is told group by group, and the groups that have some are listed.
 ///
-/// Contracts see it as the list of them.
+/// Contracts see it as the list of marks.
 #[derive(Drop)]
 pub struct Marks {
     pages: Vec<bool>,
