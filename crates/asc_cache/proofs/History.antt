@@ -1,5 +1,5 @@
 -- What was stored begins all that is tried later.
-use Rattle.std.proofs.Common.{◌≡◌, ℕ, ◌+◌, ◌<◌, ◌≤◌, List, [], ◌∷◌, ◌++◌, length, fold, refl, sym, ◌∙◌, ap, subst, arith, ⊎_elim, length-append}
+use Rattle.std.proofs.Common.{◌≡◌, ◌+◌, ◌<◌, ◌≤◌, List, [], ◌∷◌, ◌++◌, length, fold, refl, sym, ◌∙◌, ap, subst, arith, ⊎_elim, length-append}
 use Rattle.std.proofs.lemmas.Bool.{cases_lt}
 use Rattle.std.proofs.lemmas.List.{append-nil}
 use Rattle.std.proofs.lemmas.List.Sums.{fold-append}
@@ -16,13 +16,13 @@ use Rattle.asc_cache.proofs.Fronts.{prefix_self, prefix_trans}
 one_more : (log : List Note) (n : Note) → history (log ++ n ∷ []) ≡ noted (history log) n
 one_more log n = fold-append noted (record { stored = []; tried = [] }) log (n ∷ [])
 
--- a try starts again from what is stored, which it leaves
-pub tries : (log : List Note) (e : Snapshot Entry) → (tried_in (log ++ Tries e ∷ []) ≡ stored_in log ++ e.value ∷ []) × (stored_in (log ++ Tries e ∷ []) ≡ stored_in log)
-tries log e = (ap (λ h. h.tried) (one_more log (Tries e)), ap (λ h. h.stored) (one_more log (Tries e)))
+-- a try leaves what is stored
+tries : (log : List Note) (e : Snapshot Entry) → stored_in (log ++ Tries e ∷ []) ≡ stored_in log
+tries log e = ap (λ h. h.stored) (one_more log (Tries e))
 
--- what was tried last is stored, and stays what was tried last
-pub stores : (log : List Note) → (stored_in (log ++ Stores ∷ []) ≡ tried_in log) × (tried_in (log ++ Stores ∷ []) ≡ tried_in log)
-stores log = (ap (λ h. h.stored) (one_more log Stores), ap (λ h. h.tried) (one_more log Stores))
+-- what was tried last is stored
+pub stores : (log : List Note) → stored_in (log ++ Stores ∷ []) ≡ tried_in log
+stores log = ap (λ h. h.stored) (one_more log Stores)
 
 goes_on : (h : History) → IsPrefix h.stored h.tried → (rest : List Note)
     → IsPrefix h.stored (fold noted h rest).stored × IsPrefix (fold noted h rest).stored (fold noted h rest).tried
@@ -48,9 +48,9 @@ begins_behind : (told seen rest : List Note) → seen ++ rest ≡ told → lengt
 begins_behind told seen [] is short =
     subst (λ l. IsPrefix (stored_in l) (tried_in seen)) (sym (append-nil seen) ∙ is) (stored_first seen)
 begins_behind told seen (Tries e ∷ []) is short =
-    subst (λ l. IsPrefix (stored_in l) (tried_in seen)) is (subst (λ l. IsPrefix l (tried_in seen)) (sym (tries seen e).1) (stored_first seen))
+    subst (λ l. IsPrefix (stored_in l) (tried_in seen)) is (subst (λ l. IsPrefix l (tried_in seen)) (sym (tries seen e)) (stored_first seen))
 begins_behind told seen (Stores ∷ []) is short =
-    subst (λ l. IsPrefix (stored_in l) (tried_in seen)) is (subst (λ l. IsPrefix l (tried_in seen)) (sym (stores seen).0) (prefix_self (tried_in seen)))
+    subst (λ l. IsPrefix (stored_in l) (tried_in seen)) is (subst (λ l. IsPrefix l (tried_in seen)) (sym (stores seen)) (prefix_self (tried_in seen)))
 begins_behind told seen (n ∷ m ∷ rest) is short = absurd (omega arith)
 
 -- Of two beginnings of one log: what the one says is stored begins what the other tried last, if it lacks one note at most.

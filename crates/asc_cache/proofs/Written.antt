@@ -1,85 +1,41 @@
--- What a writer has of its doubled shard, through the steps of an insertion.
-use Rattle.std.proofs.Common.{◌≡◌, ℕ, ◌≤◌, true, false, Option, Some, None, List, [], ◌∷◌, ◌++◌, length, refl, sym, ◌∙◌, ap, subst}
+-- What a writer has of its doubled shard, once an insertion is published.
+use Rattle.std.proofs.Common.{◌≡◌, ℕ, true, Option, Some, None, List, [], ◌∷◌, ◌++◌, length, refl, sym, ◌∙◌, ap, subst}
 use Rattle.std.specs.Prelude.{is_some}
 use Rattle.std.specs.Arc.{arc_value}
-use Rattle.std.specs.declared.snapshot.Snapshot.{Snapshot}
+use Rattle.logbook.specs.Pages.{Book}
 use Rattle.asc_model.specs.Entry.{Entry}
 use Rattle.asc_cache.specs.declared.instance.Instance.{Instance}
 use Rattle.asc_cache.specs.declared.instance.Operation.{Operation}
-use Rattle.asc_cache.specs.declared.log.Note.TheVariants.{Tries, Stores}
+use Rattle.asc_cache.specs.declared.log.Note.TheVariants.{Stores}
 use Rattle.asc_cache.specs.History.{stored_in, tried_in}
 use Rattle.asc_cache.specs.ShardRule.{Doubled, Front, IsLogged, IsNext, IsWritten, absorbed, entry_in, state_of}
-use Rattle.asc_cache.proofs.History.{tries, stores}
-use Rattle.logbook.specs.Pages.{Book}
+use Rattle.asc_cache.proofs.History.{stores}
 use Rattle.asc_cache.proofs.Steps.{kept_on, longer}
 
--- no operation is pending where no entry is
-pub none_pending : (pending : List Operation) → entry_in pending ≡ None → pending ≡ []
-none_pending [] none = refl
-none_pending (o ∷ rest) none = absurd cc
-
--- what is pending is one operation, which comes next
+-- where an entry is pending, that is one operation, which comes next
 pub one_pending : (x : Instance) (whole : Front) (pending : List Operation) → IsLogged x pending whole → is_some (entry_in pending) ≡ true
     → (o : Operation) × (pending ≡ o ∷ []) × IsNext x o
 one_pending x whole [] logged some = absurd cc
 one_pending x whole (o ∷ []) logged some = (o, refl, logged.0)
 one_pending x whole (o ∷ p ∷ rest) logged some = absurd logged
 
-module _ (x : Instance) (whole told : Front) (notes : ℕ) where
-  -- where none is pending, a try changes nothing
-  pub tried : (after : Front) (e : Snapshot Entry) → IsWritten x [] whole told notes → after.book ≡ whole.book → after.log ≡ whole.log ++ Tries e ∷ [] → IsWritten x [] after told notes
-  tried after e w book log = record {
-    folded = w.folded;
-    book = book ∙ w.book;
-    logged = ap stored_in log ∙ (tries whole.log e).1 ∙ w.logged;
-    told_book = w.told_book;
-    told_list = w.told_list;
-    counted = w.counted;
-  }
-
-  -- the entry that was tried is appended
-  pub appended : (after : Front) (e : Snapshot Entry) (o : Operation) → IsWritten x [] whole told notes → after.book ≡ whole.book → after.log ≡ whole.log ++ Tries e ∷ []
-      → o.front ≡ after → arc_value o.entry ≡ e.value → IsWritten x (o ∷ []) after told notes
-  appended after e o w book log front entry =
-      let list : tried_in after.log ≡ tried_in x.front.log ++ arc_value o.entry ∷ [] =
-      ap tried_in log ∙ (tries whole.log e).0 ∙ ap (λ l. l ++ e.value ∷ []) w.logged ∙ ap (λ v. tried_in x.front.log ++ v ∷ []) (sym entry) in
-      record {
-        folded = w.folded;
-        book = book ∙ w.book;
-        logged = ((ap (λ (f : Front). f.book) front ∙ book ∙ w.book, ap (λ (f : Front). tried_in f.log) front ∙ list), ap (λ (f : Front). tried_in f.log) (sym front));
-        told_book = w.told_book;
-        told_list = w.told_list;
-        counted = w.counted;
-      }
-
-  -- it is noted as stored
-  pub noted : (after : Front) (o : Operation) → IsWritten x (o ∷ []) whole told notes → after.book ≡ whole.book → after.log ≡ whole.log ++ Stores ∷ [] → IsWritten x (o ∷ []) after told notes
-  noted after o w book log = record {
-    folded = w.folded;
-    book = book ∙ w.book;
-    logged = (w.logged.0, ap tried_in log ∙ (stores whole.log).1 ∙ w.logged.1);
-    told_book = w.told_book;
-    told_list = w.told_list;
-    counted = w.counted;
-  }
-
-  -- and it is published: then it is told
-  pub published : (y : Instance) (after again : Front) (o : Operation) (old new : List Operation) (n : ℕ) → IsWritten x old whole told notes → old ≡ o ∷ [] → new ≡ [] → again ≡ after
-      → after.book ≡ whole.book → after.log ≡ whole.log ++ Stores ∷ [] → state_of y ≡ absorbed (state_of x) o → length after.log ≡ n → IsWritten y new after again n
-  published y after again o old new n w one none same book log is count =
-      let logged : IsLogged x (o ∷ []) whole = subst (λ p. IsLogged x p whole) one w.logged in
-      let next = logged.0 in
-      let front : o.front ≡ y.front = sym (ap (λ s. s.1) is) in
-      let shard : after.book ≡ y.front.book = book ∙ w.book ∙ sym next.0 ∙ ap (λ (f : Front). f.book) front in
-      let list : stored_in after.log ≡ tried_in y.front.log = ap stored_in log ∙ (stores whole.log).0 ∙ logged.1 ∙ ap (λ (f : Front). tried_in f.log) front in
-      record {
-        folded = kept_on x y o next is w.folded;
-        book = shard;
-        logged = subst (λ p. IsLogged y p after) (sym none) list;
-        told_book = ap (λ (f : Front). f.book) same ∙ shard;
-        told_list = ap (λ (f : Front). stored_in f.log) same ∙ list;
-        counted = ap (λ (f : Front). length f.log) same ∙ count;
-      }
+-- what was noted as stored is published, and told from then on
+pub published : (x y : Instance) (whole after again told : Front) (o : Operation) (old new : List Operation) (notes n : ℕ) → IsWritten x old whole told notes → old ≡ o ∷ [] → new ≡ []
+    → again ≡ after → after.book ≡ whole.book → after.log ≡ whole.log ++ Stores ∷ [] → state_of y ≡ absorbed (state_of x) o → length after.log ≡ n → IsWritten y new after again n
+published x y whole after again told o old new notes n w one none same book log is count =
+    let logged : IsLogged x (o ∷ []) whole = subst (λ p. IsLogged x p whole) one w.logged in
+    let next = logged.0 in
+    let front : o.front ≡ y.front = sym (ap (λ s. s.1) is) in
+    let shard : after.book ≡ y.front.book = book ∙ w.book ∙ sym next.0 ∙ ap (λ (f : Front). f.book) front in
+    let list : stored_in after.log ≡ tried_in y.front.log = ap stored_in log ∙ stores whole.log ∙ logged.1 ∙ ap (λ (f : Front). tried_in f.log) front in
+    record {
+      folded = kept_on x y o next is w.folded;
+      book = shard;
+      logged = subst (λ p. IsLogged y p after) (sym none) list;
+      told_book = ap (λ (f : Front). f.book) same ∙ shard;
+      told_list = ap (λ (f : Front). stored_in f.log) same ∙ list;
+      counted = ap (λ (f : Front). length f.log) same ∙ count;
+    }
 
 abbrev seen : Book → ℕ → List Entry → Option Entry → Doubled
 seen shard capacity stored pending = record { shard = shard; capacity = capacity; stored = stored; pending = pending }

@@ -20,7 +20,7 @@ invariant_of-self-2 g c =
     let one = one_pending x d.log.whole old c.self.invariant.logged some in
     let done = c.in_ok-replace_with.ensures.0 in
     let log = c.append.new.self in
-    published x d.log.whole d.told d.notes after.desk.shown.value log.whole c.again.result one.0 old (drop after.behind after.log.items) log.count c.self.invariant one.1 done.0 c.again.ensures
+    published x after.desk.shown.value d.log.whole log.whole c.again.result d.told one.0 old (drop after.behind after.log.items) d.notes log.count c.self.invariant one.1 done.0 c.again.ensures
     c.append.ensures.book (c.append.ensures.appended c.if-not-append.false) (done.1 one.0 one.1) log.counted
 
 pub returns-clause-published : goal.returns-clause-published
