@@ -1,9 +1,8 @@
 -- A step that goes on reads its source registers and writes the pc and its destination. So the word that it carried out is
 -- settled then, where its bytes were only read.
-use Rattle.std.proofs.Common.{◌≡◌, ℕ, zero, suc, ◌+◌, ◌*◌, ◌%◌, ◌≤◌, Bool, true, false, not, ◌&&◌, ◌||◌, List, [], ◌∷◌, ◌++◌, length, map, Option, Some, None, if◌then◌else◌, refl, sym, ap, subst, ◌∙◌, arith}
+use Rattle.std.proofs.Common.{◌≡◌, ℕ, zero, suc, ◌+◌, ◌*◌, ◌%◌, ◌≤◌, Bool, true, not, List, [], ◌∷◌, ◌++◌, length, map, Option, Some, None, if◌then◌else◌, refl, sym, ap, subst, ◌∙◌, arith}
 use Rattle.std.specs.List.{flat_map}
-use Rattle.std.specs.Prelude.{◌==◌, int_lt, nat_lt}
-use Rattle.std.proofs.lemmas.Bool.{and_parts, eqb-true, false≢true}
+use Rattle.std.proofs.lemmas.Bool.{eqb-true}
 use Rattle.std.proofs.lemmas.List.{map-append}
 use Rattle.asc_model.specs.declared.fault.Fault.{Fault}
 use Rattle.asc_model.specs.declared.fault.FaultKind.{FaultKind}
@@ -11,15 +10,13 @@ use Rattle.asc_model.specs.declared.fault.FaultKind.TheVariants.{Misaligned, Loa
 use Rattle.asc_model.specs.declared.version.Version.{Version}
 use Rattle.asc_model.specs.declared.version.Version.TheVariants.{One, Two}
 use Rattle.asc_model.specs.declared.instruction.Instr.{Instr}
-use Rattle.asc_model.specs.declared.instruction.Op.{Op}
-use Rattle.asc_model.specs.declared.instruction.Op.TheVariants.{Beq, Bne, Blt, Bge, Bltu, Bgeu, Sb, Sh, Sw}
 use Rattle.asc_model.specs.Shape.{Shape, IsShape, length_of, place_of, holds, start_of}
 use Rattle.asc_model.specs.Number.{bytes_of, word_at}
 use Rattle.asc_model.specs.State.{State, IsState}
-use Rattle.asc_model.specs.Machine.{Machine, Change, Pc, Register, Memory, reserve, release, register, load, is_reserved, view_of}
+use Rattle.asc_model.specs.Machine.{Machine, Change, Pc, Register, Memory, reserve, release, load, is_reserved, view_of}
 use Rattle.asc_model.specs.Arithmetic.{◌+w◌, signed, one_if}
-use Rattle.asc_model.specs.Effect.{Effect, Set, Load, Store, Jump, LoadReserved, StoreConditional, Modify, GuestCall, Breakpoint, branch, effect}
-use Rattle.asc_model.specs.Instruction.{Format, U, J, I, Shift, S, B, R, Plain, Row, operands, fits, find, table, decode, op_of, rd_of, rs1_of, rs2_of, imm_of}
+use Rattle.asc_model.specs.Effect.{Effect, Set, Load, Store, Jump, LoadReserved, StoreConditional, Modify, GuestCall, Breakpoint}
+use Rattle.asc_model.specs.Instruction.{decode, rd_of, rs1_of, rs2_of}
 use Rattle.asc_model.specs.Step.{Outcome, Goes, Calls, Fails, fault_outcome, is_aligned, atomic_outcome, loaded_word, effect_of, outcome_of, outcome_of_word, fetch, outcome}
 use Rattle.asc_model.specs.Places.{places_from, register_places, data_places, operand_places, places_read, cells_of, cells_of_outcome, writes}
 use Rattle.asc_model.proofs.Changes.{holds-parts}
