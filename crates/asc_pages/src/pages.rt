@@ -97,9 +97,14 @@ impl Pages {
         requires kept { Keeps changed.now (base_bytes base.now) bytes.now }
         ensures { IfOk result (λ pages. Tells pages bytes.now) }
     {
-        let mut pages = Pages::none(alloc)?;
-        pages.renew(alloc, bytes, changed, base)?;
-        Ok(pages)
+        match base {
+            Some(base) if changed.is_clear() => base.share(),
+            _ => {
+                let mut pages = Pages::none(alloc)?;
+                pages.renew(alloc, bytes, changed, base)?;
+                Ok(pages)
+            }
+        }
     }
 
     /// Makes these the pages of bytes, as `of` does. What they were is of no account, but memory that nobody else has is
