@@ -1,5 +1,5 @@
 -- What callers see of a shard's writer, of its reader, and of what the one tells the other.
-use Rattle.std.specs.Prelude.{◌≡◌, ◌<◌, ℕ, Bool, false, Option, None, List, [], ◌∷◌, ◌++◌, length, slice_index_or}
+use Rattle.std.specs.Prelude.{◌≡◌, ◌<◌, ℕ, Bool, true, false, Option, None, List, [], ◌∷◌, ◌++◌, length, slice_index_or}
 use Rattle.std.specs.Option.{option_or}
 use mathlib.Core.List.{IsPrefix}
 use Rattle.logbook.specs.Pages.{Book}
@@ -12,6 +12,8 @@ use Rattle.asc_shard.specs.Shard.{Shard}
 use Rattle.asc_shard.specs.Content.{content_of}
 use Rattle.asc_shard.specs.declared.shard.Inserted.{Inserted}
 use Rattle.asc_shard.specs.declared.shard.Inserted.TheVariants.{Known, Stored}
+use Rattle.asc_cache.specs.declared.writer.Refused.{Refused}
+use Rattle.asc_cache.specs.declared.writer.Refused.TheVariants.{Append, Publication}
 
 -- a shard's writer
 pub record ShardWriter : Type 0 where
@@ -61,6 +63,11 @@ stored_after stored Stored e = stored ++ e ∷ []
 -- a writer after an insertion that was answered so
 abbrev pub writer_after : ShardWriter → Inserted → Entry → ShardWriter
 writer_after w i e = record w { stored = stored_after w.stored i e }
+
+-- a writer after an insertion that was refused: as before, or with an entry that is pending
+abbrev pub writer_left : ShardWriter → Refused → ShardWriter
+writer_left w Append = w
+writer_left w Publication = record w { refused = true }
 
 -- what a writer tells
 abbrev pub told_by : ShardWriter → Told

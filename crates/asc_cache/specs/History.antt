@@ -1,5 +1,6 @@
 -- What the log of a shard says. Before an entry is appended it is noted as tried. A try that came to nothing is one that
--- nobody counts: the next one starts again from what is stored.
+-- nobody counts: the next one starts again from what is stored. A store is noted before the publication: where that is
+-- refused, nothing is noted any more.
 use Rattle.std.specs.Prelude.{List, [], ◌∷◌, ◌++◌, fold}
 use Rattle.asc_model.specs.Entry.{Entry}
 use Rattle.asc_cache.specs.declared.log.Note.{Note}

@@ -20,4 +20,4 @@ pub use cache::Cache;
 pub use insert::{Insert, ListWriter};
 pub use reader::Told;
 pub use readers::ShardReaders;
-pub use writer::ShardWriter;
+pub use writer::{Refused, ShardWriter};

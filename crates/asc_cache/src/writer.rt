@@ -1,7 +1,8 @@
-ghost use Rattle.std.specs.Prelude.{◌≡◌, ◌<◌, ◌≤◌, true, false, length, IfOk, OnErr};
+ghost use Rattle.std.specs.Prelude.{◌≡◌, ◌<◌, ◌≤◌, true, false, length, Err, IfOk, IfErr, OnErr};
 ghost use Rattle.std.specs.Arc.{arc_value};
 ghost use Rattle.asc_shard.specs.Content.{outcome_of, IsContent};
-ghost use Rattle.asc_cache.specs.Cache.{IsOpened, shard_of, told_by, writer_after};
+ghost use Rattle.asc_cache.specs.Cache.{IsOpened, shard_of, told_by, writer_after, writer_left};
+ghost use Rattle.asc_cache.specs.declared.writer.Refused.TheVariants.{Publication};
 
 use crate::doubled::Doubled;
 use crate::reader::{ShardReader, Told};
@@ -27,6 +28,15 @@ impl<R: Wait + Drop> Drop for Left<R> {
 
 /// Where a writer leaves its doubled shard when it goes. The shard's reader owns it too.
 pub(crate) type Leaving<R> = Arc<Mutex<Option<Left<R>>>, Global>;
+
+/// Which call of an insertion found no memory.
+#[derive(Clone, Copy, Debug, PartialEq, Eq)]
+pub enum Refused {
+    /// The entry was not appended. All stands as before, and the next insertion is tried.
+    Append,
+    /// The entry, or one before it, was appended and not published. It is pending, and no later one is stored.
+    Publication,
+}
 
 /// The only writer of a shard. Once it is dropped, its reader goes on with what is stored.
 ///
@@ -66,15 +76,32 @@ impl<R: Wait + Drop> ShardWriter<R> {
         ensures memory { OnErr result (self.new ≡ record self.old { refused = self.new.refused }) }
         ensures ended { self.old.refused ≡ true → self.new ≡ self.old }
     {
+        match self.try_insert(entry) {
+            Ok(inserted) => Ok(inserted),
+            Err(_refused) => Err(Memory),
+        }
+    }
+
+    /// As `insert`, and where memory is wanting it says for which call.
+    pub fn try_insert(&mut self, entry: Arc<Entry, Global>) -> Result<Inserted, Refused>
+        ensures outcome { IfOk result (λ i. i ≡ outcome_of (shard_of self.old).held (arc_value entry)) }
+        ensures stored { IfOk result (λ i. self.new ≡ writer_after self.old i (arc_value entry)) }
+        ensures left { IfErr result (λ refused. self.new ≡ writer_left self.old refused) }
+        ensures ended { self.old.refused ≡ true → result ≡ Err Publication }
+    {
         if self.doubled.is_pending() {
-            return Err(Memory);
+            return Err(Refused::Publication);
         }
         if self.doubled.holds(&entry) {
             return Ok(Inserted::Known);
         }
-        self.doubled.append(entry)?;
-        self.doubled.publish(&self.rt)?;
-        Ok(Inserted::Stored)
+        if self.doubled.append(entry).is_err() {
+            return Err(Refused::Append);
+        }
+        match self.doubled.publish(&self.rt) {
+            Ok(()) => Ok(Inserted::Stored),
+            Err(Memory) => Err(Refused::Publication),
+        }
     }
 
     /// What has been stored, for the shard's reader to learn.

@@ -3,7 +3,7 @@ use Rattle.std.proofs.Common.{ap, sym, ◌∙◌, arith}
 use Rattle.asc_traj.specs.Finder.{Plan}
 use Rattle.asc_live.specs.Laws.{GuessesAreCounted}
 
--- all guesses that are due were made, found no room or were given up
+-- all guesses that are due were made, found no room or were not offered
 pub guesses_are_counted : GuessesAreCounted
 guesses_are_counted guessing queue visits first last new all none =
     let refused = ap (λ (p : Plan). p.refused) new in

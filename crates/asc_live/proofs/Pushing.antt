@@ -23,7 +23,7 @@ pub Pushes-none : (offers : Due → Bool) (p : Pusher) → Pushes offers [] p p
 Pushes-none offers p = record {
   jobs = [];
   lacked = 0;
-  left_out = 0;
+  wanting = 0;
   left = 0;
   some = refl;
   all = omega arith;
@@ -55,7 +55,7 @@ Pushes-more offers xs ys p q r s t =
     record {
       jobs = s.jobs ++ t.jobs;
       lacked = s.lacked + t.lacked;
-      left_out = s.left_out + t.left_out;
+      wanting = s.wanting + t.wanting;
       left = s.left + t.left;
       some = subst (λ l. IsSublist l (filter offers (xs ++ ys))) (sym (map-append due_of s.jobs t.jobs))
           (subst (λ l. IsSublist (map due_of s.jobs ++ map due_of t.jobs) l) (sym both) (IsSublist-append (map due_of s.jobs) (filter offers xs) (map due_of t.jobs) (filter offers ys) s.some t.some));
@@ -66,7 +66,7 @@ Pushes-more offers xs ys p q r s t =
       full = omega (arith, s.full, t.full);
       room = λ h. room-more (s.lacked + s.left) (t.lacked + t.left) p.giver.capacity (length q.giver.pushed) (length r.giver.pushed) s.room
           (λ k. subst (λ c. c ≤ length r.giver.pushed) (ap (λ (g : Giver). g.capacity) s.giver) (t.room k)) (omega (arith, most)) (omega (arith, h));
-      refused = t.refused ∙ ap (λ n. raised n t.left_out) s.refused ∙ raised-more p.refused s.left_out t.left_out;
+      refused = t.refused ∙ ap (λ n. raised n t.wanting) s.refused ∙ raised-more p.refused s.wanting t.wanting;
     }
 
 -- at most as many as are due
@@ -84,7 +84,7 @@ pub Pushes-refused : (d : Due) (p q : Pusher) → q ≡ record p { refused = one
 Pushes-refused d p q e = record {
   jobs = [];
   lacked = 0;
-  left_out = 1;
+  wanting = 1;
   left = 0;
   some = inl refl;
   all = omega arith;
@@ -101,7 +101,7 @@ pub Pushes-full : (d : Due) (p q : Pusher) → q.giver ≡ p.giver → q.full �
 Pushes-full d p q giver full refused room = record {
   jobs = [];
   lacked = 1;
-  left_out = 0;
+  wanting = 0;
   left = 0;
   some = inl refl;
   all = omega arith;
@@ -118,7 +118,7 @@ pub Pushes-one : (d : Due) (p q : Pusher) (job : Job) → due_of job ≡ d → j
 Pushes-one d p q job asks ticket giver full refused = record {
   jobs = job ∷ [];
   lacked = 0;
-  left_out = 0;
+  wanting = 0;
   left = 0;
   some = inr ([], ap (λ x. x ∷ []) asks, refl);
   all = omega arith;
@@ -141,7 +141,7 @@ Pushes-offered offers due p q all s =
     record {
       jobs = s.jobs;
       lacked = s.lacked;
-      left_out = s.left_out;
+      wanting = s.wanting;
       left = s.left;
       some = subst (λ ds. IsSublist (map due_of s.jobs) ds) same s.some;
       all = ap length (sym same) ∙ s.all;
@@ -158,7 +158,7 @@ pub Pushes-left : (offers : Due → Bool) (due : List Due) (p q : Pusher) → fi
 Pushes-left offers due p q none e room = record {
   jobs = [];
   lacked = 0;
-  left_out = 0;
+  wanting = 0;
   left = length due;
   some = subst (λ ds. IsSublist [] ds) (sym none) refl;
   all = ap length none;

@@ -107,10 +107,10 @@ raised-none : (n : ℕ) → raised 0 n ≡ 0 → n ≡ 0
 raised-none zero e = refl
 raised-none (suc n) e = absurd (let x : ⊥ = omega (arith, e) in x)
 
--- where memory was not wanting, each job that is due was pushed, found no room or was left to the run
+-- where memory was not wanting, each job that is due was pushed, found no room or was not offered
 all-made : (offers : Due → Bool) (due : List Due) (p q : Pusher) → Pushes offers due p q → p.refused ≡ 0 → q.refused ≡ 0 → length q.giver.pushed + q.full ≡ length p.giver.pushed + p.full + length due
 all-made offers due p q s e f =
-    let none = raised-none s.left_out (ap (λ c. raised c s.left_out) (sym e) ∙ sym s.refused ∙ f) in
+    let none = raised-none s.wanting (ap (λ c. raised c s.wanting) (sym e) ∙ sym s.refused ∙ f) in
     let more = pushed-length offers due p q s in
     omega (arith, none, more, s.all, s.rest, s.full)
 
@@ -196,7 +196,7 @@ issued-small : {F : Type 0} (number : ℕ) (last : Option State) (now : State) (
 issued-small number None now old most ahead issued = issued
 issued-small number (Some last) now old most ahead issued = omega (arith, most, ahead)
 
--- guesses find no room, or are given up, only once the queue had been filled up
+-- guesses find no room, or are not offered, only once the queue had been filled up
 room-after : (offers : Due → Bool) (due : List Due) (p q : Pusher) → Pushes offers due p q → (0 < p.full → p.giver.capacity ≤ length p.giver.pushed) → 0 < q.full → q.giver.capacity ≤ length q.giver.pushed
 room-after offers due p q s was some =
     let more = pushed-length offers due p q s in
@@ -285,7 +285,7 @@ visit-plans number now old new q (inl v) =
       made = grown.0;
       full = grown.1.0;
       few = (let x = grown.1.1 in omega (arith, x, few));
-      refused = subst (λ n. old.pusher.refused ≤ n) (sym v.pushes.refused) (raised-grows old.pusher.refused v.pushes.left_out);
+      refused = subst (λ n. old.pusher.refused ≤ n) (sym v.pushes.refused) (raised-grows old.pusher.refused v.pushes.wanting);
       queue = ap (λ (giver : Giver). Some (queue_of giver)) v.pushes.giver;
     }
 visit-plans number now old new q (inr (inr v)) =

@@ -3,7 +3,7 @@ use Rattle.std.proofs.Common.{◌≡◌, ℕ, zero, suc, ◌+◌, ◌-◌, ◌*�
 use Rattle.std.proofs.lemmas.Bool.{lt-ltb, le-ltb, ne_eqb}
 use Rattle.std.proofs.lemmas.Nat.{div-mul-add, mod-mul-add}
 use Rattle.std.proofs.Math.Nat.{mod-add-div', mod-lt}
-use Rattle.asc_live.specs.Due.{is_shared}
+use Rattle.asc_live.specs.Due.{is_for_workers}
 use Rattle.asc_live.specs.Laws.{share, SharesRise}
 
 -- a visit by its row, of two more than w, and by what it leaves
@@ -47,11 +47,11 @@ row-before w q = let e : suc q * suc (suc w) ≡ q * suc (suc w) + suc (suc w) =
 row-after : (w q : ℕ) → q * suc w + w < suc q * suc w
 row-after w q = let e : suc q * suc w ≡ q * suc w + suc w = grind arith in omega (arith, e)
 
-shared-at : (w q r : ℕ) → r < suc (suc w) → is_shared (suc w) (at w q r) ≡ not (r == 1)
+shared-at : (w q r : ℕ) → r < suc (suc w) → is_for_workers (suc w) (at w q r) ≡ not (r == 1)
 shared-at w q r few = λ i. (lt-ltb 0 (suc w) (omega arith) i) && not (left w q r few i == 1)
 
 -- at each place in a row
-rises-at : (w q r : ℕ) → r < suc (suc w) → 0 < at w q r → is_shared (suc w) (at w q r) ≡ nat_lt (share (suc w) (at w q r - 1)) (share (suc w) (at w q r))
+rises-at : (w q r : ℕ) → r < suc (suc w) → 0 < at w q r → is_for_workers (suc w) (at w q r) ≡ nat_lt (share (suc w) (at w q r - 1)) (share (suc w) (at w q r))
 rises-at w zero zero few some = absurd (let x : ⊥ = omega (arith, some) in x)
 rises-at w (suc q) zero few some =
     let before : at w (suc q) zero - 1 ≡ at w q (suc w) = row-before w q in
@@ -70,7 +70,7 @@ rises-at w q (suc (suc r)) few some =
     shared-at w q (suc (suc r)) few ∙ ap not (ne_eqb (suc (suc r)) 1 (λ e. let x : ⊥ = omega (arith, e) in x))
     ∙ sym ((λ i. nat_lt ((ap (share (suc w)) before ∙ middle w q r (omega (arith, few))) i) (middle w q (suc r) few i)) ∙ lt-ltb _ _ (omega arith))
 
-none-shared : (target : ℕ) → is_shared 0 target ≡ nat_lt (share 0 (target - 1)) (share 0 target)
+none-shared : (target : ℕ) → is_for_workers 0 target ≡ nat_lt (share 0 (target - 1)) (share 0 target)
 none-shared target =
     let a : (target - 1) * 0 ≡ 0 = grind arith in
     let b : target * 0 ≡ 0 = grind arith in
@@ -83,4 +83,4 @@ shares_rise (suc w) target some =
     let r = target % suc (suc w) in
     let few : r < suc (suc w) = mod-lt target (omega arith) in
     let is : at w q r ≡ target = (let e : q * suc (suc w) + r ≡ r + q * suc (suc w) = omega arith in e) ∙ mod-add-div' target (suc (suc w)) in
-    subst (λ t. is_shared (suc w) t ≡ nat_lt (share (suc w) (t - 1)) (share (suc w) t)) is (rises-at w q r few (subst (λ t. 0 < t) (sym is) some))
+    subst (λ t. is_for_workers (suc w) t ≡ nat_lt (share (suc w) (t - 1)) (share (suc w) t)) is (rises-at w q r few (subst (λ t. 0 < t) (sym is) some))

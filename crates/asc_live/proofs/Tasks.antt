@@ -127,7 +127,7 @@ pub Pushes-target : (offers : Due → Bool) (prev last : State) (g : Guessing) (
     → Pushes each (jobs_of prev last (map (λ (kind : Kind). (kind, ahead)) (kinds_of g))) p q → Pushes offers (jobs_of prev last (map (λ (kind : Kind). (kind, ahead)) (kinds_of g))) p q
 Pushes-target offers prev last g ahead p q are s = Pushes-offered offers _ p q (kinds-offered offers prev last ahead true are (kinds_of g)) s
 
--- those of one that is left to the run
+-- those of one that is left to the walk
 pub Pushes-target-left : (offers : Due → Bool) (prev last : State) (g : Guessing) (ahead : ℕ) (p q : Pusher) → ((kind : Kind) → offers (job_of prev last (kind, ahead)) ≡ false)
     → q ≡ record p { full = p.full + length (kinds_of g) } → p.giver.capacity ≤ length p.giver.pushed
     → Pushes offers (jobs_of prev last (map (λ (kind : Kind). (kind, ahead)) (kinds_of g))) p q

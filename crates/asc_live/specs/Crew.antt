@@ -43,11 +43,11 @@ pub record WentBeside (guessing : Guessing) (crew : Crew) (was now : Walk) (old 
   pub full : worked.full ≡ last.plan.full
   -- each job that was pushed was run, or left
   pub jobs : worked.made ≡ worked.taken.tally.ran + worked.taken.left
-  -- where memory was not wanting, each guess that was due was pushed, or found no room or was given up
+  -- where memory was not wanting, each guess that was due was pushed, or found no room or was not offered
   pub guesses : worked.refused ≡ 0 → worked.made + worked.full ≡ guesses_until guessing now.tally.asked
-  -- with memory or without, at most 128 guesses were pushed, found no room or were given up at each visit
+  -- with memory or without, at most 128 guesses were pushed, found no room or were not offered at each visit
   pub few : worked.made + worked.full ≤ 128 * now.tally.asked
-  -- a guess found no room, or was given up, only once as many were pushed as the queue holds
+  -- a guess found no room, or was not offered, only once as many were pushed as the queue holds
   pub room : 0 < worked.full → crew.queue ≤ worked.made
   -- as many workers were beside it as the crew has
   pub workers : worked.workers ≡ crew.workers

@@ -45,7 +45,7 @@ raised count (suc n) = one_more (raised count n)
 -- what pushes jobs, and what it counted
 pub record Pusher : Type 0 where
   pub giver : Giver
-  -- how many jobs found no room, or were left to the run or given up once the queue had been filled up
+  -- how many guesses found no room, or were not offered once the queue had been filled up
   pub full : ℕ
   -- how often memory was wanting
   pub refused : ℕ
@@ -59,28 +59,28 @@ pub record HasFilled (giver : Giver) : Type 0 where
 abbrev pub is_filled : Giver → Bool
 is_filled giver = nat_lt 0 (length giver.pushed) && nat_le giver.capacity (length giver.pushed)
 
--- Whether the guesses of a visit are the workers' share. So many workers have all visits but one in each row of as many
--- and one more: the run itself goes to that one.
-abbrev pub is_shared : (workers target : ℕ) → Bool
-is_shared workers target = nat_lt 0 workers && not (target % (workers + 1) == 1)
+-- Whether the guesses of a visit are for the workers. Of each workers + 1 visits in a row all but one are: the walk goes to
+-- that one itself.
+abbrev pub is_for_workers : (workers target : ℕ) → Bool
+is_for_workers workers target = nat_lt 0 workers && not (target % (workers + 1) == 1)
 
 -- Whether a job that is due at a visit is offered to the workers: each one is until the queue had been filled up, and from
 -- then on those of their share.
 abbrev pub is_offered : (filled : Bool) → (workers number : ℕ) → Due → Bool
-is_offered filled workers number due = not filled || is_shared workers (number + due.ahead)
+is_offered filled workers number due = not filled || is_for_workers workers (number + due.ahead)
 
--- Of the jobs that are due some are offered; the others are left to the run itself, once the queue had been filled up. Of
--- those offered some were pushed, in order, and some found no room. For the rest memory was wanting.
+-- Of the jobs that are due some are offered; the others are left to the walk, once the queue had been filled up. Of those
+-- offered some were pushed, in order, and some found no room. For the rest memory was wanting.
 pub record Pushes (offers : Due → Bool) (due : List Due) (old new : Pusher) : Type 0 where
   pub jobs : List Job
   pub lacked : ℕ
-  pub left_out : ℕ
+  pub wanting : ℕ
   pub left : ℕ
   pub some : IsSublist (map due_of jobs) (filter offers due)
-  pub all : length (filter offers due) ≡ length jobs + lacked + left_out
+  pub all : length (filter offers due) ≡ length jobs + lacked + wanting
   pub rest : length due ≡ length (filter offers due) + left
   pub giver : new.giver ≡ record old.giver { pushed = old.giver.pushed ++ jobs }
   pub tickets : CountUp (length old.giver.pushed) jobs
   pub full : new.full ≡ old.full + lacked + left
   pub room : 0 < lacked + left → old.giver.capacity ≤ length new.giver.pushed
-  pub refused : new.refused ≡ raised old.refused left_out
+  pub refused : new.refused ≡ raised old.refused wanting

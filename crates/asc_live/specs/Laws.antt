@@ -3,14 +3,14 @@ use Rattle.std.specs.Prelude.{◌≡◌, ℕ, ◌+◌, ◌-◌, ◌*◌, ◌/◌
 use Rattle.asc_traj.specs.declared.guessing.Guessing.{Guessing}
 use Rattle.asc_traj.specs.Finder.{Plan, Queue}
 use Rattle.asc_run.specs.Seen.{SeesAll, seen, guesses_until}
-use Rattle.asc_live.specs.Due.{is_shared}
+use Rattle.asc_live.specs.Due.{is_for_workers}
 
 -- what a helper tells that was not visited yet
 abbrev pub new_plan : Guessing → Option Queue → Plan
 new_plan guessing queue = record { made = 0; refused = 0; full = 0; seen = Some (seen 0 guessing); queue = queue }
 
 -- Where such a helper was visited so often, and memory never was wanting, each guess that was due was made, or found no
--- room or was given up.
+-- room or was not offered.
 abbrev pub GuessesAreCounted : Type 0
 GuessesAreCounted = (guessing : Guessing) (queue : Option Queue) (visits : ℕ) (first last : Plan)
     → first ≡ new_plan guessing queue
@@ -23,4 +23,4 @@ share workers visits = visits * workers / (workers + 1)
 -- The guesses of a visit are the workers' just where their share of the visits rises.
 abbrev pub SharesRise : Type 0
 SharesRise = (workers target : ℕ) → 0 < target
-    → is_shared workers target ≡ nat_lt (share workers (target - 1)) (share workers target)
+    → is_for_workers workers target ≡ nat_lt (share workers (target - 1)) (share workers target)

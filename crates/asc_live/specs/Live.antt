@@ -117,8 +117,8 @@ refused_visit l = record l {
   seen = None;
 }
 
--- A visit was passed over, once the queue had been filled up: of each kind one guess is given up, as if it had found no
--- room. Its state is kept, where it ends a row of such visits, or is not.
+-- A visit was passed over, once the queue had been filled up: of each kind one guess is not offered. Its state is kept,
+-- where it ends a row of such visits, or is not.
 pub record PassesOver {F : Type 0} (number : ℕ) (now : State) (old new : Live F) : Type 0 where
   pub room : HasFilled old.pusher.giver
   pub state : (new.last ≡ None) ⊎ (new.last ≡ Some now)
@@ -149,6 +149,6 @@ pub record IsLive {F : Type 0} (l : Live F) : Type 0 where
   pub least : 1 ≤ l.guessing.ahead
   pub most : l.guessing.ahead ≤ 64
   pub issued : l.issued ≤ 2 ^ 41
-  -- a guess finds no room, or is given up, only once the queue had been filled up
+  -- a guess finds no room, or is not offered, only once the queue had been filled up
   pub room : 0 < l.pusher.full → l.pusher.giver.capacity ≤ length l.pusher.giver.pushed
   pub seen : (number : ℕ) → l.seen ≡ Some number → HasSeen number l

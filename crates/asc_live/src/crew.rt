@@ -41,7 +41,7 @@ pub struct Worked {
     pub made: u64,
     /// How often memory was wanting for a job.
     pub refused: u64,
-    /// How many jobs found no room, or were given up once the queue had been filled up.
+    /// How many guesses found no room, or were not offered once the queue had been filled up.
     pub full: u64,
     /// What became of the jobs that were pushed.
     pub taken: TakenIn,

@@ -4,7 +4,7 @@
 ghost use Rattle.asc_live.specs.Laws.{GuessesAreCounted, SharesRise};
 
 /// A walk that visits a new helper makes of each kind of guess as many as its visits and the visits ahead are, less two,
-/// from the second visit on; each of them is pushed, or finds no room or is given up. Where memory is wanting nothing is
+/// from the second visit on; each of them is pushed, or finds no room or is not offered. Where memory is wanting nothing is
 /// said.
 pub fn guesses_are_counted()
     ensures { GuessesAreCounted }

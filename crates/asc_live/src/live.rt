@@ -312,7 +312,7 @@ impl<'a, F: Finder, G: Gate, R: Wait> Helper for Live<'a, F, G, R> {
     /// filled up it pushes the workers' share of them; the others count as full. A visit costs a copy of what
     /// changed in the state since the last one, and two owners more of a copy for each job.
     ///
-    /// A visit that is passed over does none of this: one guess of each kind counts as one that found no room. So it does
+    /// A visit that is passed over does none of this: one guess of each kind counts as not offered. So it does
     /// at the first visit after such ones, which only keeps its state. At its end the gate is passed at `Visit`.
     fn visit(&mut self, state: &mut State, number: u64)
         requires number { number ≤ 2 ^ 40 }

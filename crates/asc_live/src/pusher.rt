@@ -66,7 +66,7 @@ impl<'a, R> Pusher<'a, R> {
         self.giver.pushed()
     }
 
-    /// How many jobs found no room, or were left to the walk or given up.
+    /// How many guesses found no room or were not offered.
     pub(crate) fn full(&self) -> u64
         ensures { result ≡ self.now.full }
     {

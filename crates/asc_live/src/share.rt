@@ -1,13 +1,14 @@
 ghost use Rattle.std.specs.Prelude.{◌≡◌, ◌+◌, ◌<◌, ◌^◌, not, ◌||◌};
-ghost use Rattle.asc_live.specs.Due.{is_shared};
+ghost use Rattle.asc_live.specs.Due.{is_for_workers};
 
 /// Which guesses are offered to the workers. It changes no answer of a run.
 ///
 /// A walk goes a lap between two visits, or it jumps and is at the next one at once. Were the guesses of all visits
-/// offered, the walk would jump over many visits at once, and then go over as many, while workers wait. So once the queue
-/// had been filled up, the guesses of one visit are left to the walk in each row of one more than there are workers.
+/// offered, the walk would jump over many visits at once, and then go over as many. So once the queue had been filled up,
+/// one visit of each `workers + 1` in a row is left to the walk.
 #[derive(Clone, Copy)]
 pub(crate) struct Share {
+    /// How many workers there are.
     pub workers: u64,
     /// Whether the queue had been filled up.
     pub filled: bool,
@@ -17,7 +18,7 @@ impl Share {
     /// Whether the guesses of the visit of this number are offered.
     pub(crate) fn offers(self, target: u64) -> bool
         requires { self.workers + 1 < 2 ^ 64 }
-        ensures { result ≡ (not self.filled || is_shared self.workers target) }
+        ensures { result ≡ (not self.filled || is_for_workers self.workers target) }
     {
         !self.filled || 0 < self.workers && target % (self.workers + 1) != 1
     }

@@ -34,7 +34,7 @@ fn is_sent<T: Send>(_value: &T) {}
 type Row = (u32, u32, u32, Kind);
 
 /// So many visits, the steps to each of them from the visit before, the jobs taken before them, and what is counted after
-/// them: jobs pushed, and jobs that found no room, were left to the walk or given up.
+/// them: jobs pushed, and guesses that found no room or were not offered.
 ///
 /// The queue holds 3 jobs. Both kinds are on, and 2 visits ahead are guessed. So at visit 2 jobs are due for visits 3 and
 /// 4, and at each later visit for one visit more.

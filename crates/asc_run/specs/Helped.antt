@@ -24,7 +24,7 @@ pub record HasRoom (bound : ℕ) (a : Aid) : Type 0 where
   pub made : a.plan.made < bound
   pub full : a.plan.full < bound
 
--- Guesses made, and those that found no room or were given up, never fall, and together rise by at most 128 a visit.
+-- Guesses made, and those that found no room or were not offered, never fall, and together rise by at most 128 a visit.
 -- Refusals never fall. The queue stays.
 pub record Plans (visits : ℕ) (old new : Plan) : Type 0 where
   pub made : old.made ≤ new.made

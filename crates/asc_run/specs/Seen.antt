@@ -21,7 +21,7 @@ abbrev pub seen : (number : ℕ) → Guessing → Seen
 seen number guessing = record { number = number; guessing = guessing }
 
 -- Where it is told up to which visit all were guessed, the next visit is guessed too, if memory is not wanting. Of the
--- guesses that are due each is made, finds no room, or is given up.
+-- guesses that are due each is made, finds no room, or is not offered.
 abbrev pub Sees : (number : ℕ) → (old new : Plan) → Type 0
 Sees number old new = (before : Seen) → old.seen ≡ Some before → number ≡ before.number + 1
     → new.refused ≡ old.refused → (new.seen ≡ Some (seen number before.guessing))

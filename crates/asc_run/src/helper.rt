@@ -31,7 +31,7 @@ pub trait Helper: Finder {
     fn refused(&self) -> u64
         ensures { result ≡ (Self.plan self.now).refused };
 
-    /// How many guesses found no room, or were given up.
+    /// How many guesses found no room, or were not offered.
     fn full(&self) -> u64
         ensures { result ≡ (Self.plan self.now).full };
 }

@@ -142,7 +142,7 @@ AreTold line load left executed count (Some counts) =
 
 -- These are the numbers of a run's workers beside its own. Each guess that was made was run as a job, or was left. Each
 -- job that was run ended in one of five ways. Where memory was never wanting, each guess that was due was made, or found
--- no room, or was given up once the queue had been filled up.
+-- no room, or was not offered once the queue had been filled up.
 -- A guess counts as full only once as many were made as the queue holds. With memory or without, those made and those
 -- full are at most 128 at each visit.
 pub record AreWorkerNumbers (guessing : Guessing) (queue : ℕ) (counts : Counts) (workers : WorkerCounts) : Type 0 where

@@ -1,10 +1,10 @@
--- Target by target the jobs are pushed, or left to the run.
+-- Target by target the jobs are pushed, or left to the walk.
 use Rattle.std.proofs.Common.{◌≡◌, ◌+◌, ◌-◌, ◌<◌, ◌≤◌, Bool, true, false, length, map, not, ◌||◌, sym, ap, ◌∙◌, refl, subst, arith}
 use Rattle.std.specs.Arc.{arc_value}
 use Rattle.asc_guess.specs.declared.kind.Kind.{Kind}
 use Rattle.asc_jobs.specs.Jobs.{Giver}
 use Rattle.asc_run.specs.Serial.{kinds_of}
-use Rattle.asc_live.specs.Due.{Pushes, is_offered, is_shared, jobs_of, tasks_for}
+use Rattle.asc_live.specs.Due.{Pushes, is_offered, is_for_workers, jobs_of, tasks_for}
 use Rattle.asc_live.proofs.Pushing.{Pushes-none, Pushes-more, Pushes-few}
 use Rattle.asc_live.proofs.Tasks.{jobs-more, kinds-length, kinds-few, Pushes-target, Pushes-target-left}
 use Rattle.asc_live.proofs.pusher.Pusher.offer_targets.Goals as goal
@@ -16,7 +16,7 @@ loop-target-init g c = record {
   few = omega arith;
 }
 
--- only once the queue had been filled up is a guess left to the run
+-- only once the queue had been filled up is a guess left to the walk
 left-filled : (filled shared : Bool) → (not filled || shared) ≡ false → filled ≡ true
 left-filled true shared e = refl
 left-filled false shared e = absurd (cc)
@@ -35,14 +35,14 @@ loop-target-preserved g c =
     let some : c.args.start < c.args.end = omega (arith, a.target, c.loop-target-test.true) in
     let later = c.requires.later some in
     let same : target ≡ number + ahead = omega (arith, later, a.target) in
-    let tells : c.offers.result ≡ (not filled || is_shared workers (number + ahead)) = c.offers.ensures ∙ ap (λ t. not filled || is_shared workers t) same in
+    let tells : c.offers.result ≡ (not filled || is_for_workers workers (number + ahead)) = c.offers.ensures ∙ ap (λ t. not filled || is_for_workers workers t) same in
     let due = jobs_of prev last (map (λ (kind : Kind). (kind, ahead)) (kinds_of guessing)) in
     let so_far = Pushes-few offers _ _ _ v.pushes in
     let here : Pushes offers due c.loop-target.self c.if-offers.self = elim c.if-offers.branch [
       | then-offers w ↦ subst (λ q. Pushes offers due c.loop-target.self q) (sym w.self-is)
           (Pushes-target offers prev last guessing ahead _ _ (λ kind. sym tells ∙ w.if-offers.true) w.push_kinds.ensures)
       | else-offers w ↦
-          let room = c.requires.filled (left-filled filled (is_shared workers (number + ahead)) (sym tells ∙ w.if-offers.false)) in
+          let room = c.requires.filled (left-filled filled (is_for_workers workers (number + ahead)) (sym tells ∙ w.if-offers.false)) in
           subst (λ q. Pushes offers due c.loop-target.self q) (sym w.self-is)
           (Pushes-target-left offers prev last guessing ahead _ _ (λ kind. sym tells ∙ w.if-offers.false) w.give_up.ensures
           (subst (λ capacity. capacity ≤ length c.loop-target.self.giver.pushed) (sym (ap (λ (giver : Giver). giver.capacity) v.pushes.giver)) (omega (arith, room.capacity, so_far.0))))
