@@ -280,7 +280,7 @@ impl Tracer {
     }
 
     /// Makes the places that were first touched since a mark untouched again, with the bytes that they had. Where they
-    /// were only read, and nothing was put since, all is as it was at the mark.
+    /// were only read, and nothing was put since, all is as it was at the mark. It costs what was touched.
     pub fn undo(&mut self, mark: usize)
         requires { mark ≤ length self.old.touched }
         ensures { self.new ≡ undone self.old mark }
@@ -702,7 +702,7 @@ fn have_mark(marks: &[u8], place: u32, mark: u8) -> bool
     word_of(marks, place) == u32::from_le_bytes([mark, mark, mark, mark])
 }
 
-// Whether the four places from a place on were only read. Without bit 7 both marks that say so are one.
+// Where it is so, the four places from a place on were only read. Without bit 7 both marks that say so are one.
 #[inline]
 fn are_read(marks: &[u8], place: u32) -> bool
     requires { place + 4 ≤ length marks.now }

@@ -435,7 +435,7 @@ one_step_frame s t good good' e agree =
 
 -- ---- many steps
 
-first_reads-suc : (n : ℕ) (s first : State) → next s ≡ At first → first_reads (suc n) s ≡ places_read s ++ without (places_written s) (first_reads n first)
+pub first_reads-suc : (n : ℕ) (s first : State) → next s ≡ At first → first_reads (suc n) s ≡ places_read s ++ without (places_written s) (first_reads n first)
 unfolding first_reads
 first_reads-suc n s first e = ap (λ (x : Next). elim x [
   | At after ↦ places_read s ++ without (places_written s) (first_reads n after)
@@ -443,7 +443,7 @@ first_reads-suc n s first e = ap (λ (x : Next). elim x [
   | Bad fault ↦ []
 ]) e
 
-written_in-suc : (n : ℕ) (s first : State) → next s ≡ At first → written_in (suc n) s ≡ places_written s ++ written_in n first
+pub written_in-suc : (n : ℕ) (s first : State) → next s ≡ At first → written_in (suc n) s ≡ places_written s ++ written_in n first
 unfolding written_in
 written_in-suc n s first e = ap (λ (x : Next). elim x [
   | At after ↦ places_written s ++ written_in n after

@@ -14,3 +14,4 @@ pub mod Reaches
 pub mod Computing
 pub mod Shapes
 pub mod Registers
+pub mod Repeats

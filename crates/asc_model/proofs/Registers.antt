@@ -172,7 +172,7 @@ map-AreHigh a b first second =
 high-among : (places : List ℕ) (place : ℕ) → AreHigh places → place < 128 → is_among place places ≡ false
 high-among places place high low = list_any_none (λ other. other == place) places (λ k d within. ne_eqb _ place (λ e. absurd (omega (arith, low, e, high k d within))))
 
-among-append : (place : ℕ) (a b : List ℕ) → is_among place (a ++ b) ≡ (is_among place a || is_among place b)
+pub among-append : (place : ℕ) (a b : List ℕ) → is_among place (a ++ b) ≡ (is_among place a || is_among place b)
 among-append place a b = list_any-append (λ other. other == place) a b
 
 or_false : (b : Bool) → (b || false) ≡ b

@@ -1,5 +1,5 @@
 -- The laws that tie states, their machines and their steps to one another.
-use Rattle.std.specs.Prelude.{◌≡◌, ℕ, ◌+◌, ◌<◌, ◌≤◌, true, false, Some, None, List, [], All, AllPairs, length, ◌≢◌, slice_index}
+use Rattle.std.specs.Prelude.{◌≡◌, ℕ, ◌+◌, ◌<◌, ◌≤◌, true, false, Some, None, List, [], All, AllPairs, length, ◌≢◌, slice_index, ◌||◌}
 use Rattle.asc_model.specs.declared.version.Version.{Version}
 use Rattle.asc_model.specs.declared.fault.Fault.{Fault}
 use Rattle.asc_model.specs.Shape.{Shape}
@@ -99,6 +99,26 @@ abbrev pub RegistersFollowWords : Type 0
 RegistersFollowWords = (s t after other : State) → t.shape.version ≡ s.shape.version
     → fetch t.shape (view_of t) ≡ fetch s.shape (view_of s) → next s ≡ At after → next t ≡ At other
     → RegistersAlike s t
+
+-- after k steps of a state its next step goes on, from this state
+pub record GoesOnAfter (k : ℕ) (s now : State) : Type 0 where
+  pub reached : plain k s ≡ At now
+  pub after : State
+  pub goes : next now ≡ At after
+
+-- Of the pc and the registers the step after n steps of a state reads what these read first or write, and writes what they
+-- write.
+pub record TouchesNoNewRegister (n : ℕ) (s now : State) : Type 0 where
+  pub read : (place : ℕ) → place < 128 → is_among place (places_read now) ≡ true
+      → (is_among place (first_reads n s) || is_among place (written_in n s)) ≡ true
+  pub written : (place : ℕ) → place < 128 → is_among place (places_written now) ≡ true
+      → is_among place (written_in n s) ≡ true
+
+-- A step carried out before in a trace, on the same word, touches no new register.
+abbrev pub RepeatedWordsTouchNoNewRegister : Type 0
+RepeatedWordsTouchNoNewRegister = (k n : ℕ) (s then now : State) → IsState s → k < n
+    → GoesOnAfter k s then → GoesOnAfter n s now
+    → fetch then.shape (view_of then) ≡ fetch now.shape (view_of now) → TouchesNoNewRegister n s now
 
 -- ---- frames
 

@@ -1,7 +1,7 @@
 //! The laws that tie states, their machines and their steps to one another. Each function stands for the law that it
 //! ensures, and does nothing.
 
-ghost use Rattle.asc_model.specs.Laws.{ViewsDetermineStates, StatesDetermineViews, StepWritesBytes, StepsKeepStates, StepsTouchPlaces, PlainStepsJoin, PlainStepsKeepStates, RowsDiffer, DecodeIsTheTable, RegistersFollowWords, OneStepFrame, ManyStepsFrame, EntriesAreTrue, ReachesAreOne, ReachesAreComputed};
+ghost use Rattle.asc_model.specs.Laws.{ViewsDetermineStates, StatesDetermineViews, StepWritesBytes, StepsKeepStates, StepsTouchPlaces, PlainStepsJoin, PlainStepsKeepStates, RowsDiffer, DecodeIsTheTable, RegistersFollowWords, RepeatedWordsTouchNoNewRegister, OneStepFrame, ManyStepsFrame, EntriesAreTrue, ReachesAreOne, ReachesAreComputed};
 
 /// A state is known from its shape and its machine, which is one of that shape: turned into its machine and back, it is
 /// the same state.
@@ -52,10 +52,16 @@ pub fn decode_is_the_table()
     ensures { DecodeIsTheTable }
 {}
 
-/// Which registers a step reads and writes depends on its fetched word alone, where it goes on: two states of one version
-/// whose steps fetch the same word read the same registers and write the same ones, and the pc.
+/// Which registers a step reads and writes depends on its fetched word alone, where it goes on: steps of two states of one
+/// version that fetch the same word read and write the same places of registers and of the pc.
 pub fn registers_follow_words()
     ensures { RegistersFollowWords }
+{}
+
+/// A step carried out before in a trace, on the same word, touches no new register place: of the registers and the pc it
+/// reads what the steps before it read first or write, and writes what they write.
+pub fn repeated_words_touch_no_new_register()
+    ensures { RepeatedWordsTouchNoNewRegister }
 {}
 
 /// Two states of one shape that agree on the places that a step of one of them reads step alike: both go on, both meet a

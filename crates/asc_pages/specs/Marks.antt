@@ -10,8 +10,8 @@ IsUnmarked marks from count =
 abbrev pub IsUnlisted : List ℕ → ℕ → Type 0
 IsUnlisted listed g = (j : ℕ) → j < length listed → slice_index listed j ≢ g
 
--- Up to which of its pages one of each group may be marked, and the groups that have marks: all are listed, where there are
--- no more than that.
+-- It is told up to which page of each group one may be marked. And each group that has a mark is listed, unless there are
+-- more than the list holds.
 pub record AreMarks (more : Bool) (listed groups : List ℕ) (pages : List Bool) : Type 0 where
   pub least : length pages ≤ 32 * length groups
   pub most : 32 * length groups < length pages + 32

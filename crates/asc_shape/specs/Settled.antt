@@ -1,5 +1,5 @@
--- Words of code that were carried out before. Their registers and the pc were touched then, so that carrying them out
--- again changes no status of these.
+-- Words of code that change no status of a register or of the pc when they are carried out: their registers and the pc were
+-- touched before.
 use Rattle.std.specs.Prelude.{◌≡◌, ℕ, ◌+◌, ◌<◌, ◌≤◌, Bool, true, false, List, Some, count_by}
 use Rattle.asc_model.specs.declared.status.Status.{Status}
 use Rattle.asc_model.specs.declared.status.Status.TheVariants.{Untouched, Read, Written, ReadWritten}
@@ -21,7 +21,7 @@ is_only_read Read = true
 is_only_read Written = false
 is_only_read ReadWritten = false
 
--- how many of the places are told not to be written
+-- how many of the places are told as not written
 unfoldable pub unwritten_count : Marks → List ℕ → ℕ
 unwritten_count Untold places = 0
 unwritten_count (Told cap statuses touched) places = count_by (λ place. is_unwritten (status_at statuses place)) places

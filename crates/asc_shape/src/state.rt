@@ -322,7 +322,7 @@ impl State {
         self.freeze_over(alloc, None)
     }
 
-    /// The same, in the memory of another copy as far as nobody else has that.
+    /// As `freeze`, in the memory of another copy, as far as nobody else has that.
     pub fn freeze_over(
         &mut self,
         alloc: Global,

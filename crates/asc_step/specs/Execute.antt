@@ -49,12 +49,12 @@ IsOfVersion version (Jump target) = Unit {0}
 IsOfVersion version GuestCall = Unit {0}
 IsOfVersion version Breakpoint = Unit {0}
 
--- where it is so, the pc and a destination are written
+-- where the first says yes, the pc and a destination are written
 abbrev pub PutsSettled : Bool → Marks → (rd : ℕ) → Type 0
 PutsSettled settled marks rd = settled ≡ true
     → (unwritten_count marks (places_from 0 4) ≡ 0) × (unwritten_count marks (register_places rd) ≡ 0)
 
--- where it is so, the pc is written and the registers of an instruction are settled
+-- where the first says yes, the pc is written and the registers of an instruction are settled
 abbrev pub RunsSettled : Bool → Marks → Instr → Type 0
 RunsSettled settled marks i = settled ≡ true
     → (unwritten_count marks (places_from 0 4) ≡ 0) × AreSettled marks i

@@ -77,7 +77,7 @@ pub struct WorkerCounts {
     pub dropped: u64,
     /// Jobs that the end of the run stopped.
     pub stopped: u64,
-    /// Guesses for which the queue had no room, or that were given up once it had been filled up.
+    /// Guesses for which the queue had no room, or that were not offered once it had been filled up.
     pub full: u64,
 }
 
