@@ -58,16 +58,3 @@ one-later xs i e y room later k d =
     pick xs i k y d (IsLater (get_or xs k d)) room
     (λ same. subst (λ r. IsLater r y) (sym (ap (λ n. get_or xs n d) same ∙ any_default xs i d e room)) later)
     (λ n. unchanged (get_or xs k d) (get_or xs k d) refl)
-
-pub later-trans : (xs ys zs : List ShardReader) → AreLater xs ys → AreLater ys zs → AreLater xs zs
-later-trans xs ys zs p q = record {
-  count = q.count ∙ p.count;
-  each = λ i d small.
-      let a = p.each i d small in
-      let b = q.each i d (omega (arith, p.count)) in
-      record {
-        shard = b.shard ∙ a.shard;
-        capacity = b.capacity ∙ a.capacity;
-        seen = prefix_trans (get_or xs i d).seen (get_or ys i d).seen (get_or zs i d).seen a.seen b.seen;
-      };
-}

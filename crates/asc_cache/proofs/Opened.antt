@@ -56,13 +56,6 @@ own-of-split shards capacity cache ws rs all writers readers i small w here =
     (subst (λ (x : ShardWriter). IsOwnReader x cache.readers.readers) (ap (λ l. get_or l i w) (sym writers) ∙ here)
     (own-reader shards capacity cache.writers cache.readers.readers all i small w))
 
--- and it stays there, whatever the writer does and the readers see
-pub own-stays : (v w : ShardWriter) (rs qs : List ShardReader) → w.shard ≡ v.shard → w.index ≡ v.index → AreLater rs qs → IsOwnReader v rs → IsOwnReader w qs
-own-stays v w rs qs shard index later own = record {
-  there = omega (arith, index, own.there, later.count);
-  shard = λ d. ap (λ k. (get_or qs k d).shard) index ∙ (later.each v.index d own.there).shard ∙ own.shard d ∙ sym shard;
-}
-
 -- what holds where there is a value, and it is known that there is one
 clash : true ≡ false → ⊥
 clash e = cc

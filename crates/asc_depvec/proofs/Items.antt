@@ -84,10 +84,6 @@ All-item P [] k d all within = absurd (omega (arith, within))
 All-item P (item ∷ items) zero d all within = All-first P (places_of_item item) (places_of items) all
 All-item P (item ∷ items) (suc k) d all within = All-item P items k d (All-behind P (places_of_item item) (places_of items) all) (omega (arith, within))
 
--- the last place of a list
-pub All-last : (P : ℕ → Type 0) (list places : List ℕ) (place : ℕ) → list ≡ places ++ place ∷ [] → All P list → P place
-All-last P list places place is all = All-head P place [] (All-behind P places (place ∷ []) (subst (All P) is all))
-
 -- the place of an item for one place, and the last one of one for a word
 pub place_within : (n item : ℕ) → item % 2 ≡ 0 → All (λ place. place < n) (places_of_item item) → item / 2 < n
 place_within n item even all = All-head (λ place. place < n) (item / 2) [] (subst (All (λ place. place < n)) (item_place item even) all)

@@ -90,11 +90,6 @@ listed_within n statuses touched place fits listed = elim (cases_lt place n) [
       absurd (omega arith)
 ]
 
--- the place that is listed last is one of the places
-pub last_within : (n : ℕ) (statuses : List Status) (touched : List (ℕ × ℕ)) (noted : ℕ × ℕ) → Fits n statuses (touched ++ noted ∷ []) → noted.0 < n
-last_within n statuses touched noted fits =
-    listed_within n statuses (touched ++ noted ∷ []) noted.0 fits (omega (arith, times-last_same noted.0 noted.1 touched))
-
 -- a place that is untouched again
 pub untouched-set : (statuses : List Status) (place : ℕ) → is_untouched (status_at (slice_set statuses place Untouched) place) ≡ true
 untouched-set statuses place = elim (cases_lt place (length statuses)) [

@@ -112,11 +112,6 @@ without-set statuses place [] = refl
 without-set statuses place (k ∷ places) =
     ap (λ (s : List Status). slice_set s k Untouched) (without-set statuses place places) ∙ set-apart (without statuses places) place k
 
--- two lists of places
-pub without-append : (statuses : List Status) (a b : List ℕ) → without statuses (a ++ b) ≡ without (without statuses b) a
-without-append statuses [] b = refl
-without-append statuses (place ∷ a) b = ap (λ (list : List Status). slice_set list place Untouched) (without-append statuses a b)
-
 -- in either order
 pub without-swap : (statuses : List Status) (a b : List ℕ) → without (without statuses a) b ≡ without statuses (a ++ b)
 without-swap statuses [] b = refl

@@ -27,12 +27,6 @@ pub length-untouch : (statuses : List Status) (list : List (ℕ × ℕ)) → len
 length-untouch statuses [] = refl
 length-untouch statuses (noted ∷ list) = length-set (untouch statuses list) noted.0 Untouched ∙ length-untouch statuses list
 
--- one place untouched first is as it untouched last
-pub untouch-set : (statuses : List Status) (place : ℕ) (list : List (ℕ × ℕ)) → untouch (slice_set statuses place Untouched) list ≡ slice_set (untouch statuses list) place Untouched
-untouch-set statuses place [] = refl
-untouch-set statuses place (noted ∷ list) =
-    ap (λ (s : List Status). slice_set s noted.0 Untouched) (untouch-set statuses place list) ∙ set-apart (untouch statuses list) place noted.0
-
 -- marks that fit their places do so once some touches are taken back
 pub FitPlaces-untouch : (n : ℕ) (statuses : List Status) (a b : List (ℕ × ℕ)) → Fits n statuses (a ++ b) → Fits n (untouch statuses b) a
 FitPlaces-untouch n statuses a [] fits = subst (λ (list : List (ℕ × ℕ)). Fits n statuses list) (append-nil a) fits

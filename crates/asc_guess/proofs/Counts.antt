@@ -21,9 +21,6 @@ times v xs = count_by (λ x. x == v) xs
 times-cons : (v x : ℕ) (xs : List ℕ) → times v (x ∷ xs) ≡ cond (x == v) 1 0 + times v xs
 times-cons v x xs = sum_by-cons (λ y. cond (y == v) 1 0) x xs
 
-head_up : (x : ℕ) (xs : List ℕ) → IsNonDecreasing (x ∷ xs) → (k : ℕ) → k < length xs → x ≤ get_or xs k 0
-head_up x xs up k l = up 0 (suc k) 0 (omega arith) (omega arith)
-
 tail_up : (x : ℕ) (xs : List ℕ) → IsNonDecreasing (x ∷ xs) → IsNonDecreasing xs
 tail_up x xs up = λ i j d l m. up (suc i) (suc j) d (omega arith) (omega arith)
 

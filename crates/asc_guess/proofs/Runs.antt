@@ -133,9 +133,6 @@ run_behind sorted from to a run = record {
   ];
 }
 
-pub first_start : (sorted : List (ℕ × ℕ)) → IsStart sorted 0
-first_start sorted = record { start = λ k d l m. absurd (omega arith) }
-
 -- a run has one address more
 pub run_more : (sorted : List (ℕ × ℕ)) (from to a : ℕ) → IsRun sorted from to a → HasMore (Stands sorted from) (Stands sorted to) a
 run_more sorted from to a run =

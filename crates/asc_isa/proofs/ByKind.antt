@@ -13,7 +13,8 @@ use Rattle.asc_isa.specs.Kinds.{key_of, IsFor, IsOfKind}
 use Rattle.asc_isa.specs.Rows.{is_at, rows_for}
 use Rattle.asc_isa.specs.Likely.{is_likely, likely}
 use Rattle.asc_isa.proofs.Rows.{fits-at, find-rows_for, decode-for}
-use Rattle.asc_isa.proofs.Frequent.{op_of-operands, likely-none}
+use Rattle.asc_model.proofs.Registers.{op_of-operands}
+use Rattle.asc_isa.proofs.Frequent.{likely-none}
 
 not-true : (b : Bool) → (if b then false else true) ≡ true → b ≡ false
 not-true true h = cc

@@ -10,17 +10,6 @@ use Rattle.asc_isa.specs.Decode.{version_of, HasRegisters}
 use Rattle.asc_isa.specs.Likely.{is_likely, likely}
 use Rattle.asc_isa.proofs.Rows.{decode-registers}
 
--- the operation of an instruction that a word spells
-pub op_of-operands : (format : Format) (op : Op) (word : ℕ) → op_of (operands format op word) ≡ op
-op_of-operands U op word = refl
-op_of-operands J op word = refl
-op_of-operands I op word = refl
-op_of-operands Shift op word = refl
-op_of-operands S op word = refl
-op_of-operands B op word = refl
-op_of-operands R op word = refl
-op_of-operands Plain op word = refl
-
 -- what is not likely
 pub likely-none : (op : Op) (i : Instr) → op_of i ≡ op → is_likely op ≡ false → None ≡ likely (Some i)
 likely-none op i e h = sym (cond-false (is_likely (op_of i)) (Some i) None (ap is_likely e ∙ h))

@@ -111,10 +111,6 @@ pub start_of-least : (version : Version) → 128 ≤ start_of version
 start_of-least One = omega arith
 start_of-least Two = omega arith
 
-pub start_of-most : (version : Version) → start_of version ≤ 136
-start_of-most One = omega arith
-start_of-most Two = omega arith
-
 -- what it says that memory holds bytes
 pub holds-parts : (shape : Shape) (address n : ℕ) → IsTrue (holds shape address n) → (shape.base ≤ address) × (address + n ≤ shape.base + shape.size)
 holds-parts shape address n h =

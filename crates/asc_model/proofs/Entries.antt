@@ -122,12 +122,6 @@ places-cells_at : (bytes places : List ℕ) → map (λ cell. cell.0) (cells_at 
 places-cells_at bytes [] = refl
 places-cells_at bytes (place ∷ places) = ap (λ rest. place ∷ rest) (places-cells_at bytes places)
 
--- A place is among those of the cells of a state where it is among their places and below the length.
-pub among-cells_among : (places : List ℕ) (s : State) (place : ℕ)
-    → is_among place (map (λ cell. cell.0) (cells_among places s)) ≡ (is_among place places && nat_lt place (length s.bytes))
-among-cells_among places s place =
-    ap (is_among place) (places-cells_at s.bytes (places_among places (length s.bytes))) ∙ among-places_among places (length s.bytes) place
-
 -- the same bytes make the same cells
 cells_at-same : (a b places : List ℕ) → All (λ p. slice_index a p ≡ slice_index b p) places
     → cells_at b places ≡ cells_at a places

@@ -108,13 +108,6 @@ AreBytes-append [] b p q i = q i
 AreBytes-append (byte ∷ a) b p q zero = p 0
 AreBytes-append (byte ∷ a) b p q (suc i) = AreBytes-append a b (λ k. p (suc k)) q i
 
-pub AreBytes-set : (bytes : List ℕ) (place byte : ℕ) → byte < 2 ^ 8 → AreBytes bytes → AreBytes (slice_set bytes place byte)
-AreBytes-set [] place byte p h i = omega arith
-AreBytes-set (first ∷ bytes) zero byte p h zero = p
-AreBytes-set (first ∷ bytes) zero byte p h (suc i) = h (suc i)
-AreBytes-set (first ∷ bytes) (suc place) byte p h zero = h 0
-AreBytes-set (first ∷ bytes) (suc place) byte p h (suc i) = AreBytes-set bytes place byte p (λ k. h (suc k)) i
-
 -- ---- writes
 
 pub length-bytes_after : (bytes : List ℕ) (list : List (ℕ × ℕ)) → length (bytes_after bytes list) ≡ length bytes
@@ -124,23 +117,6 @@ length-bytes_after bytes (cell ∷ rest) = length-bytes_after (slice_set bytes c
 pub bytes_after-append : (bytes : List ℕ) (a b : List (ℕ × ℕ)) → bytes_after bytes (a ++ b) ≡ bytes_after (bytes_after bytes a) b
 bytes_after-append bytes [] b = refl
 bytes_after-append bytes (cell ∷ a) b = bytes_after-append (slice_set bytes cell.0 cell.1) a b
-
--- each new byte is a byte
-abbrev pub AreCells : List (ℕ × ℕ) → Type 0
-AreCells [] = Unit {0}
-AreCells (cell ∷ rest) = (cell.1 < 2 ^ 8) × AreCells rest
-
-pub AreCells-append : (a b : List (ℕ × ℕ)) → AreCells a → AreCells b → AreCells (a ++ b)
-AreCells-append [] b p q = q
-AreCells-append (cell ∷ a) b p q = (p.0, AreCells-append a b p.1 q)
-
-pub AreCells-cells : (place : ℕ) (bytes : List ℕ) → AreBytes bytes → AreCells (cells place bytes)
-AreCells-cells place [] h = tt
-AreCells-cells place (byte ∷ bytes) h = (h 0, AreCells-cells (place + 1) bytes (λ i. h (suc i)))
-
-pub AreBytes-bytes_after : (bytes : List ℕ) (list : List (ℕ × ℕ)) → AreCells list → AreBytes bytes → AreBytes (bytes_after bytes list)
-AreBytes-bytes_after bytes [] p h = h
-AreBytes-bytes_after bytes (cell ∷ rest) p h = AreBytes-bytes_after (slice_set bytes cell.0 cell.1) rest p.1 (AreBytes-set bytes cell.0 cell.1 p.0 h)
 
 -- writes in a row are one splice
 pub bytes_after-cells : (bytes : List ℕ) (place : ℕ) (new : List ℕ) → place + length new ≤ length bytes → bytes_after bytes (cells place new) ≡ splice bytes place new

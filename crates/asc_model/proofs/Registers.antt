@@ -68,15 +68,16 @@ operands-store op word I h e = absurd (clash (is_store op) h e)
 operands-store op word Shift h e = absurd (clash (is_store op) h e)
 operands-store op word R h e = absurd (clash (is_store op) h e)
 
-operands-op : (op : Op) (word : ℕ) (format : Format) → op_of (operands format op word) ≡ op
-operands-op op word S = refl
-operands-op op word B = refl
-operands-op op word Plain = refl
-operands-op op word U = refl
-operands-op op word J = refl
-operands-op op word I = refl
-operands-op op word Shift = refl
-operands-op op word R = refl
+-- the operation of an instruction that a word spells
+pub op_of-operands : (format : Format) (op : Op) (word : ℕ) → op_of (operands format op word) ≡ op
+op_of-operands S op word = refl
+op_of-operands B op word = refl
+op_of-operands Plain op word = refl
+op_of-operands U op word = refl
+op_of-operands J op word = refl
+op_of-operands I op word = refl
+op_of-operands Shift op word = refl
+op_of-operands R op word = refl
 
 abbrev pub IfStores : Option Instr → Type 0
 IfStores None = Unit {0}
@@ -87,7 +88,7 @@ find-IfStores [] word h = tt
 find-IfStores (row ∷ rows) word h =
     let both = and_parts (not (is_store row.op) || has_no_destination row.format) (stores_fit rows) h in
     by_branch IfStores (fits row.key word) (Some (operands row.format row.op word)) (find rows word)
-    (λ e store. operands-store row.op word row.format both.0 (sym (ap is_store (operands-op row.op word row.format)) ∙ store)) (λ e. find-IfStores rows word both.1)
+    (λ e store. operands-store row.op word row.format both.0 (sym (ap is_store (op_of-operands row.format row.op word)) ∙ store)) (λ e. find-IfStores rows word both.1)
 
 pub decode-IfStores : (version : Version) (word : ℕ) → IfStores (decode version word)
 unfolding decode

@@ -57,11 +57,6 @@ view_of-memory s n address = ap (take n) (drop-drop (address - s.shape.base) (st
 pub view_of-load : (s : State) (n address : ℕ) → load s.shape (view_of s) n address ≡ number_at n s.bytes (place_of s.shape address)
 view_of-load s n address = ap number_of (view_of-memory s n address)
 
-pub view_of-register_below : (s : State) (k : ℕ) → IsState s → register (view_of s) k < 2 ^ 32
-unfolding view_of
-view_of-register_below s zero good = omega arith
-view_of-register_below s (suc k) good = words-below 31 k (drop 4 s.bytes) (AreBytes-drop 4 s.bytes good.bytes)
-
 -- the word that a step fetches
 pub view_of-fetch : (s : State) → fetch s.shape (view_of s) ≡ word_at s.bytes (place_of s.shape (word_at s.bytes 0))
 unfolding view_of

@@ -31,10 +31,6 @@ Tells-same a x y z p q ys e =
 pub Helped-none : (a : Aid) → Helped [] a a
 Helped-none a = record { tally = refl; replies = Tells-none a.replies; plans = record { made = omega arith; full = omega arith; few = omega arith; refused = omega arith; queue = refl } }
 
--- a landing at which it is not asked
-pub Helped-past : (is : Bool) (c : ℕ) (r : Option ℕ) (a : Aid) → is ≡ false → Helped (with_landing is c r []) a a
-Helped-past is c r a e = subst (λ x. Helped (with_landing x c r []) a a) (sym e) (Helped-none a)
-
 -- one landing more
 pub Helped-more : (is : Bool) (c : ℕ) (r : Option ℕ) (vs : List Visit) (u v w : Aid) → Helped vs u v → Helped (with_landing is c r []) v w → Helped (with_landing is c r vs) u w
 Helped-more true c r vs u v w p q = record {

@@ -109,25 +109,6 @@ numbered-more notes after pc n is long so_far = subst AreNumbered (sym is) (λ k
 pub long-more : (notes after : List (ℕ × ℕ)) (pair : ℕ × ℕ) (n m : ℕ) → after ≡ notes ++ pair ∷ [] → length notes ≡ n → m ≡ n + 1 → length after ≡ m
 long-more notes after pair n m is long one = omega (arith, ap length is, length-append notes (pair ∷ []), long, one)
 
-pub counts_rise : (notes : List (ℕ × ℕ)) → AreNumbered notes → CountsRise notes
-counts_rise notes numbered k d below =
-    let here = numbered k d (omega arith) in let next = numbered (k + 1) d below in omega (arith, here, next)
-
--- what is chosen once the first counts are past
-pub comes-chosen : (limit profile least : ℕ) (address : Option ℕ) (notes : List (ℕ × ℕ)) (old now : World) (n : ℕ) → n ≤ profile → (n < limit → n ≡ profile) → address ≡ chosen_address notes least
-    → Reaches (λ run. notes ≡ profile_of run n) old.calls.low old.calls.high old.state old now n 0
-    → ComesUnmarked limit (is_mark (recognised.Chosen profile least)) address old now n
-comes-chosen limit profile least address notes old now n within whole chosen way =
-    Reaches-says _ _ old.calls.low old.calls.high old.state old now n 0 way (λ run _ _ _ noted. record {
-      none = λ count _ below. first_count profile least run count (omega arith);
-      later = λ count from below.
-          let all : n ≡ profile = whole (omega arith) in
-          let past : nat_le profile count ≡ true = grind (arith, nat_tests) in
-          let same : chosen_address (profile_of run profile) least ≡ address =
-          ap (λ m. chosen_address (profile_of run m) least) (sym all) ∙ ap (λ l. chosen_address l least) (sym noted) ∙ sym chosen in
-          ap (λ b. b && goes_on_at (chosen_address (profile_of run profile) least) (run count)) past ∙ ap (λ a. goes_on_at a (run count)) same;
-    })
-
 -- a turn that ends a program in its first counts
 pub ends-early : (limit profile least : ℕ) (Q : Course → Type 0) (old now new : World) (n d : ℕ) (ended : Ended) (a : Aid) → n < limit → n < profile
     → Reaches Q old.calls.low old.calls.high old.state old now n 0

@@ -62,17 +62,6 @@ pub record Works (plan now : SerialHelper) (i : ℕ) : Type 0 where
       → now.machine.content ≡ fold (add_guess plan.machine.guessing prev last) plan.machine.content (take i plan.jobs)
   pub none : i ≡ 0 → now ≡ plan
 
-pub works-none : (plan : SerialHelper) (i : ℕ) → i ≡ 0 → Works plan plan i
-works-none plan i z = record {
-  jobs = refl;
-  tally = refl;
-  made = refl;
-  refused = omega arith;
-  machine = refl;
-  content = λ prev last p q r s. ap (λ k. fold (add_guess plan.machine.guessing prev last) plan.machine.content (take k plan.jobs)) (sym z);
-  none = λ e. refl;
-}
-
 fold-more : (f : List Entry → Task → List Entry) (a : List Entry) (jobs : List Task) (i : ℕ) (d : Task) → i < length jobs → fold f a (take (i + 1) jobs) ≡ f (fold f a (take i jobs)) (get_or jobs i d)
 fold-more f a jobs i d l = ap (fold f a) (take_more jobs i d l) ∙ fold_push f a (take i jobs) (get_or jobs i d)
 
@@ -134,14 +123,6 @@ pub record Counts (old plan : SerialHelper) : Type 0 where
   pub tally : plan.tally ≡ old.tally
   pub made : plan.made ≡ old.made + length plan.jobs
   pub refused : old.refused ≤ plan.refused
-
-counts-of : (old plan plan' : SerialHelper) → plan ≡ plan' → Counts old plan' → Counts old plan
-counts-of old plan plan' e c = subst (Counts old) (sym e) c
-
-pub plan-counts : (number : ℕ) (now : State) (old plan : SerialHelper) → IsPlanned number now old plan → Counts old plan
-plan-counts number now old plan (inl (same, inl p)) = counts-of old plan (planned number now old) p (record { tally = refl; made = refl; refused = omega arith })
-plan-counts number now old plan (inl (same, inr p)) = counts-of old plan (refused_visit old) p (record { tally = refl; made = omega arith; refused = omega arith })
-plan-counts number now old plan (inr (other, p)) = counts-of old plan (passed_over old) p (record { tally = refl; made = omega arith; refused = omega arith })
 
 -- the machine after a visit's plan, with this content
 abbrev worked : (number : ℕ) → Option State → State → List Entry → Serial → Serial

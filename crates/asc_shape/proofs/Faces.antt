@@ -154,14 +154,6 @@ face_after_reads-span_4 f f1 f2 f3 f4 place e1 e2 e3 e4 =
     let fourth : place + 1 + 1 + 1 ≡ place + 3 = omega arith in
     cc
 
--- a read makes no place fresh
-pub untouched_count_after_read : (f after : Face) (place : ℕ) → after ≡ face_after_read f place → (places : List ℕ) → untouched_count after.marks places ≤ untouched_count f.marks places
-untouched_count_after_read f after place e places = rw e (untouched_count-read-le f place places)
-
--- a put makes no place fresh
-pub untouched_count_after_put : (f after : Face) (place byte : ℕ) → after ≡ face_after_put f place byte → (places : List ℕ) → untouched_count after.marks places ≤ untouched_count f.marks places
-untouched_count_after_put f after place byte e places = rw e (untouched_count-put-le f place byte places)
-
 -- a touch takes the room of its place where that was untouched
 room-marks_after : (after_change : Status → Status) (marks : Marks) (place byte : ℕ)
     → room_of marks ≤ room_of (marks_after after_change marks place byte) + untouched_count marks (place ∷ [])

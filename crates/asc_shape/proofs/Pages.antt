@@ -23,20 +23,6 @@ unmarked marks page k free = elim (cases_lt page (length marks)) [
       (still, λ same. false≢true (sym still ∙ ap (λ j. slice_index_or marks j true) same ∙ get_or_past marks page true past))
 ]
 
--- the marks of the pages of four places
-pub marked_4 : (marks : List Bool) (at : ℕ) → IsMarked at 4 marks (slice_set (slice_set marks (at / 1024) true) ((at + 3) / 1024) true)
-marked_4 marks at =
-    let first = slice_set marks (at / 1024) true in
-    record {
-      length = length-set first ((at + 3) / 1024) true ∙ length-set marks (at / 1024) true;
-      others = λ i free. (unmarked marks (at / 1024) (i / 1024) (unmarked first ((at + 3) / 1024) (i / 1024) free).0).0;
-      within = λ i far free from.
-          let second = unmarked first ((at + 3) / 1024) (i / 1024) free in
-          let one : i / 1024 ≢ at / 1024 = (unmarked marks (at / 1024) (i / 1024) second.0).1 in
-          let two : i / 1024 ≢ (at + 3) / 1024 = second.1 in
-          omega arith;
-    }
-
 -- what is beside n places that were written, and whose pages were marked, is kept
 pub kept_after : (marks after : List Bool) (base bytes new : List ℕ) (from n : ℕ) → Keeps marks base bytes → IsMarked from n marks after → length new ≡ length bytes
     → ((i : ℕ) → (i < from) ⊎ (from + n ≤ i) → slice_index new i ≡ slice_index bytes i) → Keeps after base new
@@ -60,14 +46,6 @@ splice_beside bytes new at i within outside =
           ∙ get_or-drop (at + length new) bytes (i - (at + length new)) 0
           ∙ ap (λ j. slice_index bytes j) (omega arith)
     ]
-
--- a word of the front needs no mark
-pub marked_front : (marks : List Bool) (at : ℕ) → at + 3 < 136 → IsMarked at 4 marks marks
-marked_front marks at within = record {
-  length = refl;
-  others = λ i free. free;
-  within = λ i far free from. omega arith;
-}
 
 -- the fields of a state after a write of n bytes whose pages were marked
 pub inside_after : (shape : Shape) (base : Option (List ℕ)) (bytes new : Vec ℕ) (changed marks : List Bool) (from n : ℕ)

@@ -60,12 +60,6 @@ after_read_touched Read e = refl
 after_read_touched Written e = refl
 after_read_touched ReadWritten e = refl
 
-after_write_written : (s : Status) → is_unwritten s ≡ false → status_after_write s ≡ s
-after_write_written Untouched e = absurd (false≢true (sym e))
-after_write_written Read e = absurd (false≢true (sym e))
-after_write_written Written e = refl
-after_write_written ReadWritten e = refl
-
 written_is_touched : (s : Status) → is_unwritten s ≡ false → is_untouched s ≡ false
 written_is_touched Untouched e = absurd (false≢true (sym e))
 written_is_touched Read e = absurd (false≢true (sym e))
@@ -86,12 +80,6 @@ marks_read (Told cap statuses touched) place byte none =
     let known = place_touched cap statuses touched place none in
     marks_stay status_after_read cap statuses touched place byte known (after_read_touched (status_at statuses place) known)
 
-marks_put : (marks : Marks) (place byte : ℕ) → unwritten_count marks (place ∷ []) ≡ 0 → marks_after status_after_write marks place byte ≡ marks
-marks_put Untold place byte none = refl
-marks_put (Told cap statuses touched) place byte none =
-    let known = place_written cap statuses touched place none in
-    marks_stay status_after_write cap statuses touched place byte (written_is_touched (status_at statuses place) known) (after_write_written (status_at statuses place) known)
-
 -- a read of a touched place changes nothing
 pub read_touched : (f : Face) (place : ℕ) → untouched_count f.marks (place ∷ []) ≡ 0 → face_after_read f place ≡ f
 unfolding face_after_read
@@ -105,19 +93,6 @@ reads_touched f [] none = refl
 reads_touched f (place ∷ places) none =
     let parts = untouched_count-cons f.marks place places in
     ap (λ (g : Face). face_after_reads g places) (read_touched f place (omega arith)) ∙ reads_touched f places (omega arith)
-
--- puts at written places change no mark
-pub marks-put_written : (f : Face) (place byte : ℕ) → unwritten_count f.marks (place ∷ []) ≡ 0 → (face_after_put f place byte).marks ≡ f.marks
-unfolding face_after_put
-marks-put_written f place byte none = marks_put f.marks place (slice_index f.state.bytes place) none
-
-pub marks-puts_written : (f : Face) (list : List (ℕ × ℕ)) → unwritten_count f.marks (map (λ cell. cell.0) list) ≡ 0 → (face_after_puts f list).marks ≡ f.marks
-unfolding face_after_puts
-marks-puts_written f [] none = refl
-marks-puts_written f (cell ∷ list) none =
-    let parts = unwritten_count-cons f.marks cell.0 (map (λ c. c.0) list) in
-    let once = marks-put_written f cell.0 cell.1 (omega arith) in
-    marks-puts_written (face_after_put f cell.0 cell.1) list (ap (λ (m : Marks). unwritten_count m (map (λ c. c.0) list)) once ∙ omega arith) ∙ once
 
 -- ---- what is touched or written stays so
 
@@ -240,11 +215,6 @@ pub statuses-reads : (places : ℕ) (f : Face) (list : List ℕ) → HaveStatuse
 unfolding face_after_reads
 statuses-reads places f [] have = have
 statuses-reads places f (place ∷ list) have = statuses-reads places (face_after_read f place) list (statuses-read places f place have)
-
-pub statuses-puts : (places : ℕ) (f : Face) (list : List (ℕ × ℕ)) → HaveStatuses places f.marks → HaveStatuses places (face_after_puts f list).marks
-unfolding face_after_puts
-statuses-puts places f [] have = have
-statuses-puts places f (cell ∷ list) have = statuses-puts places (face_after_put f cell.0 cell.1) list (statuses-put places f cell.0 cell.1 have)
 
 touched_after_read : (s : Status) → is_untouched (status_after_read s) ≡ false
 touched_after_read Untouched = refl

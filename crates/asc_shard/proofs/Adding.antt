@@ -78,8 +78,3 @@ apart-pushed xs x apart new =
 pub apart-without : (xs : List (Arc Entry Global)) → AreApart (map arc_value xs) → AreApart (map arc_value (remove xs 0))
 apart-without [] apart = apart
 apart-without (x ∷ xs) apart = apart.1
-
-pub new-without : (xs : List (Arc Entry Global)) (e : Entry) → list_any (is_same_entry e) (map arc_value xs) ≡ false
-    → list_any (is_same_entry e) (map arc_value (remove xs 0)) ≡ false
-new-without [] e new = new
-new-without (x ∷ xs) e new = (or_parts (is_same_entry e (arc_value x)) (list_any (is_same_entry e) (map arc_value xs)) new).1

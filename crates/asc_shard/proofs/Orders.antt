@@ -28,9 +28,6 @@ nat-less a b e = subst (λ o. MatchOrdering o (a < b) (a ≡ b) (b < a)) e (rank
 pub nat-equal : (a b : ℕ) → nat_cmp a b ≡ Equal → a ≡ b
 nat-equal a b e = subst (λ o. MatchOrdering o (a < b) (a ≡ b) (b < a)) e (ranked a b (nat_cmp a b) refl)
 
-pub nat-greater : (a b : ℕ) → nat_cmp a b ≡ Greater → b < a
-nat-greater a b e = subst (λ o. MatchOrdering o (a < b) (a ≡ b) (b < a)) e (ranked a b (nat_cmp a b) refl)
-
 pub nat-same : (a b : ℕ) → a ≡ b → nat_cmp a b ≡ Equal
 nat-same a b e = ap (nat_cmp a) (sym e) ∙ tied_itself nat_cmp_total a
 
@@ -188,31 +185,12 @@ is-equal Less e = cc
 is-equal Equal e = refl
 is-equal Greater e = cc
 
-pub then-greater : (o r : Ordering) → ordering_then o r ≡ Greater → (o ≡ Greater) ⊎ ((o ≡ Equal) × (r ≡ Greater))
-then-greater Less r e = cc
-then-greater Equal r e = inr (refl, e)
-then-greater Greater r e = inl refl
-
-pub not-le : (o : Ordering) → is_le o ≡ false → o ≡ Greater
-not-le Less e = cc
-not-le Equal e = cc
-not-le Greater e = refl
-
 -- ---- lists of words
 
 -- what both begin with
 pub cmp-front : (xs ys zs : List ℕ) → slice_cmp nat_cmp (xs ++ ys) (xs ++ zs) ≡ slice_cmp nat_cmp ys zs
 cmp-front [] ys zs = refl
 cmp-front (x ∷ xs) ys zs = then-rest (nat_cmp x x) (slice_cmp nat_cmp (xs ++ ys) (xs ++ zs)) (nat-same x x refl) ∙ cmp-front xs ys zs
-
-then-apart : (o r : Ordering) → (o ≡ Equal → ⊥) → ordering_then o r ≡ o
-then-apart Less r apart = refl
-then-apart Equal r apart = absurd (apart refl)
-then-apart Greater r apart = refl
-
--- where they differ first
-pub cmp-differ : (x y : ℕ) (xs ys : List ℕ) → (x ≡ y → ⊥) → slice_cmp nat_cmp (x ∷ xs) (y ∷ ys) ≡ nat_cmp x y
-cmp-differ x y xs ys apart = then-apart (nat_cmp x y) (slice_cmp nat_cmp xs ys) (λ equal. apart (nat-equal x y equal))
 
 pub cmp-same : (x y : ℕ) (xs ys : List ℕ) → x ≡ y → slice_cmp nat_cmp (x ∷ xs) (y ∷ ys) ≡ slice_cmp nat_cmp xs ys
 cmp-same x y xs ys same = then-rest (nat_cmp x y) (slice_cmp nat_cmp xs ys) (nat-same x y same)

@@ -70,9 +70,6 @@ masks-up heads h k rise lt below =
     let up = rise h k 0 lt (omega (arith, long)) in
     omega (arith, up, get_or-map (λ (head : Head). head.mask) heads h no_head 0 (omega arith), get_or-map (λ (head : Head). head.mask) heads k no_head 0 below)
 
-pairs-tail : (x : ℕ) (xs : List ℕ) → AllPairs (λ a b. a < b) (x ∷ xs) → AllPairs (λ a b. a < b) xs
-pairs-tail x xs rise i j d lt below = rise (suc i) (suc j) d (omega arith) (omega arith)
-
 pub runs-at : (heads : List Head) (h i : ℕ) → h < length heads → begin heads h ≤ i → i < begin heads h + count_at heads h → get_or (runs heads) i 0 ≡ mask_at heads h
 runs-at [] h i lt least most = absurd (omega arith)
 runs-at (x ∷ xs) zero i lt least most = inner x.count x.mask (runs xs) i (omega (arith, most))

@@ -26,13 +26,6 @@ sorted-length held slots = length-map slots (nth held)
 pub position-in : (held : List Entry) (slots : List ℕ) (i : ℕ) (d : ℕ) → IsIndex held slots → i < length slots → get_or slots i d < length held
 position-in held slots i d index lt = All-get_or (λ p. p < length held) slots i d lt index.within
 
--- what code reads there
-pub entry-read : (xs : List (Arc Entry Global)) (slots : List ℕ) (i p : ℕ) (a : Arc Entry Global) (e : Entry) → IsIndex (map arc_value xs) slots → i < length slots
-    → p ≡ get_or slots i 0 → a ≡ get_or xs p a → e ≡ arc_value a → e ≡ nth (sorted_of (map arc_value xs) slots) i
-entry-read xs slots i p a e index lt position at is =
-    let within : p < length xs = subst (λ n. n < length xs) (sym position) (subst (λ n. get_or slots i 0 < n) (length-map xs arc_value) (position-in (map arc_value xs) slots i 0 index lt)) in
-    is ∙ ap arc_value at ∙ sym (at-map xs p a no_entry within) ∙ ap (nth (map arc_value xs)) position ∙ sym (sorted-at (map arc_value xs) slots i 0 lt)
-
 -- ---- entries rise
 
 pub index-up : (held : List Entry) (slots : List ℕ) → IsIndex held slots → (i j : ℕ) → 0 ≤ i → i ≤ j → j < length slots

@@ -29,10 +29,6 @@ plain-more count start before after answer so_far went answered left =
 same_state : (s t : State) → At s ≡ At t → s ≡ t
 same_state s t e = cc
 
--- no step, and one, pass nothing
-pub PassesBy-one : (start : State) (pc : ℕ) → PassesBy start pc 1
-PassesBy-one start pc k least below after goes at = omega arith
-
 -- one step more, from a state that does not have the pc
 pub PassesBy-more : (start after : State) (pc count : ℕ) → PassesBy start pc count → plain count start ≡ At after → (view_of after).pc ≢ pc
     → PassesBy start pc (count + 1)

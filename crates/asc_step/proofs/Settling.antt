@@ -205,10 +205,6 @@ start_aligned Two = omega arith
 
 -- ---- settled forms, passed on
 
-pub register_places-at : (k : ℕ) → (k ≡ 0 → ⊥) → register_places k ≡ places_from (4 * k) 4
-register_places-at zero h = absurd (h refl)
-register_places-at (suc k) h = refl
-
 pub puts_settled-reads : (settled : Bool) (f g : Face) (rd : ℕ) (places : List ℕ) → g ≡ face_after_reads f places → PutsSettled settled f.marks rd → PutsSettled settled g.marks rd
 puts_settled-reads settled f g rd places is h told =
     let before = h told in

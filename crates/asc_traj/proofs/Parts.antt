@@ -40,35 +40,10 @@ unfolding masked
 masked-none zero place word = refl
 masked-none (suc n) place word = masked-none n (place + 1) (word / 2 ^ 8)
 
-kept-none : (n word : ℕ) → kept n 0 word ≡ 0
-unfolding kept
-kept-none zero word = refl
-kept-none (suc n) word = ap (λ (k : ℕ). 0 + 2 ^ 8 * k) (kept-none n (word / 2 ^ 8))
-
 -- ---- what is kept
 
 half_below : (mask p : ℕ) → mask < p * 2 → mask / 2 < p
 half_below mask p lt = omega arith
-
--- what is kept by a low mask is small
-pub kept-below : (n k mask word : ℕ) → mask < 2 ^ k → kept n mask word < 256 ^ k
-kept-below zero k mask word low = subst (λ (m : ℕ). m < 256 ^ k) (sym (kept-zero mask word)) (some k)
-  where
-    some : (k : ℕ) → 0 < 256 ^ k
-    some zero = let one : 0 < 1 = omega arith in one
-    some (suc k) = subst (λ (m : ℕ). 0 < m) (sym (pow-suc 256 k)) (let more = some k in omega arith)
-kept-below (suc n) zero zero word low = subst (λ (m : ℕ). m < 1) (sym (kept-none (suc n) word)) (let one : 0 < 1 = omega arith in one)
-kept-below (suc n) zero (suc mask) word low = absurd (let few : suc mask < 1 = low in omega arith)
-kept-below (suc n) (suc k) mask word low =
-    let half = half_below mask (2 ^ k) (subst (λ (m : ℕ). mask < m) (pow-suc 2 k) low) in
-    let ih = kept-below n k (mask / 2) (word / 256) half in
-    subst (λ (m : ℕ). m < 256 ^ suc k) (sym (kept-suc n mask word))
-    (subst (λ (m : ℕ). (if mask % 2 == 1 then word % 256 else 0) + 256 * kept n (mask / 2) (word / 256) < m) (sym (pow-suc 256 k))
-    (by (mask % 2 == 1) (kept n (mask / 2) (word / 256)) (256 ^ k) ih))
-  where
-    by : (b : Bool) (m p : ℕ) → m < p → (if b then word % 256 else 0) + 256 * m < p * 256
-    by true m p lt = omega arith
-    by false m p lt = omega arith
 
 -- what is kept is kept again
 first_byte : (b : Bool) (x m : ℕ) → ((if b then x % 2 ^ 8 else 0) + 2 ^ 8 * m) % 2 ^ 8 ≡ (if b then x % 2 ^ 8 else 0)
@@ -399,10 +374,6 @@ table-is (suc (suc (suc (suc (suc (suc (suc (suc (suc (suc (suc (suc (suc (suc (
 
 pub table-and : (mask word : ℕ) → mask < 16 → bit_and word (get_or table mask 0) ≡ kept 4 mask word
 table-and mask word lt = ap (bit_and word) (table-is mask lt) ∙ and-spread 4 mask word
-
--- a part's bytes are those of a word
-pub part-small : (p : Part) → IsPart p → p.word < 2 ^ 32
-part-small p is = subst (λ (w : ℕ). w < 2 ^ 32) is.kept (kept-below 4 4 (p.at % 16) p.word (let lt : p.at % 16 < 16 = omega arith in lt))
 
 -- ---- bytes put one after another
 

@@ -77,13 +77,6 @@ HasSplit-more t a b old mid new first second =
           ∙ append_assoc (all_cells old.writes.items) (written t (places a)) (written t (places b)) ∙ ap (λ (list : List (ℕ × ℕ)). all_cells old.writes.items ++ list) (sym (written-append t a b));
     }
 
--- and with none
-pub HasSplit-none : (t : Tracing) (halves : Halves) → HasSplit t [] halves halves
-HasSplit-none t halves = record {
-  reads = sym (append-nil (all_cells halves.reads.items));
-  writes = sym (append-nil (all_cells halves.writes.items));
-}
-
 -- the places of words behind others
 pub places-append : (a b : List ℕ) → places_of_words (a ++ b) ≡ places_of_words a ++ places_of_words b
 places-append a b = flat_map-append (λ (word : ℕ). places_from (4 * word) 4) a b

@@ -68,10 +68,6 @@ begins bounds t none own same_cap good fits =
     untouched_by true e = refl
     untouched_by false e = absurd (cc)
 
--- the state of a tracer on its way has the shape and the number of bytes of its start
-pub shape-on_way : (bounds : Bounds) (start : State) (n laps : ℕ) (t : Tracing) → IsOnWay bounds start n laps t → t.state.shape ≡ start.shape
-shape-on_way bounds start n laps t on = (plain_steps_keep_states n start t.state on.good on.goes).1
-
 -- ---- the bounds
 
 room_left : (cap n : ℕ) → n ≤ cap → nat_lt (cap - n) 32 ≡ nat_lt cap (n + 32)
@@ -200,13 +196,6 @@ laps-last pc n start after e =
     count-last (λ k. leads_to pc (plain k start)) 1 n
     ∙ ap (λ k. laps_in pc n start + cond (leads_to pc (plain k start)) 1 0) (omega arith)
     ∙ ap (λ x. laps_in pc n start + cond (leads_to pc x) 1 0) e
-
--- a step that leads to the pc is one lap more, and one that leads elsewhere is none
-pub lap-yes : (a b laps : ℕ) → a ≡ b → laps + 1 ≡ laps + cond (a == b) 1 0
-lap-yes a b laps e = ap (λ x. laps + cond x 1 0) (sym (eq-eqb a b e))
-
-pub lap-no : (a b laps : ℕ) → (a ≡ b → ⊥) → laps ≡ laps + cond (a == b) 1 0
-lap-no a b laps e = sym (add-zero laps) ∙ ap (λ x. laps + cond x 1 0) (sym (ne_eqb a b e))
 
 -- where a step is not ended it leads to a state
 goes_by : (x : Next) → why_no_step x ≡ None → (after : State) × (x ≡ At after)

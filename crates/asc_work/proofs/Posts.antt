@@ -243,10 +243,6 @@ team_made queue posts some few manned = record {
   manned = λ other e. subst (λ (q : TableId). All (IsManned q) posts) (one_queue (queue_of posts) queue other (queue_known queue posts some manned) e) manned;
 }
 
-pub team_most : {W H : Type 0} (posts : List (Post W H)) → IsTeam posts → All (λ (p : Post W H). p.worker.tally.ran ≤ 2 ^ 57) posts
-team_most [] team = absurd (let s = team.some in omega arith)
-team_most (p ∷ posts) team = λ k d l. (team.manned p.taker.queue refl k d l).most
-
 -- a team that has served is one still, and of the same queue
 pub team_served : {W H : Type 0} (count : H → ℕ) (old new : List (Post W H)) → IsTeam old → length new ≡ length old
     → ((i : ℕ) (d : Post W H) → i < length old → HasServed count (get_or old i d) (get_or new i d)) → IsTeam new × (queue_of new ≡ queue_of old)

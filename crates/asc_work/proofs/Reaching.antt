@@ -118,14 +118,5 @@ pub not_stopped : (stopped : Bool) → CountsAnswer 0 0 stopped → stopped ≡ 
 not_stopped true h = absurd (let e : 0 ≡ one_more 0 = h.rose refl in omega arith)
 not_stopped false h = refl
 
--- why no entry was made, with what the halt counted
-pub misses_by : (ran : Column) (stopped : Bool) (steps before now : ℕ) → CountsAnswer before now stopped → Missed ran stopped steps → Misses ran steps before now
-misses_by Stored stopped steps before now h m = m
-misses_by Known stopped steps before now h m = m
-misses_by Empty true steps before now h m = (m, inr (h.rose refl))
-misses_by Empty false steps before now h m = (m, inl (h.stays refl))
-misses_by Dropped stopped steps before now h m = absurd m
-misses_by Stopped stopped steps before now h m = (m.0, h.rose m.1)
-
 pub start_of_none : (t : Tracing) → StandsFor 0 t → t.state ≡ origin_of t
 start_of_none t h = start_is (origin_of t) t.state h.goes
