@@ -1,20 +1,11 @@
--- The words that the system gave, and what the system tells.
-use Rattle.std.proofs.Common.{◌≡◌, refl, inl, ℕ, List, map, None, Result, Ok, Err, IsOkAnd, ◌∙◌, subst}
-use Rattle.std.specs.String.{string_bytes}
-use Rattle.std.specs.Vec.Iter.{into_iter_items}
-use Rattle.std.specs.declared.io.Error.{Error}
-use Rattle.std.specs.declared.string.String.{String}
-use Rattle.std.specs.declared.vec.IntoIter.{IntoIter}
+-- What the system tells.
+use Rattle.std.proofs.Common.{◌≡◌, refl, ℕ, List, None, subst}
 use Rattle.asc_calls.specs.World.{outside, faults}
 use Rattle.asc_top.specs.Answered.{Devices, devices}
 use Rattle.asc_top.specs.Reported.{Report, report_with}
 use Rattle.asc_words.specs.declared.answer.Outcome.{Outcome}
-use Rattle.asc_cli.specs.Status.{IsStatus, IsStatusFor, IsStatusOf, IsStatusOver, of_system, report_of_system, untold}
-
-pub of-given : {A : Type 0} (given : Result (IntoIter (String A) A) Error) (items taken : List (String A)) (status : ℕ) → taken ≡ items
-    → IsOkAnd given (λ words. items ≡ into_iter_items words) → IsStatusOver (map string_bytes taken) status → IsStatusFor given status
-of-given (Ok words) items taken status all same over = inl (subst (λ items. IsStatusOver (map string_bytes items) status) (all ∙ same) over)
-of-given (Err error) items taken status all same over = absurd same
+use Rattle.asc_streams.specs.Told.{untold}
+use Rattle.asc_cli.specs.Status.{IsStatus, IsStatusOf, IsStatusOver, of_system, report_of_system}
 
 of-zeros : (store steps input out err : ℕ) → store ≡ 0 → steps ≡ 0 → input ≡ 0 → out ≡ 0 → err ≡ 0
     → devices None None store (outside None untold untold steps (faults input out err)) ≡ of_system

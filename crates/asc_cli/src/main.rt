@@ -1,22 +1,22 @@
 //! The program: the words of its command line are run over the files and the standard streams of the system.
 #![tactic(auto)]
 
-ghost use Rattle.std.specs.Prelude.{◌≡◌, ◌≢◌, ◌⊎◌, ◌<◌, map, IfOk, IfErr, IsOkAnd};
+ghost use Rattle.std.specs.Prelude.{◌≡◌, ◌<◌, map};
 ghost use Rattle.std.specs.Process.{exit_status};
 ghost use Rattle.std.specs.String.{string_bytes};
-ghost use Rattle.std.specs.Vec.Iter.{into_iter_items};
 ghost use Rattle.asc_calls.specs.World.{outside, faults};
 ghost use Rattle.asc_top.specs.Answer.{outcome_of};
+ghost use Rattle.asc_words.specs.Answer.{refusal_of};
 ghost use Rattle.asc_top.specs.Answered.{devices};
 ghost use Rattle.asc_top.specs.Reported.{report_with};
-ghost use Rattle.asc_cli.specs.Status.{IsRefusal, IsStatus, IsStatusFor, IsStatusOf, IsStatusOver};
+ghost use Rattle.asc_cli.specs.Status.{IsStatus, IsStatusFor, IsStatusOf, IsStatusOver};
 
 use asc_shape::{Gate, Open, Sink, Source, Steps, Store};
 use asc_streams::{FileStore, StreamSink, StreamSource};
-use asc_top::{Answer, Bad, Outcome, reported, top};
+use asc_top::{Answer, Outcome, reported, top};
+use asc_words::{LineFault, given_words};
 use std::alloc::Global;
 use std::env::Args;
-use std::io::ErrorKind;
 use std::marker::Brand;
 use std::process::ExitCode;
 use std::sync::Wait;
@@ -37,35 +37,18 @@ fn program<T: Threads + Wait + Sync + Copy + Drop + Send>(
 ) -> ExitCode
     ensures { IsStatusFor given (exit_status result) }
 {
-    match words(rt.alloc(), given) {
+    match given_words(rt.alloc(), given) {
         Ok(words) => run::<_, Brand>(rt, threads, &words, Blank::new(1)),
-        Err(refusal) => refuse(refusal, &mut StreamSink::new(rt.stderr())),
+        Err(fault) => refuse(fault, &mut StreamSink::new(rt.stderr())),
     }
 }
 
-/// The words of the command line, as the system gave them. Where they are not all text, they are no command's.
-fn words(alloc: Global, given: io::Result<Args>) -> Result<Vec<String>, Answer>
-    ensures given { IfOk result (λ words. IsOkAnd given (λ args. words.items ≡ into_iter_items args)) }
-    ensures refused { IfErr result (λ refusal. IsRefusal given refusal) }
-    ensures either { IfErr result (λ refusal. (refusal ≡ Answer.Memory) ⊎ (refusal ≡ Answer.Usage Bad.Words)) }
-{
-    match given {
-        Ok(words) => match words.collect(alloc) {
-            Ok(words) => Ok(words),
-            Err(_) => Err(Answer::Memory),
-        },
-        Err(error) if error.kind() == ErrorKind::OutOfMemory => Err(Answer::Memory),
-        Err(_) => Err(Answer::Usage(Bad::Words)),
-    }
-}
-
-/// Reports an answer to words that were not read, and gives the exit status.
-fn refuse<R: Sink>(refusal: Answer, report: &mut R) -> ExitCode
-    requires { refusal ≢ Answer.ReportFault }
+/// Reports why words were not read, and gives the exit status.
+fn refuse<R: Sink>(fault: LineFault, report: &mut R) -> ExitCode
     ensures { IsStatusOf (report_with (R.given report.old) (R.faults report.old))
-        (report_with (R.given report.new) (R.faults report.new)) (outcome_of refusal) (exit_status result) }
+        (report_with (R.given report.new) (R.faults report.new)) (outcome_of (refusal_of fault)) (exit_status result) }
 {
-    ExitCode::from(reported(Outcome::of(refusal), report).code())
+    ExitCode::from(reported(Outcome::of(Answer::from(fault)), report).code())
 }
 
 /// Runs the words over the system's files and streams, of which nothing is told, and gives the exit status. The ledger is

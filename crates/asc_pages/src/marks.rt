@@ -118,9 +118,9 @@ impl Marks {
     {
         let g = p / GROUP;
         self.pages[p] = true;
-        let many = self.groups[g];
-        self.groups[g] = many.max(p % GROUP + 1);
-        list_group(&mut self.listed, &mut self.more, g, many == 0);
+        let pages = self.groups[g];
+        self.groups[g] = pages.max(p % GROUP + 1);
+        list_group(&mut self.listed, &mut self.more, g, pages == 0);
     }
 
     /// Marks all pages.

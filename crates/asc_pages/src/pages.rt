@@ -230,8 +230,8 @@ fn group_pages(group: &Group) -> &[Page]
     }
 }
 
-// Where group g stands in a list of so many from which `gap` groups behind the first `low` are left out, or the list's end
-// where it is one of these.
+// Where group g stands in a list of so many, from which `gap` groups behind the first `low` are left out. Of these it gives
+// the list's end.
 #[inline]
 fn position(low: usize, gap: usize, len: usize, g: usize) -> usize
     requires { low ≤ len }
@@ -376,8 +376,8 @@ fn put_group(
     }
 }
 
-// Writes group g of bytes, of which those of `kept` are kept, over another one where that is nobody else's, and else puts
-// it in its place.
+// Writes group g of bytes over another one where that is nobody else's, and else puts it in its place. The pages of `kept`
+// are kept.
 #[inline]
 fn write_group(
     alloc: Global,
@@ -465,8 +465,8 @@ fn put_page(
     }
 }
 
-// Puts a page of the first bytes of a list, and of zeros behind those that there are, in the place of another one, or over
-// it where that is nobody else's.
+// Puts a page of the first bytes of a list, with zeros behind those that there are, in the place of another one. Where that
+// one is nobody else's, it is written over.
 //
 // It stands out of the loop over a group's pages, which then keeps what it has in registers.
 #[inline(never)]

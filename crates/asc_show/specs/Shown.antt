@@ -8,6 +8,9 @@ use Rattle.asc_elf.specs.declared.fault.ElfFault.{ElfFault}
 use Rattle.asc_calls.specs.World.{World, world, faults}
 use Rattle.asc_run.specs.declared.walk.Ended.{Ended}
 use Rattle.asc_run.specs.declared.walk.Ended.TheVariants as ends
+use Rattle.asc_words.specs.Answer.{file_limit}
+use Rattle.asc_words.specs.declared.line.LineFault.{LineFault}
+use Rattle.asc_words.specs.declared.line.LineFault.TheVariants as LineFaults
 use Rattle.asc_show.specs.declared.answer.Answer.{Answer}
 use Rattle.asc_show.specs.declared.answer.Answer.TheVariants as answers
 use Rattle.asc_show.specs.declared.lap.Lap.{Lap}
@@ -38,6 +41,11 @@ code_of answers.NoStep = 69
 code_of answers.Memory = 71
 code_of answers.OutFault = 74
 code_of (answers.Ended ended visits) = code_of_end ended
+
+-- the answer to words that are no line
+abbrev pub refusal_of : LineFault → Answer
+refusal_of (LineFaults.Usage bad) = answers.Usage
+refusal_of LineFaults.Memory = answers.Memory
 
 -- how a program ended before the visit
 abbrev pub end_text : Ended → List ℕ
@@ -154,7 +162,7 @@ Answers words files old new answers.Usage =
 Answers words files old new answers.Memory = new.out ≡ old.out
 Answers words files old new answers.StoreFault = ((request : Request) × Asks words request) × (new ≡ old)
 Answers words files old new answers.TooLong =
-    ((request : Request) × Asks words request × MayHoldLonger files request.line.image 67108864) × (new ≡ old)
+    ((request : Request) × Asks words request × MayHoldLonger files request.line.image file_limit) × (new ≡ old)
 Answers words files old new answer =
     (request : Request) × Asks words request × HasFile request files (λ content. Says request content old new answer)
 

@@ -6,6 +6,7 @@ ghost use Rattle.asc_show.specs.Shown.{answer_text, code_of, code_of_end, end_te
 use arrayvec::ArrayVec;
 use asc_elf::ElfFault;
 use asc_run::Ended;
+use asc_words::LineFault;
 use itoa::Buffer;
 
 /// How the program ends.
@@ -21,7 +22,7 @@ pub enum Answer {
     Usage,
     /// The file is no image that can be run.
     Image(ElfFault),
-    /// The file has more than 67,108,864 bytes.
+    /// The file has more than `asc_words::FILE_LIMIT` bytes.
     TooLong,
     /// The file was not read.
     StoreFault,
@@ -81,6 +82,20 @@ impl Answer {
             Answer::Ended(ended, visits) => put_end(&mut line, *ended, *visits),
         }
         line
+    }
+}
+
+impl From<LineFault> for Answer {
+    ghost use Rattle.std.specs.Prelude.{◌≡◌};
+    ghost use Rattle.asc_show.specs.Shown.{refusal_of};
+
+    ghost from_gives = { λ fault answer. answer ≡ refusal_of fault };
+
+    fn from(fault: LineFault) -> Answer {
+        match fault {
+            LineFault::Usage(_) => Answer::Usage,
+            LineFault::Memory => Answer::Memory,
+        }
     }
 }
 

@@ -7,11 +7,10 @@
 //! `--laps` and `--span`. Those on guesses and reports have to be right, and mean nothing here; `--pc` is refused.
 #![tactic(auto)]
 
-ghost use Rattle.std.specs.Prelude.{◌≡◌, ◌<◌, IfOk, IfErr, IsOkAnd, map};
+ghost use Rattle.std.specs.Prelude.{◌≡◌, ◌<◌, map};
 ghost use Rattle.std.specs.Process.{exit_status};
 ghost use Rattle.std.specs.String.{string_bytes};
-ghost use Rattle.std.specs.Vec.Iter.{into_iter_items};
-ghost use Rattle.asc_show.specs.Status.{IsRefusal, IsStatusFor, IsStatusOf, IsStatusOver};
+ghost use Rattle.asc_show.specs.Status.{IsStatusFor, IsStatusOf, IsStatusOver};
 
 mod answer;
 mod lap;
@@ -26,9 +25,8 @@ use crate::answer::Answer;
 use crate::show::show;
 use asc_shape::{Sink, Steps, put_all};
 use asc_streams::{FileStore, StreamSink, StreamSource};
-use std::alloc::Global;
+use asc_words::given_words;
 use std::env::Args;
-use std::io::ErrorKind;
 use std::marker::Brand;
 use std::process::ExitCode;
 use std::sync::ledger::{Blank, Ledger};
@@ -42,24 +40,9 @@ fn main(rt: HostRuntime) -> ExitCode {
 fn program(rt: &HostRuntime, given: io::Result<Args>) -> ExitCode
     ensures { IsStatusFor given (exit_status result) }
 {
-    match words(rt.alloc(), given) {
+    match given_words(rt.alloc(), given) {
         Ok(words) => run::<Brand>(rt, &words, Blank::new(1)),
-        Err(refusal) => tell(refusal, &mut StreamSink::new(rt.stderr())),
-    }
-}
-
-/// The words of the command line, as the system gave them. Where they are not all text, they are wrong.
-fn words(alloc: Global, given: io::Result<Args>) -> Result<Vec<String>, Answer>
-    ensures given { IfOk result (λ words. IsOkAnd given (λ args. words.items ≡ into_iter_items args)) }
-    ensures refused { IfErr result (λ refusal. IsRefusal given refusal) }
-{
-    match given {
-        Ok(words) => match words.collect(alloc) {
-            Ok(words) => Ok(words),
-            Err(_) => Err(Answer::Memory),
-        },
-        Err(error) if error.kind() == ErrorKind::OutOfMemory => Err(Answer::Memory),
-        Err(_) => Err(Answer::Usage),
+        Err(fault) => tell(Answer::from(fault), &mut StreamSink::new(rt.stderr())),
     }
 }
 

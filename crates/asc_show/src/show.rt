@@ -13,12 +13,9 @@ use crate::visit::Visitor;
 use asc_elf::read;
 use asc_run::Process;
 use asc_shape::{CountSink, Failed, Loaded, Sink, Source, Steps, Store, StoreFault, put_all};
-use asc_words::LineFault;
+use asc_words::FILE_LIMIT;
 use std::alloc::Global;
 use std::sync::ledger::Ledger;
-
-/// The greatest file that is read, in bytes: 64 MiB.
-const FILE_LIMIT: usize = 67_108_864;
 
 /// Runs an image plainly to a visit of an address, traces the lap that begins there, and puts the text of its entry to
 /// out.
@@ -44,8 +41,7 @@ pub fn show<F: Store, I: Source, O: Sink, L: Ledger>(
 {
     let request = match request_of(alloc, words) {
         Ok(request) => request,
-        Err(LineFault::Usage(_)) => return Answer::Usage,
-        Err(LineFault::Memory) => return Answer::Memory,
+        Err(fault) => return Answer::from(fault),
     };
     let mut file = Vec::new(alloc);
     match store.read(request.line.image.as_str(), &mut file, FILE_LIMIT) {

@@ -14,6 +14,10 @@ given_of held unflushed = record {
   number = option_map (λ bytes. min (length bytes - unflushed) (2 ^ 64 - 1)) held;
 }
 
+-- what a sink over a stream of the system was given: nothing is told of it
+abbrev pub untold : Given
+untold = record { bytes = None; number = None }
+
 -- these bytes are all that remains of a reader, where it tells that
 abbrev pub Remains : (told : Option (List ℕ)) (bytes : List ℕ) → Type 0
 Remains (Some left) bytes = bytes ≡ left

@@ -9,7 +9,8 @@ use Rattle.asc_words.specs.declared.answer.Answer.{Answer}
 use Rattle.asc_words.specs.declared.answer.Answer.TheVariants as answers
 use Rattle.asc_words.specs.declared.answer.Outcome.{Outcome}
 use Rattle.asc_words.specs.Answer.{outcome_of}
-use Rattle.asc_top.specs.Program.{file_limit, meaning, Gives}
+use Rattle.asc_words.specs.Answer.{file_limit}
+use Rattle.asc_top.specs.Program.{meaning, Gives}
 use Rattle.asc_top.specs.Numbers.{Means}
 use Rattle.asc_top.specs.Ran.{Ran}
 use Rattle.asc_top.specs.Kinds.{Completes, kind_of, device_of_answer, device_of_kind}

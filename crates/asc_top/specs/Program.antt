@@ -10,15 +10,12 @@ use Rattle.asc_make.specs.File.{image_of}
 use Rattle.asc_run.specs.declared.walk.Ended.{Ended}
 use Rattle.asc_run.specs.declared.walk.Ended.TheVariants as ends
 use Rattle.asc_run.specs.Execution.{Run, exec, progress, first_position, StandsAtFailure}
+use Rattle.asc_words.specs.Answer.{file_limit}
 use Rattle.asc_words.specs.declared.line.RunLine.{RunLine}
 use Rattle.asc_words.specs.declared.answer.Answer.{Answer}
 use Rattle.asc_words.specs.declared.answer.Answer.TheVariants as answers
 
 -- ---- what a file means
-
--- a program's file has at most 64 MiB
-abbrev pub file_limit : ℕ
-file_limit = 67108864
 
 -- what a line loads a file as: for as much memory as it gives, in KiB, and its version of the machine
 abbrev pub load_of : RunLine → (content : List ℕ) → Result loader.Image ElfFault

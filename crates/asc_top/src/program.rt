@@ -10,7 +10,7 @@ use crate::make::make;
 use crate::run::{run_alone, run_beside};
 use crate::trial::{trial_alone, trial_beside};
 use asc_shape::{Failed, Gate, Sink, Source, Steps, Store, put_all};
-use asc_words::{Answer, Line, LineFault, Outcome, parse, text};
+use asc_words::{Answer, Line, Outcome, parse, text};
 use std::alloc::Global;
 use std::sync::Wait;
 use std::sync::ledger::Ledger;
@@ -122,8 +122,7 @@ pub fn outcome_alone<F: Store, I: Source, O: Sink, E: Sink, L: Ledger>(
         × (err.new ≡ err.old) × (steps.new ≡ steps.old)) }
 {
     match parse(alloc, words) {
-        Err(LineFault::Usage(bad)) => Ok(Outcome::of(Answer::Usage(bad))),
-        Err(LineFault::Memory) => Ok(Outcome::of(Answer::Memory)),
+        Err(fault) => Ok(Outcome::of(Answer::from(fault))),
         Ok(line) if asks_for_workers(&line) => Err(line),
         Ok(line) => Ok(outcome_of_alone(alloc, line, store, input, out, err, steps)),
     }

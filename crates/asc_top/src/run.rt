@@ -4,7 +4,7 @@ ghost use Rattle.asc_calls.specs.World.{Outside, faults, outside};
 ghost use Rattle.asc_run.specs.Helped.{aid, HasRoom};
 ghost use Rattle.asc_words.specs.Line.{IsRunWithin};
 ghost use Rattle.asc_words.specs.Answer.{outcome_of};
-ghost use Rattle.asc_top.specs.Program.{file_limit};
+ghost use Rattle.asc_words.specs.Answer.{file_limit};
 ghost use Rattle.asc_top.specs.Ran.{IsRead, IsWalkOf, Ran, RanBeside, Walked};
 ghost use Rattle.asc_top.specs.Answered.{IsAnswerFor, devices};
 
@@ -15,14 +15,11 @@ use asc_live::go_beside;
 use asc_run::{Bare, Helper, Serial, Walk};
 use asc_shape::{Gate, Loaded, Memory, Sink, Source, Steps, Store, StoreFault};
 use asc_traj::Nothing;
-use asc_words::{Answer, Line, Outcome, RunLine};
+use asc_words::{Answer, FILE_LIMIT, Line, Outcome, RunLine};
 use std::alloc::Global;
 use std::sync::Wait;
 use std::sync::ledger::Ledger;
 use std::thread::Threads;
-
-/// The greatest file that is read, in bytes: 64 MiB.
-const FILE_LIMIT: usize = 67_108_864;
 
 /// Runs the file that a line names, without workers.
 pub(crate) fn run_alone<F: Store, I: Source, O: Sink, E: Sink, L: Ledger>(

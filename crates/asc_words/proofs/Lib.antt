@@ -4,3 +4,4 @@ pub mod Numbers
 pub mod Addresses
 pub mod Taken
 pub mod Lines
+pub mod Handed

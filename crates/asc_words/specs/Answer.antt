@@ -1,6 +1,8 @@
--- The exit codes of the answers, and answers without numbers.
+-- The exit codes of the answers, answers without numbers, and the greatest file.
 use Rattle.std.specs.Prelude.{ℕ, None}
 use Rattle.asc_words.specs.declared.answer.Outcome.{Outcome}
+use Rattle.asc_words.specs.declared.line.LineFault.{LineFault}
+use Rattle.asc_words.specs.declared.line.LineFault.TheVariants as LineFaults
 use Rattle.asc_words.specs.declared.answer.Answer.{Answer}
 use Rattle.asc_words.specs.declared.answer.Answer.TheVariants.{Exit, Done, Usage, Image, TooLong, StoreFault, Memory, ReadFault, WriteFault, ErrFault, ReportFault, Limit, Fault}
 
@@ -21,6 +23,15 @@ code_of ReportFault = 74
 code_of (Limit count) = 75
 code_of (Fault fault count) = 76
 
+-- the answer to words that are no line
+abbrev pub refusal_of : LineFault → Answer
+refusal_of (LineFaults.Usage bad) = Usage bad
+refusal_of LineFaults.Memory = Memory
+
 -- an answer of which no numbers are reported
 abbrev pub outcome_of : Answer → Outcome
 outcome_of answer = record { answer = answer; counts = None; workers = None }
+
+-- a program's file has at most 64 MiB
+abbrev pub file_limit : ℕ
+file_limit = 67108864

@@ -4,4 +4,5 @@ pub mod Rows
 pub mod Line
 pub mod Laws
 pub mod Answer
+pub mod Given
 pub mod Report

@@ -1,7 +1,11 @@
 ghost use Rattle.std.specs.Prelude.{◌≡◌};
 
+use crate::line::LineFault;
 use asc_elf::ElfFault;
 use asc_step::Fault;
+
+/// The greatest file that is run, in bytes: 64 MiB.
+pub const FILE_LIMIT: usize = 67_108_864;
 
 /// What is wrong with a command line.
 #[derive(Clone, Copy, Debug, PartialEq, Eq)]
@@ -27,7 +31,7 @@ pub enum Answer {
     Usage(Bad),
     /// The file is no image that can be run.
     Image(ElfFault),
-    /// The file has more than 67,108,864 bytes.
+    /// The file has more than `FILE_LIMIT` bytes.
     TooLong,
     /// The store failed, or has no file of that name.
     StoreFault,
@@ -139,6 +143,20 @@ impl Answer {
             Answer::ReadFault | Answer::WriteFault | Answer::ErrFault | Answer::ReportFault => 74,
             Answer::Limit(_) => 75,
             Answer::Fault(..) => 76,
+        }
+    }
+}
+
+impl From<LineFault> for Answer {
+    ghost use Rattle.std.specs.Prelude.{◌≡◌};
+    ghost use Rattle.asc_words.specs.Answer.{refusal_of};
+
+    ghost from_gives = { λ fault answer. answer ≡ refusal_of fault };
+
+    fn from(fault: LineFault) -> Answer {
+        match fault {
+            LineFault::Usage(bad) => Answer::Usage(bad),
+            LineFault::Memory => Answer::Memory,
         }
     }
 }

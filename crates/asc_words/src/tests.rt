@@ -1,11 +1,12 @@
 use crate::{
-    Answer, Bad, Counts, Line, LineFault, Outcome, RunLine, TrialOutcome, WorkerCounts, parse,
+    Answer, Bad, Counts, Line, LineFault, Outcome, RunLine, TrialOutcome, WorkerCounts, given_words, parse,
     text, trial_text,
 };
 use asc_elf::ElfFault;
 use asc_shape::Version;
 use asc_step::{Fault, FaultKind};
 use std::alloc::{AllocError, Global};
+use std::env;
 use std::test::Fail;
 
 // Command lines, with one space between two words, and what they mean by clap's rules: the image, the memory in KiB, the
@@ -640,5 +641,13 @@ fn is_trial_text(trial: &TrialOutcome, want: &str) -> bool {
 fn trials(rt: HostRuntime) {
     for (trial, want) in &TRIALS {
         assert!(rt; is_trial_text(trial, want), "{want}");
+    }
+}
+
+#[test]
+fn takes_the_words_of_the_system(rt: HostRuntime) {
+    match given_words(rt.alloc(), env::args(&rt)) {
+        Ok(words) => assert!(rt; !words.is_empty()),
+        Err(fault) => assert_eq!(rt; fault, LineFault::Memory),
     }
 }

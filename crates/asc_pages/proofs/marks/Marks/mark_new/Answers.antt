@@ -10,6 +10,6 @@ invariant_of-self c =
     let groups = inside.groups.items in
     let p = c.args.p in
     let within : p < length inside.pages.items = subst (λ (l : List Bool). p < length l) (sym c.self.view_is) c.requires in
-    let first : c.index-many.result.now ≡ slice_index groups (p / 32) = get_or_read groups (p / 32) c.index-many.result.now (omega (arith, c.self.invariant.least)) c.index-many.ensures 0 in
+    let first : c.index-pages.result.now ≡ slice_index groups (p / 32) = get_or_read groups (p / 32) c.index-pages.result.now (omega (arith, c.self.invariant.least)) c.index-pages.ensures 0 in
     marked_more inside.more _ _ inside.listed.items _ groups inside.pages.items p (p / 32) c.max.result c.self.invariant within refl (omega (arith, first, c.max.ensures))
-    (λ no none. let other : nat_eq c.index-many.result.now 0 ≡ false = no in let same : c.index-many.result.now ≡ 0 = first ∙ none in grind (arith, nat_tests)) c.list_group.ensures
+    (λ no none. let other : nat_eq c.index-pages.result.now 0 ≡ false = no in let same : c.index-pages.result.now ≡ 0 = first ∙ none in grind (arith, nat_tests)) c.list_group.ensures
