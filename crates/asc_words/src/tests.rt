@@ -1,6 +1,6 @@
 use crate::{
-    Answer, Bad, Counts, Line, LineFault, Outcome, RunLine, TrialOutcome, WorkerCounts, given_words, parse,
-    text, trial_text,
+    Answer, Bad, Counts, Line, LineFault, Outcome, RunLine, TrialOutcome, WorkerCounts,
+    given_words, parse, text, trial_text,
 };
 use asc_elf::ElfFault;
 use asc_shape::Version;
