@@ -5,3 +5,4 @@ pub mod Rooms
 pub mod Steps
 pub mod Settling
 pub mod Passed
+pub mod Staying

@@ -1,13 +1,15 @@
 //! One step of the machine.
-ghost use Rattle.std.specs.Prelude.{◌≡◌, ◌+◌, ◌≤◌};
+ghost use Rattle.std.specs.Prelude.{◌≡◌, ◌+◌, ◌≤◌, true, false, Some};
+ghost use Rattle.asc_model.specs.declared.instruction.Instr.{Instr};
 ghost use Rattle.asc_model.specs.Instruction.{decode};
 ghost use Rattle.asc_model.specs.Machine.{view_of};
 ghost use Rattle.asc_model.specs.Places.{operand_places};
 ghost use Rattle.asc_model.specs.Reach.{step_room};
 ghost use Rattle.asc_model.specs.Step.{fetch, outcome_of_word};
 ghost use Rattle.asc_shape.specs.Face.{room_of};
-ghost use Rattle.asc_step.specs.Execute.{AtInstruction, answer_of, face_after_outcome};
+ghost use Rattle.asc_step.specs.Execute.{AtInstruction, RunsSettled, answer_of, face_after_outcome};
 ghost use Rattle.asc_step.specs.Step.{Attempts, counted_steps};
+ghost use Rattle.asc_step.specs.declared.stepped.Stepped.TheVariants.{Went};
 
 use crate::execute::execute;
 use crate::faults::{fault, word_fault};
@@ -24,6 +26,23 @@ use std::sync::ledger::Ledger;
 ///
 /// All that the step reads is read before anything is put. A step that calls or faults puts nothing.
 ///
+/// `K` and `rare` are as in `step_settled`.
+#[inline(always)]
+pub fn try_step_of<B: Words, K>(bytes: &mut B, shape: Shape, rare: &mut Stepped) -> Stepped
+    requires shape { shape ≡ (B.face bytes.old).state.shape }
+    requires room { step_room ≤ room_of (B.face bytes.old).marks }
+    ensures { Attempts (B.face bytes.old) (B.face bytes.new) result }
+{
+    if step_settled::<B, K>(bytes, shape, rare) {
+        return Stepped::Went;
+    }
+    step_apart(bytes, rare);
+    *rare
+}
+
+/// Takes one step where the word at the pc is known to be settled and the program goes on, and tells whether it did.
+/// Otherwise nothing changes, and `step_anew` tells why, or takes the step. So a loop of steps has no faults in it.
+///
 /// Only the operations that programs do most have code of their own, so that the rest of a tracer's step takes no room
 /// in the loop of a trace. `step` has code of its own for each operation.
 ///
@@ -32,70 +51,87 @@ use std::sync::ledger::Ledger;
 ///
 /// `rare` is memory for what a step out of the loop came to, whatever stands in it. So a loop fills none at each step.
 #[inline(always)]
-pub fn try_step_of<B: Words, K>(bytes: &mut B, shape: Shape, rare: &mut Stepped) -> Stepped
+pub fn step_settled<B: Words, K>(bytes: &mut B, shape: Shape, rare: &mut Stepped) -> bool
     requires shape { shape ≡ (B.face bytes.old).state.shape }
     requires room { step_room ≤ room_of (B.face bytes.old).marks }
-    ensures { Attempts (B.face bytes.old) (B.face bytes.new) result }
+    ensures went { result ≡ true → Attempts (B.face bytes.old) (B.face bytes.new) Went }
+    ensures stays { result ≡ false → B.face bytes.new ≡ B.face bytes.old }
 {
     // That its state is one, and its marks fit it.
     let _ = bytes.shape();
     let pc = bytes.peek_pc();
-    if let None = word_fault(shape, pc, FaultKind::Misaligned, FaultKind::FetchOutside) {
-        let place = shape.place_of(pc);
-        if bytes.is_settled(place) {
-            let word = bytes.get_touched(place);
-            return match decode_likely(word) {
-                Some(instruction) => execute_likely::<B, K, true>(
-                    bytes,
-                    shape,
-                    pc,
-                    instruction,
-                    rare,
-                ),
-                None => {
-                    execute_word(bytes, pc, word, rare);
-                    *rare
-                }
-            };
-        }
+    if let Some(_) = word_fault(shape, pc, FaultKind::Misaligned, FaultKind::FetchOutside) {
+        return false;
     }
-    step_anew(bytes, rare);
-    *rare
+    let place = shape.place_of(pc);
+    if !bytes.is_settled(place) {
+        return false;
+    }
+    let word = bytes.get_touched(place);
+    match execute_fetched::<B, K, true>(bytes, shape, pc, word, rare) {
+        Stepped::Went => true,
+        _ => false,
+    }
 }
 
-/// Takes one step whose word is not known to be settled, and lets it be remembered where the program goes on. It is out of
-/// line, so that a loop has the steps of settled words alone. What it came to is put into `rare`.
+/// Takes one step as `step_anew` does, out of line, so that a loop has the steps of settled words alone.
 #[cold]
 #[inline(never)]
-fn step_anew<B: Words>(bytes: &mut B, rare: &mut Stepped)
+fn step_apart<B: Words>(bytes: &mut B, rare: &mut Stepped)
+    requires room { step_room ≤ room_of (B.face bytes.old).marks }
+    ensures { Attempts (B.face bytes.old) (B.face bytes.new) rare.new }
+{
+    step_anew(bytes, rare);
+}
+
+/// Takes one step, touches all its places, and lets its word be remembered as settled where the program goes on. What it
+/// came to is put into `rare`. It is long, and for a function that stands out of its caller's loop.
+#[inline(always)]
+pub fn step_anew<B: Words>(bytes: &mut B, rare: &mut Stepped)
     requires room { step_room ≤ room_of (B.face bytes.old).marks }
     ensures { Attempts (B.face bytes.old) (B.face bytes.new) rare.new }
 {
     let shape = bytes.shape();
-    let pc = bytes.peek_pc();
-    let stepped = step_touching(bytes, shape, rare);
+    let pc = read_word(bytes, 0);
+    if let Some(kind) = word_fault(shape, pc, FaultKind::Misaligned, FaultKind::FetchOutside) {
+        *rare = fault(kind, pc, pc);
+        return;
+    }
+    let place = shape.place_of(pc);
+    let word = read_word(bytes, place);
+    let stepped = execute_fetched::<B, (), false>(bytes, shape, pc, word, rare);
     *rare = stepped;
     if let Stepped::Went = *rare {
-        bytes.settle(shape.place_of(pc));
+        bytes.settle(place);
     }
 }
 
-/// Takes one step, and touches all its places.
+/// Carries out the word that was fetched from this pc, whatever it is. Its registers are settled where `SETTLED` says so.
 #[inline(always)]
-fn step_touching<B: Words>(bytes: &mut B, shape: Shape, rare: &mut Stepped) -> Stepped
+fn execute_fetched<B: Words, K, const SETTLED: bool>(
+    bytes: &mut B,
+    shape: Shape,
+    pc: u32,
+    word: u32,
+    rare: &mut Stepped,
+) -> Stepped
     requires shape { shape ≡ (B.face bytes.old).state.shape }
-    requires room { step_room ≤ room_of (B.face bytes.old).marks }
-    ensures { Attempts (B.face bytes.old) (B.face bytes.new) result }
+    requires at { AtInstruction (B.face bytes.old) pc }
+    requires word { let s = (B.face bytes.old).state in word ≡ fetch s.shape (view_of s) }
+    requires settled { (i : Instr) → Some i ≡ decode (B.face bytes.old).state.shape.version word
+        → RunsSettled SETTLED (B.face bytes.old).marks i }
+    requires room { 22 ≤ room_of (B.face bytes.old).marks }
+    ensures answer { let s = (B.face bytes.old).state in
+        result ≡ answer_of (outcome_of_word s.shape (view_of s) (decode s.shape.version word)) }
+    ensures face { let s = (B.face bytes.old).state in
+        B.face bytes.new ≡ face_after_outcome (B.face bytes.old)
+        (operand_places s.shape (view_of s) (decode s.shape.version word))
+        (outcome_of_word s.shape (view_of s) (decode s.shape.version word)) }
 {
-    // That its state is one, and its marks fit it.
-    let _ = bytes.shape();
-    let pc = read_word(bytes, 0);
-    if let Some(kind) = word_fault(shape, pc, FaultKind::Misaligned, FaultKind::FetchOutside) {
-        return fault(kind, pc, pc);
-    }
-    let word = read_word(bytes, shape.place_of(pc));
     match decode_likely(word) {
-        Some(instruction) => execute_likely::<B, (), false>(bytes, shape, pc, instruction, rare),
+        Some(instruction) => {
+            execute_likely::<B, K, SETTLED>(bytes, shape, pc, instruction, rare)
+        }
         None => {
             execute_word(bytes, pc, word, rare);
             *rare

@@ -1,5 +1,6 @@
 -- One attempt at a step of a tracer.
-use Rattle.std.proofs.Common.{◌≡◌, ℕ, ◌-◌, ◌≤◌, Bool, if◌then◌else◌, List, [], length, take, Option, Some, None, IsSome, IsNone, refl, sym, ap, ◌∙◌, arith}
+use Rattle.std.proofs.Common.{◌≡◌, ℕ, ◌-◌, ◌≤◌, Bool, true, false, if◌then◌else◌, List, [], length, take, Option, Some, None, IsSome, IsNone, refl, sym, ap, ◌∙◌, arith}
+use Rattle.std.proofs.lemmas.Bool.{false≢true}
 use Rattle.std.proofs.lemmas.List.{length-take}
 use Rattle.std.specs.Option.{is_some}
 use Rattle.asc_model.specs.declared.status.Status.{Status}
@@ -37,6 +38,16 @@ same_tracing a b shape cap face =
 -- an attempt keeps shape and cap
 pub limits-step : (t later : Tracing) → step_room ≤ room_of (face_of t).marks → face_of later ≡ face_after (face_of t) → (later.shape ≡ t.shape) × (later.cap ≡ t.cap)
 limits-step t later room face = limits_stay t later (places_read t.state) (writes t.state) (omega (arith, room)) face
+
+none_touched : (f : Face) → face_after_puts (face_after_reads f []) [] ≡ f
+unfolding face_after_puts face_after_reads
+none_touched f = refl
+
+-- a tracer of which code sees the same is the same
+pub unchanged : (t later : Tracing) → step_room ≤ room_of (face_of t).marks → face_of later ≡ face_of t → later ≡ t
+unchanged t later room face =
+    let limits = limits_stay t later [] [] (omega (arith, room)) (face ∙ sym (none_touched (face_of t))) in
+    same_tracing later t limits.0 limits.1 face
 
 no_puts : (f : Face) (cells : List (ℕ × ℕ)) → cells ≡ [] → face_after_puts f cells ≡ f
 unfolding face_after_puts
@@ -81,6 +92,15 @@ pub why_of-stepped : (n : Next) → why_of (stepped_of n) ≡ why_no_step n
 why_of-stepped (At after) = refl
 why_of-stepped Call = refl
 why_of-stepped (Bad fault) = refl
+
+-- an answer and a reason, where the answer is no, by what the answer is
+pub went_on : (answer : Bool) (why : Why) (o : Option Why) → (if answer then None else Some why) ≡ o → answer ≡ true → None ≡ o
+went_on true why o e is = e
+went_on false why o e is = absurd (false≢true is)
+
+pub ended : (answer : Bool) (why : Why) (o : Option Why) → (if answer then None else Some why) ≡ o → answer ≡ false → Some why ≡ o
+ended true why o e is = absurd (false≢true (sym is))
+ended false why o e is = e
 
 -- where a step was not taken there is a reason
 pub some_unless : (stepped : Stepped) (b : Option Why) → (stepped ≡ answers.Went → ⊥) → why_of stepped ≡ b → IsSome b

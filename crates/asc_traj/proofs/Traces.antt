@@ -1,10 +1,11 @@
 -- A trace on its way, turn by turn.
-use Rattle.std.proofs.Common.{◌≡◌, ℕ, zero, suc, ◌+◌, ◌-◌, ◌<◌, ◌≤◌, Bool, true, false, ◌==◌, cond, List, [], length, nat_lt, Option, Some, None, if◌then◌else◌, refl, sym, ap, subst, ◌∙◌, inl, inr, arith, add-zero}
+use Rattle.std.proofs.Common.{◌≡◌, ℕ, zero, suc, ◌+◌, ◌-◌, ◌%◌, ◌^◌, ◌<◌, ◌≤◌, Bool, true, false, ◌==◌, cond, List, [], length, nat_lt, Option, Some, None, if◌then◌else◌, refl, sym, ap, subst, ◌∙◌, inl, inr, arith, add-zero}
 use Rattle.std.specs.Prelude.{count_by}
 use Rattle.std.specs.List.{range_with_len}
 use Rattle.std.specs.Option.{option_or}
 use Rattle.std.proofs.lemmas.Bool.{cases_eq, cases_lt, ltb-true, lt-ltb, cases_Bool, eq-eqb, ne_eqb, false≢true}
 use Rattle.std.proofs.lemmas.List.Sums.{sum_by-cons}
+use Rattle.std.proofs.Math.Nat.{mod-eq_of_lt}
 use Rattle.asc_model.specs.declared.why.Why.{Why}
 use Rattle.asc_model.specs.declared.why.Why.TheVariants as whys
 use Rattle.asc_model.specs.Shape.{length_of, is_same_shape}
@@ -20,12 +21,14 @@ use Rattle.asc_model.proofs.Touches.{state-TouchesPlaces}
 use Rattle.asc_shape.specs.Face.{Face, FitPlaces, room_of, status_at, is_untouched, face_after_reads}
 use Rattle.asc_shape.proofs.Faces.{state-reads, state-puts}
 use Rattle.asc_step.specs.Step.{face_after}
+use Rattle.asc_step.proofs.Rooms.{room_after_step}
 use Rattle.asc_depvec.specs.Tracer.{Tracing, IsTracing, face_of, start_of_face}
 use Rattle.asc_depvec.specs.Laws.{HasStatusesOf}
 use Rattle.asc_depvec.proofs.Dependencies.{no_statuses, statuses_follow}
 use Rattle.asc_model.proofs.Shapes.{is_same_shape-same}
 use Rattle.asc_depvec.proofs.Marking.{untouched_is}
 use Rattle.asc_depvec.proofs.Starts.{starts_stay}
+use Rattle.asc_traj.specs.Inside.{AreSure, counted, met}
 use Rattle.asc_traj.specs.Trace.{Asked, CountsAsk, LosesPatience, StandsFor, MayStop, asks_of, origin_of}
 use Rattle.asc_traj.proofs.Places.{length-touched}
 
@@ -70,17 +73,17 @@ begins bounds t none own same_cap good fits =
 
 -- ---- the bounds
 
+not_lt : (a b : ℕ) → b ≤ a → nat_lt a b ≡ false
+not_lt a b le = elim (cases_Bool (nat_lt a b)) [
+  | inl e ↦ let lt = ltb-true a b e in absurd (omega arith)
+  | inr e ↦ e
+]
+
 room_left : (cap n : ℕ) → n ≤ cap → nat_lt (cap - n) 32 ≡ nat_lt cap (n + 32)
 room_left cap n h = elim (cases_lt cap (n + 32)) [
   | inl few ↦ lt-ltb (cap - n) 32 (omega arith) ∙ sym (lt-ltb cap (n + 32) few)
   | inr many ↦ not_lt (cap - n) 32 (omega arith) ∙ sym (not_lt cap (n + 32) many)
 ]
-  where
-    not_lt : (a b : ℕ) → b ≤ a → nat_lt a b ≡ false
-    not_lt a b le = elim (cases_Bool (nat_lt a b)) [
-      | inl e ↦ let lt = ltb-true a b e in absurd (omega arith)
-      | inr e ↦ e
-    ]
 
 -- what is left of a tracer's places is what its steps leave
 pub few_left : (bounds : Bounds) (start : State) (n laps : ℕ) (t : Tracing) → IsOnWay bounds start n laps t → IsTracing t
@@ -95,34 +98,45 @@ few_left bounds start n laps t on is fits =
     ∙ ap (λ m. nat_lt bounds.cap (m + 32)) (length-touched n start t fits on.statuses size)
 
 -- none is left where all steps of the span are taken
-none_left : (span left : ℕ) → left ≤ span → (left == 0) ≡ (span - left == span)
-none_left span left most = elim (cases_eq left 0) [
-  | inl e ↦ eq-eqb left 0 e ∙ sym (eq-eqb (span - left) span (omega (arith, e)))
-  | inr some ↦ ne_eqb left 0 some ∙ sym (ne_eqb (span - left) span (λ e. some (omega (arith, e, most))))
+none_left : (span n : ℕ) → n ≤ span → (span - n == 0) ≡ (n == span)
+none_left span n most = elim (cases_eq n span) [
+  | inl e ↦ eq-eqb (span - n) 0 (omega (arith, e)) ∙ sym (eq-eqb n span e)
+  | inr some ↦ ne_eqb (span - n) 0 (λ e. some (omega (arith, e, most))) ∙ sym (ne_eqb n span some)
 ]
 
 -- the test of bounds where too few laps are made, by what is left and numbers of a tracer
-abbrev pub met : (left : ℕ) → Tracing → Option Why
-met left t = if left == 0 then Some whys.Span
-    else (if nat_lt (room_of (face_of t).marks) step_room then Some whys.Room else None)
-
-pub met-bound : (bounds : Bounds) (start : State) (left laps : ℕ) (t : Tracing) → left ≤ bounds.span → IsOnWay bounds start (bounds.span - left) laps t → IsTracing t
-    → FitPlaces (length t.state.bytes) (face_of t).marks → (laps == bounds.laps) ≡ false → met left t ≡ bound_met bounds (bounds.span - left) start
-met-bound bounds start left laps t most on is fits few =
-    let n = bounds.span - left in
+pub met-bound : (bounds : Bounds) (start : State) (n laps : ℕ) (t : Tracing) → IsOnWay bounds start n laps t → IsTracing t
+    → FitPlaces (length t.state.bytes) (face_of t).marks → (laps == bounds.laps) ≡ false → met (bounds.span - n) t ≡ bound_met bounds n start
+met-bound bounds start n laps t on is fits few =
     let room = nat_lt (room_of (face_of t).marks) step_room in
     let after : Bool → Bool → Option Why = λ lap span. if lap then Some whys.Lap else (if span then Some whys.Span else (if room then Some whys.Room else None)) in
-    sym (ap (λ lap. after lap (left == 0)) few) ∙ ap (λ l. after (l == bounds.laps) (left == 0)) on.counted ∙ ap (after (laps_in bounds.pc n start == bounds.laps)) (none_left bounds.span left most)
+    sym (ap (λ lap. after lap (bounds.span - n == 0)) few) ∙ ap (λ l. after (l == bounds.laps) (bounds.span - n == 0)) on.counted
+    ∙ ap (after (laps_in bounds.pc n start == bounds.laps)) (none_left bounds.span n on.span)
     ∙ ap (λ (b : Bool). if laps_in bounds.pc n start == bounds.laps then Some whys.Lap else (if n == bounds.span then Some whys.Span else (if b then Some whys.Room else None)))
     (few_left bounds start n laps t on is fits)
 
--- where no bound is met some are left, and one step more leaves one fewer
+-- where a step is sure no bound is met
+pub met-none : (left : ℕ) (t : Tracing) → 0 < left → step_room ≤ room_of (face_of t).marks → met left t ≡ None
+met-none left t some room =
+    ap (λ (b : Bool). if b then Some whys.Span else (if nat_lt (room_of (face_of t).marks) step_room then Some whys.Room else None)) (ne_eqb left 0 (λ e. omega (arith, some, e)))
+    ∙ ap (λ (b : Bool). if b then Some whys.Room else None) (not_lt (room_of (face_of t).marks) step_room room)
+
+-- where no bound is met some are left, and there is room for a step
 pub some_left : (left : ℕ) (t : Tracing) → met left t ≡ None → 0 < left
 some_left zero t none = absurd (cc)
 some_left (suc left) t none = omega arith
 
-pub one_fewer : (span left : ℕ) → left ≤ span → 0 < left → span - left + 1 ≡ span - (left - 1)
-one_fewer span left most some = omega (arith, most, some)
+pub room_for_step : (left : ℕ) (t : Tracing) → met left t ≡ None → step_room ≤ room_of (face_of t).marks
+room_for_step left t none = by_tests (left == 0) (nat_lt (room_of (face_of t).marks) step_room) refl none
+  where
+    by_tests : (a b : Bool) → nat_lt (room_of (face_of t).marks) step_room ≡ b → (if a then Some whys.Span else (if b then Some whys.Room else None)) ≡ None
+        → step_room ≤ room_of (face_of t).marks
+    by_tests true b e none = absurd (cc)
+    by_tests false true e none = absurd (cc)
+    by_tests false false e none = elim (cases_lt (room_of (face_of t).marks) step_room) [
+      | inl few ↦ absurd (false≢true (sym e ∙ lt-ltb _ _ few))
+      | inr many ↦ many
+    ]
 
 -- the first bound that is met is that of laps
 pub lapped : (bounds : Bounds) (start : State) (n laps : ℕ) (t : Tracing) → IsOnWay bounds start n laps t → laps ≡ bounds.laps → bound_met bounds n start ≡ Some whys.Lap
@@ -255,14 +269,30 @@ goes_on bounds start n laps t later on good fits bound step face shape same_cap 
     cond_most true = omega arith
     cond_most false = omega arith
 
--- the same by what is left
-pub one_more : (bounds : Bounds) (start : State) (left laps : ℕ) (t later : Tracing) → left ≤ bounds.span → IsOnWay bounds start (bounds.span - left) laps t
-    → IsTracing t → IsState t.state → FitPlaces (length t.state.bytes) (face_of t).marks
-    → (laps == bounds.laps) ≡ false → met left t ≡ None → why_no_step (next t.state) ≡ None
-    → face_of later ≡ face_after (face_of t) → later.shape ≡ t.shape → later.cap ≡ t.cap
-    → (more : ℕ) → more ≡ laps + cond ((view_of later.state).pc == bounds.pc) 1 0 → IsOnWay bounds start (bounds.span - left + 1) more later
-one_more bounds start left laps t later most on is good fits few unmet step face shape same_cap more counts =
-    goes_on bounds start (bounds.span - left) laps t later on good fits (sym (met-bound bounds start left laps t most on is fits few) ∙ unmet) step face shape same_cap more counts
+-- of the steps that are sure one fewer is left
+pub sure-next : (span n sure : ℕ) (t later : Tracing) → AreSure span n sure (room_of (face_of t).marks) → n < sure → IsState t.state → FitPlaces (length t.state.bytes) (face_of t).marks
+    → face_of later ≡ face_after (face_of t) → AreSure span (n + 1) sure (room_of (face_of later).marks)
+sure-next span n sure t later was more good fits face = record {
+  least = omega (arith, more);
+  most = was.most;
+  room = omega (arith, more, was.room, room_after_step (face_of t) (face_of later) good fits face);
+}
+
+-- ---- the count of laps
+
+-- at the start none is counted
+pub counted-start : (laps : ℕ) (there : Bool) → laps ≡ (if there then 2 ^ 64 - 1 else 0) → counted laps there ≡ 0
+counted-start laps true e = ap (λ k. (k + 1) % 2 ^ 64) e
+counted-start laps false e = e
+
+pub few-start : (laps all : ℕ) (there : Bool) → laps ≡ (if there then 2 ^ 64 - 1 else 0) → 1 ≤ all → there ≡ false → (laps == all) ≡ false
+few-start laps all true e some away = absurd (false≢true (sym away))
+few-start laps all false e some away = ne_eqb laps all (λ same. omega (arith, some, same, e))
+
+-- and later one more, where the state stands at the pc of laps
+pub counted-more : (laps : ℕ) (there : Bool) → laps + 1 < 2 ^ 64 → counted laps there ≡ laps + cond there 1 0
+counted-more laps true below = mod-eq_of_lt below
+counted-more laps false below = sym (add-zero laps)
 
 -- ---- patience
 

@@ -1,11 +1,12 @@
 -- Words of private contracts.
-use Rattle.std.specs.Prelude.{◌≡◌, ℕ, ◌+◌, ◌*◌, ◌≤◌, Bool, true, false, List, ◌++◌, All, map, filter, flat_map, slice_index, vec_capacity, vec_len, Option, Some, None}
+use Rattle.std.specs.Prelude.{◌≡◌, ℕ, ◌+◌, ◌-◌, ◌*◌, ◌%◌, ◌^◌, ◌≤◌, ◌==◌, nat_lt, if◌then◌else◌, Bool, true, false, List, ◌++◌, All, map, filter, flat_map, slice_index, vec_capacity, vec_len, Option, Some, None}
 use Rattle.asc_model.specs.declared.why.Why.{Why}
 use Rattle.asc_model.specs.declared.why.Why.TheVariants as whys
 use Rattle.asc_model.specs.declared.status.Status.{Status}
 use Rattle.asc_model.specs.declared.status.Status.TheVariants.{Untouched, Read, Written, ReadWritten}
-use Rattle.asc_shape.specs.Face.{status_at}
-use Rattle.asc_depvec.specs.Tracer.{Tracing}
+use Rattle.asc_model.specs.Reach.{step_room}
+use Rattle.asc_shape.specs.Face.{room_of, status_at}
+use Rattle.asc_depvec.specs.Tracer.{Tracing, face_of}
 use Rattle.asc_model.specs.Places.{places_from}
 use Rattle.asc_traj.specs.Parts.{IsPart, all_cells}
 use Rattle.asc_traj.specs.declared.entry.Halves.{Halves}
@@ -18,6 +19,21 @@ abbrev pub why_of : Stepped → Option Why
 why_of Went = None
 why_of Call = Some whys.Call
 why_of (Fault fault) = Some (whys.Fault fault)
+
+-- the bound of steps or places that is met first where so many steps are left
+abbrev pub met : (left : ℕ) → Tracing → Option Why
+met left t = if left == 0 then Some whys.Span
+    else (if nat_lt (room_of (face_of t).marks) step_room then Some whys.Room else None)
+
+-- After so many steps of a span, so many are sure: there is room for those that are not yet taken.
+pub record AreSure (all steps sure free : ℕ) : Type 0 where
+  pub least : steps ≤ sure
+  pub most : sure ≤ all
+  pub room : step_room * (sure - steps) ≤ free
+
+-- a count of laps, once a state is counted that stands at the pc of laps or does not
+abbrev pub counted : (laps : ℕ) → Bool → ℕ
+counted laps there = if there then (laps + 1) % 2 ^ 64 else laps
 
 -- whether a place was read before it was written
 abbrev pub is_read_first : Status → Bool

@@ -1,5 +1,4 @@
-ghost use Rattle.std.specs.Prelude.{◌≡◌, ℕ, ◌≤◌, ◌+◌, ◌-◌, ◌^◌, ◌<◌, true, false, [], length, Some, None, IsSome, IsNone, nat_lt, ◌==◌, if◌then◌else◌};
-ghost use Rattle.asc_model.specs.declared.why.Why.TheVariants as whys;
+ghost use Rattle.std.specs.Prelude.{◌≡◌, ℕ, ◌≤◌, ◌+◌, ◌-◌, ◌^◌, ◌<◌, true, false, [], length, Some, None, ◌==◌, if◌then◌else◌};
 ghost use Rattle.asc_model.specs.Machine.{view_of};
 ghost use Rattle.asc_model.specs.Step.{next};
 ghost use Rattle.asc_model.specs.Reach.{IsReach, step_room, why_no_step};
@@ -8,12 +7,12 @@ ghost use Rattle.asc_depvec.specs.Tracer.{IsTracing, face_of};
 ghost use Rattle.asc_model.specs.State.{IsState};
 ghost use Rattle.asc_shape.specs.Face.{FitPlaces, room_of};
 ghost use Rattle.asc_traj.specs.Trace.{Asked, CountsAnswer, MayStop, StandsFor, asks_of, bounds_of, is_stopped, origin_of};
-ghost use Rattle.asc_traj.specs.Inside.{why_of};
+ghost use Rattle.asc_traj.specs.Inside.{AreSure, counted, met, why_of};
 
 use crate::{Halt, Why};
 use asc_depvec::{LEAST_CAP, Tracer};
 use asc_shape::{Bytes, Shape};
-use asc_step::{Stepped, try_step_of};
+use asc_step::{Stepped, step_anew, step_settled};
 
 /// Where a trace is to end.
 #[derive(Clone, Copy, Debug, PartialEq, Eq)]
@@ -72,63 +71,52 @@ pub fn trace<H: Halt>(tracer: &mut Tracer, stop: &Stop, halt: &mut H) -> Traced
 {
     known(tracer);
     let shape = Bytes::shape(tracer);
+    // Memory for what calls out of the loop come to. The loop fills none.
     let mut rare = Stepped::Went;
-    let mut progress = Progress {
-        left: stop.span,
-        laps: 0,
-    };
+    let mut why = Why::Span;
+    let pc = stop.pc;
+    let mut laps = laps_at_start(tracer, pc);
+    let mut sure = 0;
+    let mut steps = 0;
     loop {
         known(tracer);
-        if let Some(why) = bound_met(tracer, progress.left) {
-            let steps = stop.span - progress.left;
+        if has_all_laps(tracer, pc, stop, &mut laps) {
+            let why = Why::Lap;
+            return Traced { steps, why };
+        }
+        if !is_within(tracer, stop, steps, &mut sure, &mut why) {
             return Traced { steps, why };
         }
         if halt.asked() {
-            return Traced {
-                steps: stop.span - progress.left,
-                why: Why::Stopped,
-            };
-        }
-        if let Some(why) = attempt::<H>(tracer, shape, &mut rare) {
-            let steps = stop.span - progress.left;
+            let why = Why::Stopped;
             return Traced { steps, why };
         }
-        if has_all_laps(tracer, stop, &mut progress) {
-            known(tracer);
-            return Traced {
-                steps: stop.span - progress.left + 1,
-                why: Why::Lap,
-            };
+        if !attempt::<H>(tracer, shape, &mut rare, &mut why) {
+            return Traced { steps, why };
         }
-        progress.left -= 1;
+        steps += 1;
     }
 }
 
-/// How far a trace came. It stands in memory, since `count_lap` is handed a reference: so a step counts by one
-/// instruction that also tells whether it was the last one.
-#[derive(Drop)]
-struct Progress {
-    // The steps that may still be taken.
-    left: u64,
-    // The laps that were made.
-    laps: u64,
+/// The count of laps before the first step. A state at the pc of laps is counted where the next step begins, which
+/// reads the pc anyway. No step led to the first state: so where it stands there the count is one below 0, modulo 2^64.
+fn laps_at_start(tracer: &Tracer, pc: u32) -> u64
+    ensures { result ≡ (if (view_of tracer.now.state).pc == pc then 2 ^ 64 - 1 else 0) }
+{
+    if tracer.pc() == pc { u64::MAX } else { 0 }
 }
 
-/// Counts a lap where a step led to the pc of `stop`, and tells whether all laps are made.
+/// Counts a lap where the state stands at this pc, and tells whether all laps are made. The pc is that of `stop`, which a
+/// loop then need not read again.
 #[inline]
-fn has_all_laps(tracer: &Tracer, stop: &Stop, progress: &mut Progress) -> bool
-    requires few { (progress.old.laps == stop.now.laps) ≡ false }
-    requires most { progress.old.laps < stop.now.span }
-    ensures counts { progress.new ≡ record progress.old {
-      laps = progress.old.laps + (if (view_of tracer.now.state).pc == stop.now.pc then 1 else 0);
-    } }
-    ensures all { result ≡ (progress.new.laps == stop.now.laps) }
+fn has_all_laps(tracer: &Tracer, pc: u32, stop: &Stop, laps: &mut u64) -> bool
+    requires few { ((view_of tracer.now.state).pc == pc) ≡ false → (laps.old == stop.now.laps) ≡ false }
+    ensures counts { laps.new ≡ counted laps.old ((view_of tracer.now.state).pc == pc) }
+    ensures all { result ≡ (laps.new == stop.now.laps) }
 {
-    // That it is a number of 64 bits.
-    let _span = stop.span;
-    if tracer.pc() == stop.pc {
-        count_lap(progress);
-        progress.laps == stop.laps
+    if tracer.pc() == pc {
+        count_lap(laps);
+        *laps == stop.laps
     } else {
         false
     }
@@ -137,19 +125,53 @@ fn has_all_laps(tracer: &Tracer, stop: &Stop, progress: &mut Progress) -> bool
 /// Counts a lap.
 #[cold]
 #[inline(never)]
-fn count_lap(progress: &mut Progress)
-    requires { progress.old.laps < 2 ^ 64 - 1 }
-    ensures { progress.new ≡ record progress.old { laps = progress.old.laps + 1 } }
+fn count_lap(laps: &mut u64)
+    ensures { laps.new ≡ counted laps.old true }
 {
-    progress.laps += 1;
+    *laps = laps.wrapping_add(1);
+}
+
+/// Tells whether neither the bound of steps nor that of places is met after so many steps, and else which is, where too
+/// few laps are made. The first `sure` steps meet none, whatever they touch: so a step costs one test for both.
+#[inline]
+fn is_within(tracer: &Tracer, stop: &Stop, steps: u64, sure: &mut u64, why: &mut Why) -> bool
+    requires own { tracer.now.state.shape ≡ tracer.now.shape }
+    requires sure { AreSure stop.now.span steps sure.old (room_of (face_of tracer.now).marks) }
+    ensures met { (if result then None else Some why.new) ≡ met (stop.now.span - steps) tracer.now }
+    ensures sure { result ≡ true → AreSure stop.now.span steps sure.new (room_of (face_of tracer.now).marks) }
+    ensures more { result ≡ true → steps < sure.new }
+{
+    steps != *sure || look_ahead(tracer, stop, steps, sure, why)
+}
+
+/// Tells the same where no more steps are sure, and makes those sure for which there is room.
+#[cold]
+#[inline(never)]
+fn look_ahead(tracer: &Tracer, stop: &Stop, steps: u64, sure: &mut u64, why: &mut Why) -> bool
+    requires own { tracer.now.state.shape ≡ tracer.now.shape }
+    requires span { steps ≤ stop.now.span }
+    ensures met { (if result then None else Some why.new) ≡ met (stop.now.span - steps) tracer.now }
+    ensures sure { result ≡ true → AreSure stop.now.span steps sure.new (room_of (face_of tracer.now).marks) }
+    ensures more { result ≡ true → steps < sure.new }
+{
+    let left = stop.span - steps;
+    match bound_met(tracer, left) {
+        Some(bound) => {
+            *why = bound;
+            false
+        }
+        None => {
+            *sure = steps + left.min((tracer.room() / LEAST_CAP) as u64);
+            true
+        }
+    }
 }
 
 /// The first bound that is met where so many steps are left, and too few laps are made.
 #[inline]
 fn bound_met(tracer: &Tracer, left: u64) -> Option<Why>
     requires { tracer.now.state.shape ≡ tracer.now.shape }
-    ensures { result ≡ (if left == 0 then Some whys.Span
-        else (if nat_lt (room_of (face_of tracer.now).marks) step_room then Some whys.Room else None)) }
+    ensures { result ≡ met left tracer.now }
 {
     if left == 0 {
         Some(Why::Span)
@@ -160,31 +182,44 @@ fn bound_met(tracer: &Tracer, left: u64) -> Option<Why>
     }
 }
 
-/// Tries one step of a state of this shape. Where it calls or faults it answers that, and the reads of the attempt are
-/// taken back. Traces under different halts have code of their own. `rare` is memory for what `try_step_of` comes to.
+/// Tries one step of a state of this shape, and tells whether it was taken. Where it calls or faults `why` says so, and
+/// the reads of the attempt are taken back. Traces under different halts have code of their own. `rare` is memory for
+/// what `step_settled` comes to.
 #[inline]
-fn attempt<H: Halt>(tracer: &mut Tracer, shape: Shape, rare: &mut Stepped) -> Option<Why>
+fn attempt<H: Halt>(tracer: &mut Tracer, shape: Shape, rare: &mut Stepped, why: &mut Why) -> bool
     requires own { shape ≡ tracer.old.state.shape }
     requires room { step_room ≤ room_of (face_of tracer.old).marks }
-    ensures ends { result ≡ why_no_step (next tracer.old.state) }
-    ensures goes { IsNone result → face_of tracer.new ≡ face_after (face_of tracer.old) }
-    ensures back { IsSome result → tracer.new ≡ tracer.old }
+    ensures ends { (if result then None else Some why.new) ≡ why_no_step (next tracer.old.state) }
+    ensures goes { result ≡ true → face_of tracer.new ≡ face_after (face_of tracer.old) }
+    ensures back { result ≡ false → tracer.new ≡ tracer.old }
+    ensures shape { tracer.new.shape ≡ tracer.old.shape }
+    ensures cap { tracer.new.cap ≡ tracer.old.cap }
+{
+    step_settled::<Tracer, H>(tracer, shape, rare) || attempt_anew(tracer, why)
+}
+
+/// Tries one step as `attempt` does, whatever its word. It is out of line, so that the loop of a trace has the steps of
+/// settled words alone.
+#[cold]
+#[inline(never)]
+fn attempt_anew(tracer: &mut Tracer, why: &mut Why) -> bool
+    requires room { step_room ≤ room_of (face_of tracer.old).marks }
+    ensures ends { (if result then None else Some why.new) ≡ why_no_step (next tracer.old.state) }
+    ensures goes { result ≡ true → face_of tracer.new ≡ face_after (face_of tracer.old) }
+    ensures back { result ≡ false → tracer.new ≡ tracer.old }
     ensures shape { tracer.new.shape ≡ tracer.old.shape }
     ensures cap { tracer.new.cap ≡ tracer.old.cap }
 {
     known(tracer);
-    // The room was just asked for, and how many places are touched follows from it.
-    let room = tracer.room();
-    match try_step_of::<Tracer, H>(tracer, shape, rare) {
-        Stepped::Went => None,
-        ended => {
-            known(tracer);
-            let left = tracer.room();
-            let touched = tracer.mark();
-            let more = room.saturating_sub(left);
-            let mark = touched.saturating_sub(more);
+    let mark = tracer.mark();
+    let mut stepped = Stepped::Went;
+    step_anew(tracer, &mut stepped);
+    match why_of(stepped) {
+        None => true,
+        Some(ended) => {
             tracer.undo(mark);
-            why_of(ended)
+            *why = ended;
+            false
         }
     }
 }

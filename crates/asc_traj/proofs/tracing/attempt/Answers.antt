@@ -1,53 +1,41 @@
--- An attempt keeps what a tracer is, and one that ends is taken back.
-use Rattle.std.proofs.Common.{◌≡◌, ◌≤◌, length, IsSome, sym, ap, subst, ◌∙◌}
-use Rattle.asc_model.specs.State.{IsState}
+-- A step of a settled word goes on, or changes nothing, and is then tried anew.
+use Rattle.std.proofs.Common.{◌≤◌, Bool, Some, None, if◌then◌else◌, sym, ap, subst, ◌∙◌}
+use Rattle.std.proofs.lemmas.Bool.{false≢true}
 use Rattle.asc_model.specs.Step.{next}
-use Rattle.asc_model.specs.Reach.{why_no_step}
-use Rattle.asc_depvec.specs.Tracer.{face_of, undone}
+use Rattle.asc_model.specs.Reach.{step_room, why_no_step}
+use Rattle.asc_shape.specs.Face.{room_of}
+use Rattle.asc_step.specs.Step.{face_after}
+use Rattle.asc_depvec.specs.Tracer.{Tracing, face_of}
 use Rattle.asc_traj.specs.Inside.{why_of}
-use Rattle.asc_traj.proofs.Attempts.{limits-step, touched-before, back-face, back-mark, why_of-stepped, same_tracing, some_unless, some_none}
+use Rattle.asc_traj.proofs.Attempts.{limits-step, why_of-stepped, unchanged}
 use Rattle.asc_traj.proofs.tracing.attempt.Goals as goal
 
-pub undo-requires : goal.undo-requires
-undo-requires g c =
+pub returns-then-step_settled : goal.returns-then-step_settled
+returns-then-step_settled g c =
     let t = c.args.tracer.now in
-    let later = c.try_step_of.new.bytes in
-    let ends = ap why_of c.try_step_of.ensures.answer ∙ why_of-stepped (next t.state) in
-    let some : IsSome (why_no_step (next t.state)) = some_unless _ _ c.in_default.not-Went ends in
-    let good : IsState t.state = c.known.ensures.state in
-    let grew = back-mark t later good some c.try_step_of.ensures.places in
-    let same = touched-before t later _ _ _ _ _ c.known.ensures.tracer c.known-in_default.ensures.tracer (limits-step t later c.requires.room c.try_step_of.ensures.places).1
-    c.room-room.ensures c.room-left.ensures c.mark-touched.ensures.mark c.saturating_sub-more.ensures c.saturating_sub-mark.ensures grew in
-    subst (λ mark. mark ≤ length later.touched) (sym same) grew
-
-pub returns-in-Went-clause-shape : goal.returns-in-Went-clause-shape
-returns-in-Went-clause-shape g c =
-    let t = c.args.tracer.now in
-    let limits = limits-step t c.try_step_of.new.bytes c.requires.room c.try_step_of.ensures.places in
-    limits.0
-
-pub returns-in-Went-clause-cap : goal.returns-in-Went-clause-cap
-returns-in-Went-clause-cap g c =
-    let t = c.args.tracer.now in
-    let limits = limits-step t c.try_step_of.new.bytes c.requires.room c.try_step_of.ensures.places in
-    limits.1
-
-pub returns-in_default : goal.returns-in_default
-returns-in_default g c =
-    let t = c.args.tracer.now in
-    let later = c.try_step_of.new.bytes in
-    let ends = ap why_of c.try_step_of.ensures.answer ∙ why_of-stepped (next t.state) in
-    let some : IsSome (why_no_step (next t.state)) = some_unless _ _ c.in_default.not-Went ends in
-    let good : IsState t.state = c.known.ensures.state in
-    let limits = limits-step t later c.requires.room c.try_step_of.ensures.places in
-    let same = touched-before t later _ _ _ _ _ c.known.ensures.tracer c.known-in_default.ensures.tracer limits.1 c.room-room.ensures c.room-left.ensures c.mark-touched.ensures.mark
-    c.saturating_sub-more.ensures c.saturating_sub-mark.ensures (back-mark t later good some c.try_step_of.ensures.places) in
-    let back : face_of (undone later c.saturating_sub-mark.result) ≡ face_of t =
-    ap (λ mark. face_of (undone later mark)) same ∙ back-face t later good some c.try_step_of.ensures.places in
+    let did = c.step_settled.ensures.went c.if-step_settled.true in
+    let limits = limits-step t c.step_settled.new.bytes c.requires.room did.places in
     record {
-      ends = c.why_of.ensures ∙ ends;
-      goes = λ none. absurd (some_none _ _ (c.why_of.ensures ∙ ends) some none);
-      back = λ _. c.undo.ensures ∙ same_tracing (undone later c.saturating_sub-mark.result) t limits.0 limits.1 back;
-      shape = ap (λ u. u.shape) c.undo.ensures ∙ limits.0;
-      cap = ap (λ u. u.cap) c.undo.ensures ∙ limits.1;
+      ends = ap (λ (b : Bool). if b then None else Some c.args.why.now) c.if-step_settled.true ∙ ap why_of did.answer ∙ why_of-stepped (next t.state);
+      goes = λ _. did.places;
+      back = λ is. absurd (false≢true (sym is ∙ c.if-step_settled.true));
+      shape = limits.0;
+      cap = limits.1;
+    }
+
+pub attempt_anew-requires : goal.attempt_anew-requires
+attempt_anew-requires g c =
+    let same = unchanged c.args.tracer.now c.step_settled.new.bytes c.requires.room (c.step_settled.ensures.stays c.if-step_settled.false) in
+    record { room = subst (λ (t : Tracing). step_room ≤ room_of (face_of t).marks) (sym same) c.requires.room }
+
+pub returns-else-step_settled : goal.returns-else-step_settled
+returns-else-step_settled g c =
+    let same = unchanged c.args.tracer.now c.step_settled.new.bytes c.requires.room (c.step_settled.ensures.stays c.if-step_settled.false) in
+    let tried = c.attempt_anew.ensures in
+    record {
+      ends = tried.ends ∙ ap (λ (t : Tracing). why_no_step (next t.state)) same;
+      goes = λ is. tried.goes is ∙ ap (λ (t : Tracing). face_after (face_of t)) same;
+      back = λ is. tried.back is ∙ same;
+      shape = tried.shape ∙ ap (λ (t : Tracing). t.shape) same;
+      cap = tried.cap ∙ ap (λ (t : Tracing). t.cap) same;
     }

@@ -1,0 +1,1 @@
+-- Where a step is sure no bound is met.

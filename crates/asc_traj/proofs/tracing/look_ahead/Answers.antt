@@ -1,0 +1,1 @@
+-- As many steps are sure as there is room for, and at least one.
