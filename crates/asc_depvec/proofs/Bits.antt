@@ -1,9 +1,10 @@
 -- Lemmas on the bits of words.
-use Rattle.std.proofs.Common.{get_or, ◌≡◌, ℕ, zero, suc, ◌+◌, ◌-◌, ◌*◌, ◌/◌, ◌%◌, ◌^◌, ◌<◌, ◌≤◌, ◌==◌, ◌||◌, Bool, true, false, not, cond, List, [], ◌∷◌, ◌++◌, length, drop, map, take, length-append, refl, sym, ap, subst, ◌∙◌, ◌⊎◌, inl, inr, slice_index, slice_index_or, slice_set, bit_or, max, arith, append_assoc, append-nil, if◌then◌else◌}
+use Rattle.std.proofs.Common.{get_or, ◌≡◌, ℕ, zero, suc, ◌+◌, ◌-◌, ◌*◌, ◌/◌, ◌%◌, ◌^◌, ◌<◌, ◌≤◌, ◌==◌, ◌&&◌, ◌||◌, Bool, true, false, not, cond, List, [], ◌∷◌, ◌++◌, length, drop, map, take, length-append, refl, sym, ap, subst, ◌∙◌, ◌⊎◌, inl, inr, slice_index, slice_index_or, slice_set, bit_or, max, arith, append_assoc, append-nil, if◌then◌else◌}
 use lib.Count.{ones, ones_step, ones-le}
 use native.Mathlib.Nat.{pow-suc}
 use Rattle.std.specs.Prelude.{All, filter, nat_lt, sum_by}
-use Rattle.std.specs.Int.{bit_at, trailing_zeros, w64}
+use Rattle.std.specs.Int.Bits.{or_zero_l}
+use Rattle.std.specs.Int.{bit_at, rotate_right, trailing_zeros, w32, w64}
 use Rattle.std.specs.List.{list_any}
 use Rattle.std.specs.List.Sorted.{IsNonDecreasingBy, IsPermutation}
 use Rattle.std.proofs.lemmas.Bool.{cases_Bool, cases_eq, cases_lt, cond-false, cond-true, eq-eqb, eqb-true, false≢true, lt-ltb, ne_eqb}
@@ -13,7 +14,7 @@ use Rattle.std.proofs.lemmas.List.Elements.{All-cons, All-nil, filter-append}
 use Rattle.std.proofs.lemmas.List.Sums.{count_by-le-length, sum_by-append, sum_by-cons}
 use Rattle.std.proofs.Math.Nat.{div-div-eq-div-mul, max-zero}
 use Rattle.std.proofs.Math.Pow.{pow-lt}
-use Rattle.std.proofs.lemmas.Nat.{pow-add}
+use Rattle.std.proofs.lemmas.Nat.{or_comm, or_shifted, pow-add}
 use Rattle.std.proofs.lemmas.Nat.Bits.{bit_at_above, bit_at-lt, bit_at-pow_other, bit_at-pow_same, bit_at-trailing_zeros, bit_at-suc, bit_at-zero, bit_at_lowest, bit_at_or}
 use Rattle.asc_model.specs.Places.{places_from}
 use Rattle.asc_model.specs.DependencyVector.{is_among}
@@ -22,7 +23,7 @@ use Rattle.asc_model.specs.declared.status.Status.TheVariants.{Untouched}
 use Rattle.asc_shape.specs.Face.{status_at, is_untouched}
 use Rattle.asc_depvec.specs.Bits.{AreListed, AreNoted, block_at, has_bit, has_word, live, words_in, words_of_blocks}
 use Rattle.asc_depvec.specs.declared.bitmap.Block.{Block}
-use Rattle.asc_depvec.specs.Inside.{noted}
+use Rattle.asc_depvec.specs.Inside.{is_due, noted}
 use Rattle.asc_depvec.specs.Tracer.{is_touched_word, places_of_item}
 use Rattle.asc_depvec.proofs.Items.{item_place, item_word}
 use Rattle.asc_depvec.proofs.Marking.{Fits, times}
@@ -89,7 +90,7 @@ or_true : (b : Bool) → (b || true) ≡ true
 or_true true = refl
 or_true false = refl
 
-or_false : (b : Bool) → (b || false) ≡ b
+pub or_false : (b : Bool) → (b || false) ≡ b
 or_false true = refl
 or_false false = refl
 
@@ -130,6 +131,104 @@ has-added blocks word power other within is =
           ap (λ (b : ℕ). bit_at b j == 1) (get_or-set_other blocks (word / 64) (other / 64) new 0 apart)
           ∙ sym (ap (λ (b : Bool). has_word blocks other || b) (ne_eqb word other (λ e. apart (ap (λ (n : ℕ). n / 64) (sym e)))) ∙ or_false (has_word blocks other))
     ]
+
+-- bits of a block are set in it
+pub has-merged : (blocks : List ℕ) (block bits other : ℕ) → block < length blocks
+    → has_word (slice_set blocks block (bit_or (slice_index blocks block) bits)) other ≡ (has_word blocks other || is_due block bits other)
+has-merged blocks block bits other within =
+    let old = slice_index blocks block in
+    let new = bit_or old bits in
+    let j = other % 64 in
+    elim (cases_eq (other / 64) block) [
+      | inl same ↦
+          ap (λ (b : ℕ). bit_at b j == 1) (ap (slice_index (slice_set blocks block new)) same ∙ get_or-set_same blocks block new 0 within)
+          ∙ ap (λ (b : ℕ). b == 1) (bit_at_or old bits j) ∙ max_either (bit_at old j) (bit_at bits j) (bit_at-lt old j) (bit_at-lt bits j)
+          ∙ ap (λ (b : ℕ). (bit_at (slice_index blocks b) j == 1) || (bit_at bits j == 1)) (sym same)
+          ∙ sym (ap (λ (b : Bool). has_word blocks other || (b && bit_at bits j == 1)) (eq-eqb (other / 64) block same))
+      | inr apart ↦
+          ap (λ (b : ℕ). bit_at b j == 1) (get_or-set_other blocks block (other / 64) new 0 apart)
+          ∙ sym (ap (λ (b : Bool). has_word blocks other || (b && bit_at bits j == 1)) (ne_eqb (other / 64) block apart) ∙ or_false (has_word blocks other))
+    ]
+  where
+    max_either : (a b : ℕ) → a < 2 → b < 2 → (max a b == 1) ≡ ((a == 1) || (b == 1))
+    max_either zero zero x y = refl
+    max_either zero (suc zero) x y = refl
+    max_either (suc zero) zero x y = refl
+    max_either (suc zero) (suc zero) x y = refl
+    max_either (suc (suc a)) b x y = absurd (omega (arith, x))
+    max_either a (suc (suc b)) x y = absurd (omega (arith, y))
+
+-- of no bits none is to be set
+pub due-none : (block bits other : ℕ) → bits ≡ 0 → is_due block bits other ≡ false
+due-none block bits other none = ap (λ (n : ℕ). (other / 64 == block) && (bit_at n (other % 64) == 1)) none ∙ ap (λ (n : ℕ). (other / 64 == block) && (n == 1)) (bit_at-zero (other % 64)) ∙ and_false (other / 64 == block)
+  where
+    and_false : (b : Bool) → (b && false) ≡ false
+    and_false true = refl
+    and_false false = refl
+
+-- and of one more the word of that bit
+pub due-more : (block bits k power other : ℕ) → k < 64 → power ≡ 2 ^ k → is_due block (bit_or bits power) other ≡ (is_due block bits other || 64 * block + k == other)
+due-more block bits k power other low is =
+    let j = other % 64 in
+    let set : (bit_at (bit_or bits power) j == 1) ≡ (max (bit_at bits j) (bit_at (2 ^ k) j) == 1) =
+    ap (λ (n : ℕ). bit_at (bit_or bits n) j == 1) is ∙ ap (λ (b : ℕ). b == 1) (bit_at_or bits (2 ^ k) j) in
+    elim (cases_eq (64 * block + k) other) [
+      | inl here ↦
+          let there : other / 64 ≡ block = omega (arith, here, low) in
+          let bit : j ≡ k = omega (arith, here, low) in
+          ap (λ (b : Bool). (other / 64 == block) && b) (set ∙ ap (λ (n : ℕ). max (bit_at bits j) n == 1) (ap (bit_at (2 ^ k)) bit ∙ bit_at-pow_same k) ∙ ap (λ (n : ℕ). n == 1) (max_one (bit_at bits j) (bit_at-lt bits j)))
+          ∙ ap (λ (b : Bool). b && true) (eq-eqb (other / 64) block there)
+          ∙ sym (ap (λ (b : Bool). is_due block bits other || b) (eq-eqb (64 * block + k) other here) ∙ or_true (is_due block bits other))
+      | inr apart ↦
+          elim (cases_eq (other / 64) block) [
+            | inl there ↦
+                let bit : j ≡ k → ⊥ = λ e. apart (omega (arith, there, e)) in
+                ap (λ (b : Bool). (other / 64 == block) && b) (set ∙ ap (λ (n : ℕ). max (bit_at bits j) n == 1) (bit_at-pow_other k j bit) ∙ ap (λ (n : ℕ). n == 1) (max-zero (bit_at bits j)))
+                ∙ sym (ap (λ (b : Bool). is_due block bits other || b) (ne_eqb (64 * block + k) other apart) ∙ or_false (is_due block bits other))
+            | inr other_block ↦
+                ap (λ (b : Bool). b && bit_at (bit_or bits power) j == 1) (ne_eqb (other / 64) block other_block)
+                ∙ sym (ap (λ (b : Bool). is_due block bits other || b) (ne_eqb (64 * block + k) other apart) ∙ or_false (is_due block bits other)
+                ∙ ap (λ (b : Bool). b && bit_at bits j == 1) (ne_eqb (other / 64) block other_block))
+          ]
+    ]
+
+pub due-one : (block k power other : ℕ) → k < 64 → power ≡ 2 ^ k → is_due block power other ≡ (64 * block + k == other)
+due-one block k power other low is =
+    ap (λ (n : ℕ). is_due block n other) (sym (or_zero_l power)) ∙ due-more block 0 k power other low is ∙ ap (λ (b : Bool). b || 64 * block + k == other) (due-none block 0 other refl)
+
+pub or_assoc : (a b c : Bool) → (a || (b || c)) ≡ ((a || b) || c)
+or_assoc true b c = refl
+or_assoc false b c = refl
+
+-- a number rotated by three bits is small where it is a small multiple of 8
+pub rotated : (n k : ℕ) → n < 2 ^ 32 → k ≡ rotate_right w32 n 3 → k < 64 → (n % 8 ≡ 0) × (k ≡ n / 8)
+rotated n k low is small =
+    let high : n * 2 ^ 29 % 2 ^ 32 ≡ n % 8 * 2 ^ 29 = omega arith in
+    let sum : rotate_right w32 n 3 ≡ n % 8 * 2 ^ 29 + n / 8 =
+    or_comm (n / 2 ^ 3) (n * 2 ^ 29 % 2 ^ 32) ∙ ap (λ (m : ℕ). bit_or m (n / 2 ^ 3)) high ∙ or_shifted (n % 8) 29 (n / 2 ^ 3) (omega (arith, low)) in
+    let none : n % 8 ≡ 0 = omega (arith, is, sum, small) in
+    (none, omega (arith, is, sum, none))
+
+-- the word of an item for a whole word
+pub item_due : (item word : ℕ) → item % 8 ≡ 1 → list_any (λ p. p / 4 == word) (places_of_item item) ≡ (item / 8 == word)
+item_due item word whole =
+    let p = item / 2 in
+    let b = item / 8 == word in
+    let is = λ (n : ℕ) (e : n ≡ item / 8). ap (λ (k : ℕ). k == word) e in
+    let first : p / 4 ≡ item / 8 = omega arith in
+    let second : (p + 1) / 4 ≡ item / 8 = omega (arith, whole) in
+    let third : (p + 1 + 1) / 4 ≡ item / 8 = omega (arith, whole) in
+    let fourth : (p + 1 + 1 + 1) / 4 ≡ item / 8 = omega (arith, whole) in
+    ap (list_any (λ p. p / 4 == word)) (item_word item (omega (arith, whole)))
+    ∙ ap (λ (t : Bool). t || ((p + 1) / 4 == word || ((p + 1 + 1) / 4 == word || ((p + 1 + 1 + 1) / 4 == word || false)))) (is (p / 4) first)
+    ∙ ap (λ (t : Bool). b || (t || ((p + 1 + 1) / 4 == word || ((p + 1 + 1 + 1) / 4 == word || false)))) (is ((p + 1) / 4) second)
+    ∙ ap (λ (t : Bool). b || (b || (t || ((p + 1 + 1 + 1) / 4 == word || false)))) (is ((p + 1 + 1) / 4) third)
+    ∙ ap (λ (t : Bool). b || (b || (b || (t || false)))) (is ((p + 1 + 1 + 1) / 4) fourth)
+    ∙ all b
+  where
+    all : (b : Bool) → (b || (b || (b || (b || false)))) ≡ b
+    all true = refl
+    all false = refl
 
 -- no bit of blocks that are 0
 pub has-none : (blocks : List ℕ) (word : ℕ) → slice_index blocks (word / 64) ≡ 0 → has_word blocks word ≡ false

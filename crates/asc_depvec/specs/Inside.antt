@@ -1,5 +1,6 @@
 -- How a tracer's fields stand for a tracer, and words of private contracts.
-use Rattle.std.specs.Prelude.{◌≡◌, ℕ, zero, suc, ◌+◌, ◌*◌, ◌%◌, ◌^◌, ◌<◌, ◌≤◌, Bool, true, false, ◌==◌, ◌||◌, nat_lt, List, [], ◌∷◌, length, map, slice_index, slice_set, All, vec_capacity, if◌then◌else◌}
+use Rattle.std.specs.Prelude.{◌≡◌, ℕ, zero, suc, ◌+◌, ◌*◌, ◌/◌, ◌%◌, ◌^◌, ◌<◌, ◌≤◌, Bool, true, false, ◌==◌, ◌&&◌, ◌||◌, nat_lt, List, [], ◌∷◌, length, map, slice_index, slice_set, All, vec_capacity, if◌then◌else◌}
+use Rattle.std.specs.Int.{bit_at}
 use Rattle.asc_model.specs.declared.status.Status.{Status}
 use Rattle.asc_model.specs.declared.status.Status.TheVariants.{Untouched, Read, Written, ReadWritten}
 use Rattle.asc_model.specs.Shape.{length_of}
@@ -28,6 +29,10 @@ abbrev pub mixed : (start bytes : List ℕ) → List Status → List ℕ
 mixed (first ∷ start) (byte ∷ bytes) (status ∷ statuses) =
     (if is_untouched status then first else byte) ∷ mixed start bytes statuses
 mixed start bytes statuses = []
+
+-- whether a word's bit is among bits of a block that are still to be set
+abbrev pub is_due : (block bits word : ℕ) → Bool
+is_due block bits word = (word / 64 == block) && (bit_at bits (word % 64) == 1)
 
 -- places, each with its byte
 abbrev pub noted : List ℕ → List ℕ → List (ℕ × ℕ)

@@ -5,6 +5,7 @@ ghost use Rattle.std.specs.List.Sorted.{IsNonDecreasingBy};
 ghost use Rattle.asc_model.specs.Places.{places_from};
 ghost use Rattle.asc_depvec.specs.Tracer.{places_of, places_of_item};
 ghost use Rattle.asc_depvec.specs.Bits.{AreListed, AreNoted, block_at, has_bit, has_word, live};
+ghost use Rattle.asc_depvec.specs.Inside.{is_due};
 
 use std::alloc::{AllocError, Global};
 
@@ -33,8 +34,39 @@ pub(crate) fn set_items(blocks: &mut [u64], groups: &mut [u64], used: &mut Vec<u
     ensures noted { AreNoted blocks.new groups.new used.new.items }
     ensures capacity { vec_capacity used.new ≡ vec_capacity used.old }
 {
+    // Bits of one block that are still to be set, and the item of its first word.
+    let mut due = 0;
+    let mut first = 1;
     for &item in items {
-        set_item(blocks, groups, used, item);
+        // Of the item of a word of that block this is the word's number in it, and of any other it is greater.
+        let word = item.wrapping_sub(first).rotate_right(3);
+        if word < 64 {
+            due |= 1 << word;
+        } else {
+            set_bits(blocks, groups, used, first / 512, due);
+            set_item(blocks, groups, used, item);
+            due = 0;
+            first = item / 512 * 512 + 1;
+        }
+    }
+    set_bits(blocks, groups, used, first / 512, due);
+}
+
+// Sets bits of a block.
+#[inline]
+fn set_bits(blocks: &mut [u64], groups: &mut [u64], used: &mut Vec<u32>, block: u32, bits: u64)
+    requires within { (bits ≡ 0 → ⊥) → block < length blocks.old }
+    requires groups { length blocks.old ≤ 64 * length groups.old }
+    requires noted { AreNoted blocks.old groups.old used.old.items }
+    requires room { length groups.old ≤ vec_capacity used.old }
+    ensures bits { (word : ℕ) → has_word blocks.new word ≡ (has_word blocks.old word || is_due block bits word) }
+    ensures noted { AreNoted blocks.new groups.new used.new.items }
+    ensures capacity { vec_capacity used.new ≡ vec_capacity used.old }
+{
+    if bits != 0 {
+        let before = blocks[block as usize];
+        note(groups, used, block, before);
+        blocks[block as usize] = before | bits;
     }
 }
 
@@ -69,10 +101,7 @@ fn set_word(blocks: &mut [u64], groups: &mut [u64], used: &mut Vec<u32>, word: u
     ensures noted { AreNoted blocks.new groups.new used.new.items }
     ensures capacity { vec_capacity used.new ≡ vec_capacity used.old }
 {
-    let block = word / 64;
-    let before = blocks[block as usize];
-    note(groups, used, block, before);
-    blocks[block as usize] = before | 1 << (word % 64);
+    set_bits(blocks, groups, used, word / 64, 1 << (word % 64));
 }
 
 // Sets the bit of a block in `groups`, which it has where the block is not 0.

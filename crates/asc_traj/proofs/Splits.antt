@@ -1,8 +1,13 @@
 -- The parts of a word's places: those that were read first, and those that were written.
 use Rattle.std.proofs.Common.{◌≡◌, ℕ, zero, suc, ◌+◌, ◌-◌, ◌*◌, ◌/◌, ◌%◌, ◌^◌, ◌<◌, ◌≤◌, ◌==◌, Bool, true, false, cond, List, [], ◌∷◌, ◌++◌, length, map, take, slice_index, get_or, append_assoc, length-append, refl, sym, ap, subst, ◌∙◌, inl, inr, arith}
-use lib.Count.{ones}
+use lib.Count.{count_trailing_zeros, ones}
 use Rattle.std.specs.Prelude.{All, filter}
-use Rattle.std.proofs.lemmas.Bool.{cases_Bool, cond-false, cond-true}
+use Rattle.std.specs.Int.{bit_at, trailing_zeros, w64}
+use Rattle.std.specs.Int.Bits.{bit_and}
+use Rattle.std.specs.Int.{bit_not}
+use Rattle.std.proofs.lemmas.Nat.{and_le_l}
+use Rattle.std.proofs.lemmas.Bool.{cases_Bool, cases_eq, cases_lt, cond-false, cond-true}
+use Rattle.std.proofs.lemmas.Nat.Bits.{bit_at-trailing_zeros, bit_at-zero, bit_at_above, bit_at_clear_other, bit_at_clear_same}
 use Rattle.std.proofs.lemmas.Grind.{flat_map-append}
 use Rattle.std.proofs.lemmas.List.{append-nil, map-append, take_more}
 use Rattle.std.proofs.lemmas.List.Elements.{All-cons, All-head, All-nil, All-tail, filter-append}
@@ -14,7 +19,7 @@ use Rattle.asc_shape.specs.Face.{status_at}
 use Rattle.asc_depvec.specs.Bits.{has_bit, words_in, words_of_blocks}
 use Rattle.asc_depvec.specs.declared.bitmap.Block.{Block}
 use Rattle.asc_depvec.specs.Tracer.{HaveStatus, Tracing}
-use Rattle.asc_depvec.proofs.Bits.{IsNext, filter-parts, tail-words, word-more, words_count}
+use Rattle.asc_depvec.proofs.Bits.{IsNext, filter-parts, filter-same, word-more, words_count}
 use Rattle.asc_traj.specs.Inside.{HasGrown, HasSplit, is_read_first, is_written, mask_at, mask_of, now_at, places_of_words, read_first, started, written}
 use Rattle.asc_traj.specs.Parts.{all_cells, masked}
 use Rattle.asc_traj.specs.declared.entry.Halves.{Halves}
@@ -103,7 +108,7 @@ pub record IsWord (block : Block) (at word : ℕ) (later : ℕ) : Type 0 where
   pub rest : List ℕ
   pub all : words_in block ≡ words_until block at ++ word ∷ rest
 
-pub next_word : (block : Block) (at skip : ℕ) → IsNext block.bits at skip → IsWord block at (block.first + (at + skip)) (at + skip + 1)
+next_word : (block : Block) (at skip : ℕ) → IsNext block.bits at skip → IsWord block at (block.first + (at + skip)) (at + skip + 1)
 unfolding words_in
 next_word block at skip next =
     let first = block.first in
@@ -119,10 +124,85 @@ next_word block at skip next =
       all = ap (words_until block) (sym whole) ∙ filter-parts g n (64 - n) first ∙ ap (λ (list : List ℕ). list ++ rest) more ∙ append_assoc (words_until block at) (word ∷ []) rest;
     }
 
+-- of the bits of a block those from one on
+pub record IsRest (bits rest at : ℕ) : Type 0 where
+  pub most : at ≤ 64
+  pub below : (i : ℕ) → i < at → bit_at rest i ≡ 0
+  pub above : (i : ℕ) → at ≤ i → bit_at rest i ≡ bit_at bits i
+
+pub all-rest : (bits : ℕ) → IsRest bits bits 0
+all-rest bits = record { most = omega arith; below = λ i lt. absurd (omega (arith, lt)); above = λ i le. refl }
+
+-- the lowest of them is the next one
+rest-first : (bits rest at k : ℕ) → IsRest bits rest at → rest < 2 ^ 64 → (rest ≡ 0 → ⊥) → k ≡ trailing_zeros w64 rest → (at ≤ k) × IsNext bits at (k - at)
+rest-first bits rest at k is small some tz =
+    let found = bit_at-trailing_zeros w64 rest (omega (arith, some)) small in
+    let here : bit_at rest k ≡ 1 = ap (bit_at rest) tz ∙ found.1 in
+    let behind : at ≤ k =
+    elim (cases_lt k at) [
+      | inl lt ↦ absurd (omega (arith, here, is.below k lt))
+      | inr le ↦ le
+    ] in
+    let same : at + (k - at) ≡ k = omega (arith, behind) in (
+      behind,
+      record {
+        within = omega (arith, same, tz, found.0);
+        set = ap (bit_at bits) same ∙ sym (is.above k behind) ∙ here;
+        none = λ i lt. sym (is.above (at + i) (omega arith)) ∙ found.2 (at + i) (omega (arith, lt, tz, behind));
+      },
+    )
+
+-- and its word
+pub rest-word : (block : Block) (rest at k : ℕ) → IsRest block.bits rest at → rest < 2 ^ 64 → (rest ≡ 0 → ⊥) → k ≡ trailing_zeros w64 rest → IsWord block at (block.first + k) (k + 1)
+rest-word block rest at k is small some tz =
+    let first = rest-first block.bits rest at k is small some tz in
+    let same : at + (k - at) ≡ k = omega (arith, first.0) in
+    subst (λ (n : ℕ). IsWord block at (block.first + n) (n + 1)) same (next_word block at (k - at) first.1)
+
+-- and without it the others are left
+pub rest-less : (bits rest at k : ℕ) → IsRest bits rest at → rest < 2 ^ 64 → (rest ≡ 0 → ⊥) → k ≡ trailing_zeros w64 rest → IsRest bits (bit_and rest (bit_not w64 (1 * 2 ^ k % 2 ^ 64))) (k + 1)
+rest-less bits rest at k is small some tz =
+    let found = bit_at-trailing_zeros w64 rest (omega (arith, some)) small in
+    let within : k < 64 = omega (arith, tz, found.0) in
+    let first = rest-first bits rest at k is small some tz in
+    let new = bit_and rest (bit_not w64 (1 * 2 ^ k % 2 ^ 64)) in
+    let same : (i : ℕ) → (i ≡ k → ⊥) → bit_at new i ≡ bit_at rest i =
+    λ i other. elim (cases_lt i 64) [
+      | inl lt ↦ bit_at_clear_other w64 rest k within i lt other
+      | inr past ↦ bit_at_above new 64 i (omega (arith, and_le_l rest (bit_not w64 (1 * 2 ^ k % 2 ^ 64)), small)) past ∙ sym (bit_at_above rest 64 i small past)
+    ] in
+    record {
+      most = omega (arith, within);
+      below = λ i lt. elim (cases_eq i k) [
+        | inl e ↦ ap (bit_at new) e ∙ bit_at_clear_same w64 rest k within
+        | inr other ↦ same i other ∙ found.2 i (omega (arith, lt, other, tz))
+      ];
+      above = λ i le. same i (λ e. omega (arith, e, le)) ∙ is.above i (omega (arith, le, first.0));
+    }
+
+-- a number that is not 0 has a lowest bit
+pub rest-low : (rest : ℕ) → rest < 2 ^ 64 → (rest ≡ 0 → ⊥) → trailing_zeros w64 rest < 64
+rest-low rest small some = (bit_at-trailing_zeros w64 rest (omega (arith, some)) small).0
+
+-- the lowest bit is a higher one then
+pub rest-later : (bits rest k : ℕ) → IsRest bits rest (k + 1) → rest < 2 ^ 64 → k < trailing_zeros w64 rest
+unfolding count_trailing_zeros
+rest-later bits zero k is small = let none : trailing_zeros w64 0 ≡ 64 = refl in omega (arith, is.most, none)
+rest-later bits (suc n) k is small =
+    let found = bit_at-trailing_zeros w64 (suc n) (omega arith) small in
+    elim (cases_lt k (trailing_zeros w64 (suc n))) [
+      | inl lt ↦ lt
+      | inr le ↦ absurd (omega (arith, found.1, is.below (trailing_zeros w64 (suc n)) (omega (arith, le))))
+    ]
+
 -- and where no bit is left they are all
-pub all_words : (block : Block) (at : ℕ) → at ≤ 64 → block.bits / 2 ^ at ≡ 0 → words_until block at ≡ words_in block
+pub all_words : (block : Block) (at : ℕ) → IsRest block.bits 0 at → words_until block at ≡ words_in block
 unfolding words_in
-all_words block at most none = tail-words block.bits block.first at most none
+all_words block at is =
+    let g = has_bit block.bits block.first in
+    let whole : at + (64 - at) ≡ 64 = omega (arith, is.most) in
+    sym (filter-same g at (64 - at) block.first (λ w least most. ap (λ (b : ℕ). b == 1) (sym (is.above (w - block.first) (omega (arith, least))) ∙ bit_at-zero (w - block.first))))
+    ∙ ap (words_until block) whole
 
 All-right : (P : ℕ → Type 0) (xs ys : List ℕ) → All P (xs ++ ys) → All P ys
 All-right P [] ys all = all

@@ -236,13 +236,10 @@ fn split_block(tracer: &Tracer, first: u32, bits: u64, halves: &mut Halves)
     ensures split { HasSplit tracer.now (places_of_words (words_in (record { first = first; bits = bits }))) halves.old halves.new }
 {
     let mut rest = bits;
-    let mut at = 0;
     while rest != 0 {
-        let skip = rest.trailing_zeros();
-        at += skip;
+        let at = rest.trailing_zeros();
+        rest &= !(1 << at);
         split_word(tracer, first + at, halves);
-        rest = (rest >> skip) >> 1;
-        at += 1;
     }
 }
 

@@ -64,7 +64,8 @@ impl Part {
     {
         // That its bytes are bytes.
         let _ = state.shape();
-        self.of(state) == self.word
+        // Where the whole word is the same, no mask is needed.
+        state.word(self.at / 16 * 4) == self.word || self.of(state) == self.word
     }
 
     /// Puts its bytes into a state.
