@@ -1,19 +1,19 @@
 -- Lemmas on the bits of words.
-use Rattle.std.proofs.Common.{get_or, ◌≡◌, ℕ, zero, suc, ◌+◌, ◌-◌, ◌*◌, ◌/◌, ◌%◌, ◌^◌, ◌<◌, ◌≤◌, ◌==◌, ◌&&◌, ◌||◌, Bool, true, false, not, cond, List, [], ◌∷◌, ◌++◌, length, drop, map, take, length-append, refl, sym, ap, subst, ◌∙◌, ◌⊎◌, inl, inr, slice_index, slice_index_or, slice_set, bit_or, max, arith, append_assoc, append-nil, if◌then◌else◌}
+use Rattle.std.proofs.Common.{get_or, ◌≡◌, ℕ, zero, suc, ◌+◌, ◌-◌, ◌*◌, ◌/◌, ◌%◌, ◌^◌, ◌<◌, ◌≤◌, ◌==◌, ◌&&◌, ◌||◌, Bool, true, false, not, cond, List, [], ◌∷◌, ◌++◌, length, drop, map, length-append, refl, sym, ap, subst, ◌∙◌, ◌⊎◌, inl, inr, slice_index, slice_index_or, slice_set, bit_or, max, arith, append_assoc, append-nil, if◌then◌else◌}
 use lib.Count.{ones, ones_step, ones-le}
 use native.Mathlib.Nat.{pow-suc}
-use Rattle.std.specs.Prelude.{All, filter, nat_lt, sum_by}
+use Rattle.std.specs.Prelude.{All, filter, nat_lt}
 use Rattle.std.specs.Int.Bits.{or_zero_l}
 use Rattle.std.specs.Int.{bit_at, rotate_right, trailing_zeros, w32, w64}
 use Rattle.std.specs.List.{list_any}
 use Rattle.std.specs.List.Sorted.{IsNonDecreasingBy, IsPermutation}
-use Rattle.std.proofs.lemmas.Bool.{cases_Bool, cases_eq, cases_lt, cond-false, cond-true, eq-eqb, eqb-true, false≢true, lt-ltb, ne_eqb}
+use Rattle.std.proofs.lemmas.Bool.{cases_Bool, cases_eq, cases_lt, cond-false, cond-true, eq-eqb, eqb-true, false≢true, lt-ltb, ne_eqb, or_from, or_left, or_right}
+use Rattle.std.proofs.Math.Bool.{or-false, or-true}
 use Rattle.std.proofs.lemmas.List.Sorted.{All-permutation, list_any-IsPermutation}
-use Rattle.std.proofs.lemmas.List.{drop_more, get_or-map, get_or_past, get_or-set_other, get_or-set_same, length-map, length-set, map-append, take_more}
+use Rattle.std.proofs.lemmas.List.{drop_more, get_or-map, get_or_past, get_or-set_other, get_or-set_same, length-map, length-set, map-append}
 use Rattle.std.proofs.lemmas.List.Elements.{All-cons, All-nil, filter-append}
-use Rattle.std.proofs.lemmas.List.Sums.{count_by-le-length, sum_by-append, sum_by-cons}
+use Rattle.std.proofs.lemmas.List.Sums.{count_by-le-length, sum_by-cons}
 use Rattle.std.proofs.Math.Nat.{div-div-eq-div-mul, max-zero}
-use Rattle.std.proofs.Math.Pow.{pow-lt}
 use Rattle.std.proofs.lemmas.Nat.{or_comm, or_shifted, pow-add}
 use Rattle.std.proofs.lemmas.Nat.Bits.{bit_at_above, bit_at-lt, bit_at-pow_other, bit_at-pow_same, bit_at-trailing_zeros, bit_at-suc, bit_at-zero, bit_at_lowest, bit_at_or}
 use Rattle.asc_model.specs.Places.{places_from}
@@ -25,7 +25,7 @@ use Rattle.asc_depvec.specs.Bits.{AreListed, AreNoted, block_at, has_bit, has_wo
 use Rattle.asc_depvec.specs.declared.bitmap.Block.{Block}
 use Rattle.asc_depvec.specs.Inside.{is_due, noted}
 use Rattle.asc_depvec.specs.Tracer.{is_touched_word, places_of_item}
-use Rattle.asc_depvec.proofs.Items.{item_place, item_word}
+use Rattle.asc_depvec.proofs.Items.{item_word}
 use Rattle.asc_depvec.proofs.Marking.{Fits, times}
 
 -- ---- filters of places in a row
@@ -86,51 +86,10 @@ bit_false b e = ap (λ (k : ℕ). k == 1) e
 bit_true : (b : ℕ) → b ≡ 1 → (b == 1) ≡ true
 bit_true b e = ap (λ (k : ℕ). k == 1) e
 
-or_true : (b : Bool) → (b || true) ≡ true
-or_true true = refl
-or_true false = refl
-
-pub or_false : (b : Bool) → (b || false) ≡ b
-or_false true = refl
-or_false false = refl
-
 max_one : (b : ℕ) → b < 2 → max b 1 ≡ 1
 max_one zero lt = refl
 max_one (suc zero) lt = refl
 max_one (suc (suc b)) lt = absurd (omega (arith, lt))
-
--- the power of a bit
-pub bit_power : (k : ℕ) → k < 64 → 1 * 2 ^ k % 2 ^ 64 ≡ 2 ^ k
-bit_power k lt = let small : 2 ^ k < 2 ^ 64 = pow-lt lt in omega (arith, small)
-
--- one bit more
-pub has-added : (blocks : List ℕ) (word power other : ℕ) → word / 64 < length blocks → power ≡ 2 ^ (word % 64)
-    → has_word (slice_set blocks (word / 64) (bit_or (slice_index blocks (word / 64)) power)) other ≡ (has_word blocks other || word == other)
-has-added blocks word power other within is =
-    let old = slice_index blocks (word / 64) in
-    let new = bit_or old power in
-    let k = word % 64 in
-    let j = other % 64 in
-    elim (cases_eq (other / 64) (word / 64)) [
-      | inl same ↦
-          let stored : slice_index (slice_set blocks (word / 64) new) (other / 64) ≡ new =
-          ap (slice_index (slice_set blocks (word / 64) new)) same ∙ get_or-set_same blocks (word / 64) new 0 within in
-          let before : has_word blocks other ≡ (bit_at old j == 1) = ap (λ (b : ℕ). bit_at (slice_index blocks b) j == 1) same in
-          let set : (bit_at (slice_index (slice_set blocks (word / 64) new) (other / 64)) j == 1) ≡ (max (bit_at old j) (bit_at (2 ^ k) j) == 1) =
-          ap (λ (b : ℕ). bit_at b j == 1) (stored ∙ ap (bit_or old) is) ∙ ap (λ (b : ℕ). b == 1) (bit_at_or old (2 ^ k) j) in
-          elim (cases_eq j k) [
-            | inl here ↦
-                let both : word ≡ other = omega (arith, same, here) in
-                set ∙ ap (λ (b : ℕ). max (bit_at old j) b == 1) (ap (bit_at (2 ^ k)) here ∙ bit_at-pow_same k) ∙ ap (λ (b : ℕ). b == 1) (max_one (bit_at old j) (bit_at-lt old j))
-                ∙ sym (ap (λ (b : Bool). has_word blocks other || b) (eq-eqb word other both) ∙ or_true (has_word blocks other))
-            | inr there ↦
-                set ∙ ap (λ (b : ℕ). max (bit_at old j) b == 1) (bit_at-pow_other k j there) ∙ ap (λ (b : ℕ). b == 1) (max-zero (bit_at old j)) ∙ sym before
-                ∙ sym (ap (λ (b : Bool). has_word blocks other || b) (ne_eqb word other (λ e. there (ap (λ (n : ℕ). n % 64) (sym e)))) ∙ or_false (has_word blocks other))
-          ]
-      | inr apart ↦
-          ap (λ (b : ℕ). bit_at b j == 1) (get_or-set_other blocks (word / 64) (other / 64) new 0 apart)
-          ∙ sym (ap (λ (b : Bool). has_word blocks other || b) (ne_eqb word other (λ e. apart (ap (λ (n : ℕ). n / 64) (sym e)))) ∙ or_false (has_word blocks other))
-    ]
 
 -- bits of a block are set in it
 pub has-merged : (blocks : List ℕ) (block bits other : ℕ) → block < length blocks
@@ -147,7 +106,7 @@ has-merged blocks block bits other within =
           ∙ sym (ap (λ (b : Bool). has_word blocks other || (b && bit_at bits j == 1)) (eq-eqb (other / 64) block same))
       | inr apart ↦
           ap (λ (b : ℕ). bit_at b j == 1) (get_or-set_other blocks block (other / 64) new 0 apart)
-          ∙ sym (ap (λ (b : Bool). has_word blocks other || (b && bit_at bits j == 1)) (ne_eqb (other / 64) block apart) ∙ or_false (has_word blocks other))
+          ∙ sym (ap (λ (b : Bool). has_word blocks other || (b && bit_at bits j == 1)) (ne_eqb (other / 64) block apart) ∙ or-false (has_word blocks other))
     ]
   where
     max_either : (a b : ℕ) → a < 2 → b < 2 → (max a b == 1) ≡ ((a == 1) || (b == 1))
@@ -178,16 +137,16 @@ due-more block bits k power other low is =
           let bit : j ≡ k = omega (arith, here, low) in
           ap (λ (b : Bool). (other / 64 == block) && b) (set ∙ ap (λ (n : ℕ). max (bit_at bits j) n == 1) (ap (bit_at (2 ^ k)) bit ∙ bit_at-pow_same k) ∙ ap (λ (n : ℕ). n == 1) (max_one (bit_at bits j) (bit_at-lt bits j)))
           ∙ ap (λ (b : Bool). b && true) (eq-eqb (other / 64) block there)
-          ∙ sym (ap (λ (b : Bool). is_due block bits other || b) (eq-eqb (64 * block + k) other here) ∙ or_true (is_due block bits other))
+          ∙ sym (ap (λ (b : Bool). is_due block bits other || b) (eq-eqb (64 * block + k) other here) ∙ or-true (is_due block bits other))
       | inr apart ↦
           elim (cases_eq (other / 64) block) [
             | inl there ↦
                 let bit : j ≡ k → ⊥ = λ e. apart (omega (arith, there, e)) in
                 ap (λ (b : Bool). (other / 64 == block) && b) (set ∙ ap (λ (n : ℕ). max (bit_at bits j) n == 1) (bit_at-pow_other k j bit) ∙ ap (λ (n : ℕ). n == 1) (max-zero (bit_at bits j)))
-                ∙ sym (ap (λ (b : Bool). is_due block bits other || b) (ne_eqb (64 * block + k) other apart) ∙ or_false (is_due block bits other))
+                ∙ sym (ap (λ (b : Bool). is_due block bits other || b) (ne_eqb (64 * block + k) other apart) ∙ or-false (is_due block bits other))
             | inr other_block ↦
                 ap (λ (b : Bool). b && bit_at (bit_or bits power) j == 1) (ne_eqb (other / 64) block other_block)
-                ∙ sym (ap (λ (b : Bool). is_due block bits other || b) (ne_eqb (64 * block + k) other apart) ∙ or_false (is_due block bits other)
+                ∙ sym (ap (λ (b : Bool). is_due block bits other || b) (ne_eqb (64 * block + k) other apart) ∙ or-false (is_due block bits other)
                 ∙ ap (λ (b : Bool). b && bit_at bits j == 1) (ne_eqb (other / 64) block other_block))
           ]
     ]
@@ -196,9 +155,13 @@ pub due-one : (block k power other : ℕ) → k < 64 → power ≡ 2 ^ k → is_
 due-one block k power other low is =
     ap (λ (n : ℕ). is_due block n other) (sym (or_zero_l power)) ∙ due-more block 0 k power other low is ∙ ap (λ (b : Bool). b || 64 * block + k == other) (due-none block 0 other refl)
 
-pub or_assoc : (a b c : Bool) → (a || (b || c)) ≡ ((a || b) || c)
-or_assoc true b c = refl
-or_assoc false b c = refl
+-- one bit more is set in a block
+pub has-added : (blocks : List ℕ) (word power other : ℕ) → word / 64 < length blocks → power ≡ 2 ^ (word % 64)
+    → has_word (slice_set blocks (word / 64) (bit_or (slice_index blocks (word / 64)) power)) other ≡ (has_word blocks other || word == other)
+has-added blocks word power other within is =
+    let same : 64 * (word / 64) + word % 64 ≡ word = omega arith in
+    has-merged blocks (word / 64) power other within
+    ∙ ap (λ (b : Bool). has_word blocks other || b) (due-one (word / 64) (word % 64) power other (omega arith) is ∙ ap (λ (n : ℕ). n == other) same)
 
 -- a number rotated by three bits is small where it is a small multiple of 8
 pub rotated : (n k : ℕ) → n < 2 ^ 32 → k ≡ rotate_right w32 n 3 → k < 64 → (n % 8 ≡ 0) × (k ≡ n / 8)
@@ -240,7 +203,7 @@ has-already blocks word other has = elim (cases_eq word other) [
   | inl same ↦
       let set : has_word blocks other ≡ true = ap (has_word blocks) (sym same) ∙ has in
       set ∙ sym (ap (λ (b : Bool). b || word == other) set)
-  | inr apart ↦ sym (ap (λ (b : Bool). has_word blocks other || b) (ne_eqb word other apart) ∙ or_false (has_word blocks other))
+  | inr apart ↦ sym (ap (λ (b : Bool). has_word blocks other || b) (ne_eqb word other apart) ∙ or-false (has_word blocks other))
 ]
 
 -- blocks of which one more is marked
@@ -248,7 +211,7 @@ pub marked-more : (blocks groups now : List ℕ) (number value : ℕ) → ((bloc
     → ((other : ℕ) → has_word now other ≡ (has_word groups other || number == other))
     → (block : ℕ) → (slice_index (slice_set blocks number value) block ≡ 0 → ⊥) → has_word now block ≡ true
 marked-more blocks groups now number value marked bits block some = elim (cases_eq block number) [
-  | inl same ↦ bits block ∙ ap (λ (b : Bool). has_word groups block || b) (eq-eqb number block (sym same)) ∙ or_true (has_word groups block)
+  | inl same ↦ bits block ∙ ap (λ (b : Bool). has_word groups block || b) (eq-eqb number block (sym same)) ∙ or-true (has_word groups block)
   | inr other ↦ bits block ∙ ap (λ (b : Bool). b || number == block) (marked block (λ zero. some (get_or-set_other blocks number block value 0 other ∙ zero)))
 ]
 
@@ -290,8 +253,6 @@ live-set (x ∷ blocks) (suc i) value within some =
     let now = sum_by-cons one x (slice_set blocks i value) in
     omega (arith, before, now, live-set blocks i value (omega (arith, within)) some)
 
--- ---- the words of places
-
 -- ---- touched words
 
 -- a place is listed where it is counted
@@ -326,15 +287,6 @@ any_either : (f g : ℕ → Bool) (xs : List ℕ) → list_any (λ x. f x || g x
 any_either f g [] = refl
 any_either f g (x ∷ xs) = ap (λ (b : Bool). (f x || g x) || b) (any_either f g xs) ∙ or_swap (f x) (g x) (list_any f xs) (list_any g xs)
 
-or_second : (a b : Bool) → b ≡ true → (a || b) ≡ true
-or_second a b e = ap (λ (t : Bool). a || t) e ∙ or_true a
-
-or_first : (a b : Bool) → a ≡ true → (a || b) ≡ true
-or_first a b e = ap (λ (t : Bool). t || b) e
-
-or_neither : (a b : Bool) → a ≡ false → b ≡ false → (a || b) ≡ false
-or_neither a b e f = ap (λ (t : Bool). t || b) e ∙ f
-
 -- a place is one of a word's where it stands in it
 word_has : (x word : ℕ) → list_any (λ p. x == p) (places_from (4 * word) 4) ≡ (x / 4 == word)
 word_has x word =
@@ -351,23 +303,23 @@ word_has x word =
         ])
       ]) ∙ sym (eq-eqb (x / 4) word e)
       | inr ne ↦
-          or_neither (x == a) ((x == a + 1) || ((x == a + 1 + 1) || ((x == a + 1 + 1 + 1) || false))) (ne_eqb x a (λ h. ne (omega (arith, h))))
-          (or_neither (x == a + 1) ((x == a + 1 + 1) || ((x == a + 1 + 1 + 1) || false)) (ne_eqb x (a + 1) (λ h. ne (omega (arith, h))))
-          (or_neither (x == a + 1 + 1) ((x == a + 1 + 1 + 1) || false) (ne_eqb x (a + 1 + 1) (λ h. ne (omega (arith, h))))
-          (or_neither (x == a + 1 + 1 + 1) false (ne_eqb x (a + 1 + 1 + 1) (λ h. ne (omega (arith, h)))) refl)))
+          or_from (x == a) ((x == a + 1) || ((x == a + 1 + 1) || ((x == a + 1 + 1 + 1) || false))) (ne_eqb x a (λ h. ne (omega (arith, h))))
+          (or_from (x == a + 1) ((x == a + 1 + 1) || ((x == a + 1 + 1 + 1) || false)) (ne_eqb x (a + 1) (λ h. ne (omega (arith, h))))
+          (or_from (x == a + 1 + 1) ((x == a + 1 + 1 + 1) || false) (ne_eqb x (a + 1 + 1) (λ h. ne (omega (arith, h))))
+          (or_from (x == a + 1 + 1 + 1) false (ne_eqb x (a + 1 + 1 + 1) (λ h. ne (omega (arith, h)))) refl)))
           ∙ sym (ne_eqb (x / 4) word ne)
     ]
   where
     found : (a : ℕ) → (x ≡ a) ⊎ ((x ≡ a + 1) ⊎ ((x ≡ a + 1 + 1) ⊎ (x ≡ a + 1 + 1 + 1))) → list_any (λ p. x == p) (places_from a 4) ≡ true
-    found a (inl h) = or_first (x == a) ((x == a + 1) || ((x == a + 1 + 1) || ((x == a + 1 + 1 + 1) || false))) (eq-eqb x a h)
-    found a (inr (inl h)) = or_second (x == a) ((x == a + 1) || ((x == a + 1 + 1) || ((x == a + 1 + 1 + 1) || false))) (or_first (x == a + 1) ((x == a + 1 + 1) || ((x == a + 1 + 1 + 1) || false)) (eq-eqb x (a + 1) h))
+    found a (inl h) = or_left (x == a) ((x == a + 1) || ((x == a + 1 + 1) || ((x == a + 1 + 1 + 1) || false))) (eq-eqb x a h)
+    found a (inr (inl h)) = or_right (x == a) ((x == a + 1) || ((x == a + 1 + 1) || ((x == a + 1 + 1 + 1) || false))) (or_left (x == a + 1) ((x == a + 1 + 1) || ((x == a + 1 + 1 + 1) || false)) (eq-eqb x (a + 1) h))
     found a (inr (inr (inl h))) =
-        or_second (x == a) ((x == a + 1) || ((x == a + 1 + 1) || ((x == a + 1 + 1 + 1) || false)))
-        (or_second (x == a + 1) ((x == a + 1 + 1) || ((x == a + 1 + 1 + 1) || false)) (or_first (x == a + 1 + 1) ((x == a + 1 + 1 + 1) || false) (eq-eqb x (a + 1 + 1) h)))
+        or_right (x == a) ((x == a + 1) || ((x == a + 1 + 1) || ((x == a + 1 + 1 + 1) || false)))
+        (or_right (x == a + 1) ((x == a + 1 + 1) || ((x == a + 1 + 1 + 1) || false)) (or_left (x == a + 1 + 1) ((x == a + 1 + 1 + 1) || false) (eq-eqb x (a + 1 + 1) h)))
     found a (inr (inr (inr h))) =
-        or_second (x == a) ((x == a + 1) || ((x == a + 1 + 1) || ((x == a + 1 + 1 + 1) || false)))
-        (or_second (x == a + 1) ((x == a + 1 + 1) || ((x == a + 1 + 1 + 1) || false))
-        (or_second (x == a + 1 + 1) ((x == a + 1 + 1 + 1) || false) (or_first (x == a + 1 + 1 + 1) false (eq-eqb x (a + 1 + 1 + 1) h))))
+        or_right (x == a) ((x == a + 1) || ((x == a + 1 + 1) || ((x == a + 1 + 1 + 1) || false)))
+        (or_right (x == a + 1) ((x == a + 1 + 1) || ((x == a + 1 + 1 + 1) || false))
+        (or_right (x == a + 1 + 1) ((x == a + 1 + 1 + 1) || false) (or_left (x == a + 1 + 1 + 1) false (eq-eqb x (a + 1 + 1 + 1) h))))
 
 any_word : (places : List ℕ) (word : ℕ) → list_any (λ p. p / 4 == word) places ≡ list_any (λ p. is_among p places) (places_from (4 * word) 4)
 any_word [] word = refl
@@ -570,12 +522,6 @@ words_count (suc n) bits first low =
           omega (arith, zero_bit, same, alike, half, step)
     ]
 
--- a sum over one more of a list
-pub sum-take : (f : ℕ → ℕ) (xs : List ℕ) (i d : ℕ) → i < length xs → sum_by f (take (i + 1) xs) ≡ sum_by f (take i xs) + f (slice_index_or xs i d)
-sum-take f xs i d within =
-    let one = sum_by-cons f (slice_index_or xs i d) [] in
-    ap (sum_by f) (take_more xs i d within) ∙ sum_by-append f (take i xs) (slice_index_or xs i d ∷ []) ∙ ap (λ (n : ℕ). sum_by f (take i xs) + n) (omega (arith, one))
-
 -- the next block has a place among them
 pub block-room : (group from at skip : ℕ) → group < 2 ^ 64 → IsNext group at skip → length (filter (has_bit group from) (places_from from at)) < ones group
 block-room group from at skip low next =
@@ -616,7 +562,7 @@ among-filter g (suc n) place b least most pass =
       | inr apart ↦
           let later : is_among b rest ≡ true = among-filter g n (place + 1) b (omega (arith, least, apart)) (omega (arith, most)) pass in
           elim (cases_Bool (g place)) [
-            | inl e ↦ ap (is_among b) (cond-true (g place) (place ∷ rest) rest e) ∙ or_second (place == b) (is_among b rest) later
+            | inl e ↦ ap (is_among b) (cond-true (g place) (place ∷ rest) rest e) ∙ or_right (place == b) (is_among b rest) later
             | inr e ↦ ap (is_among b) (cond-false (g place) (place ∷ rest) rest e) ∙ later
           ]
     ]
@@ -684,9 +630,9 @@ past_word statuses word past =
     let a = 4 * word in
     let f : ℕ → Bool = λ place. not (is_untouched (status_at statuses place)) in
     let none : (p : ℕ) → a ≤ p → f p ≡ false = λ p le. ap (λ (s : Status). not (is_untouched s)) (get_or_past statuses p Untouched (omega (arith, past, le))) in
-    or_neither (f a) (f (a + 1) || (f (a + 1 + 1) || (f (a + 1 + 1 + 1) || false))) (none a (omega arith))
-    (or_neither (f (a + 1)) (f (a + 1 + 1) || (f (a + 1 + 1 + 1) || false)) (none (a + 1) (omega arith))
-    (or_neither (f (a + 1 + 1)) (f (a + 1 + 1 + 1) || false) (none (a + 1 + 1) (omega arith)) (or_neither (f (a + 1 + 1 + 1)) false (none (a + 1 + 1 + 1) (omega arith)) refl)))
+    or_from (f a) (f (a + 1) || (f (a + 1 + 1) || (f (a + 1 + 1 + 1) || false))) (none a (omega arith))
+    (or_from (f (a + 1)) (f (a + 1 + 1) || (f (a + 1 + 1 + 1) || false)) (none (a + 1) (omega arith))
+    (or_from (f (a + 1 + 1)) (f (a + 1 + 1 + 1) || false) (none (a + 1 + 1) (omega arith)) (or_from (f (a + 1 + 1 + 1)) false (none (a + 1 + 1 + 1) (omega arith)) refl)))
 
 -- the words whose bits are set are the touched ones
 pub words_are : (n m : ℕ) (statuses : List Status) (bytes places blocks : List ℕ) → Fits n statuses (noted bytes places) → ((word : ℕ) → has_word blocks word ≡ list_any (λ p. p / 4 == word) places)

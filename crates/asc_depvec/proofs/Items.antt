@@ -70,11 +70,11 @@ word_cut items item place odd is =
 
 -- ---- what holds of all places
 
-pub All-first : (P : ℕ → Type 0) (a b : List ℕ) → All P (a ++ b) → All P a
+pub All-first : {X : Type 0} (P : X → Type 0) (a b : List X) → All P (a ++ b) → All P a
 All-first P [] b all = All-nil P
 All-first P (x ∷ a) b all = All-cons P x a (All-head P x (a ++ b) all) (All-first P a b (All-tail P x (a ++ b) all))
 
-pub All-behind : (P : ℕ → Type 0) (a b : List ℕ) → All P (a ++ b) → All P b
+pub All-behind : {X : Type 0} (P : X → Type 0) (a b : List X) → All P (a ++ b) → All P b
 All-behind P [] b all = all
 All-behind P (x ∷ a) b all = All-behind P a b (All-tail P x (a ++ b) all)
 

@@ -63,7 +63,7 @@ some_item t now is inv some = by_count t.count (subst (λ (l : Listing). 0 < len
     by_count zero h = absurd (omega (arith, h))
     by_count (suc n) h = omega arith
 
-first_low : (P : ℕ → Type 0) (item : ℕ) → All P (places_of_item item) → P (item / 2)
+pub first_low : (P : ℕ → Type 0) (item : ℕ) → All P (places_of_item item) → P (item / 2)
 first_low P item all = elim (cases_eq (item % 2) 1) [
   | inl odd ↦ All-head P (item / 2) ((item / 2 + 1) ∷ (item / 2 + 1 + 1) ∷ (item / 2 + 1 + 1 + 1) ∷ []) (subst (All P) (item_word item odd) all)
   | inr even ↦ All-head P (item / 2) [] (subst (All P) (item_place item (omega (arith, even))) all)

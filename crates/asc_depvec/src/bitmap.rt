@@ -1,4 +1,4 @@
-ghost use Rattle.std.specs.Prelude.{◌≡◌, ℕ, true, ◌+◌, ◌*◌, ◌/◌, ◌^◌, ◌<◌, ◌≤◌, ◌==◌, ◌||◌, Bool, [], ◌++◌, All, IfOk, filter, count_ones, length, map, slice_index, sum_by, vec_capacity, vec_len};
+ghost use Rattle.std.specs.Prelude.{◌≡◌, ℕ, true, ◌+◌, ◌*◌, ◌/◌, ◌%◌, ◌^◌, ◌<◌, ◌≤◌, ◌==◌, ◌||◌, Bool, [], ◌++◌, All, IfOk, filter, count_ones, length, map, slice_index, sum_by, take, vec_capacity, vec_len};
 ghost use Rattle.std.specs.Int.{bit_at};
 ghost use Rattle.std.specs.List.{list_any};
 ghost use Rattle.std.specs.List.Sorted.{IsNonDecreasingBy};
@@ -34,25 +34,42 @@ pub(crate) fn set_items(blocks: &mut [u64], groups: &mut [u64], used: &mut Vec<u
     ensures noted { AreNoted blocks.new groups.new used.new.items }
     ensures capacity { vec_capacity used.new ≡ vec_capacity used.old }
 {
-    // Bits of one block that are still to be set, and the item of its first word.
-    let mut due = 0;
-    let mut first = 1;
-    for &item in items {
-        // Of the item of a word of that block this is the word's number in it, and of any other it is greater.
-        let word = item.wrapping_sub(first).rotate_right(3);
-        if word < 64 {
-            due |= 1 << word;
-        } else {
-            set_bits(blocks, groups, used, first / 512, due);
-            set_item(blocks, groups, used, item);
-            due = 0;
-            first = item / 512 * 512 + 1;
-        }
+    let mut at = 0;
+    while at < items.len() {
+        let item = items[at];
+        set_item(blocks, groups, used, item);
+        let (bits, next) = bits_of(items, at + 1, item / 512 * 512 + 1);
+        set_bits(blocks, groups, used, item / 512, bits);
+        at = next;
     }
-    set_bits(blocks, groups, used, first / 512, due);
 }
 
-// Sets bits of a block.
+// The bits of the items from one on that are for words of one block, and the number of the first other item. `first` is
+// the item of the block's first word.
+#[inline]
+fn bits_of(items: &[u32], from: usize, first: u32) -> (u64, usize)
+    requires from { from ≤ length items.now }
+    requires first { first % 512 ≡ 1 }
+    ensures least { from ≤ result.1 }
+    ensures most { result.1 ≤ length items.now }
+    ensures bits { (word : ℕ) → list_any (λ place. place / 4 == word) (places_of (take result.1 items.now))
+        ≡ (list_any (λ place. place / 4 == word) (places_of (take from items.now)) || is_due (first / 512) result.0 word) }
+{
+    let mut bits = 0;
+    let mut at = from;
+    while at < items.len() {
+        // Of the item of a word of that block this is the word's number in it, and of any other it is greater.
+        let word = items[at].wrapping_sub(first).rotate_right(3);
+        if word >= 64 {
+            break;
+        }
+        bits |= 1 << word;
+        at += 1;
+    }
+    (bits, at)
+}
+
+// Sets these bits of a block.
 #[inline]
 fn set_bits(blocks: &mut [u64], groups: &mut [u64], used: &mut Vec<u32>, block: u32, bits: u64)
     requires within { (bits ≡ 0 → ⊥) → block < length blocks.old }

@@ -11,6 +11,7 @@ use Rattle.std.proofs.lemmas.Nat.{and_block, and_comm, and_mask}
 use Rattle.asc_model.specs.Number.{AreBytes, bytes_of, number_at, word_at}
 use Rattle.asc_model.specs.Places.{bytes_after, cells}
 use Rattle.asc_model.proofs.Numbers.{bytes_after-append, number_at-suc}
+use Rattle.asc_depvec.proofs.Items.{All-behind, All-first}
 use Rattle.asc_traj.specs.declared.part.Part.{Part}
 use Rattle.asc_traj.specs.Parts.{IsPart, all_cells, cells_from, first_from, has_byte, kept, masked, part_cells, part_from, spread, word_place}
 
@@ -242,20 +243,12 @@ part-within m p whole is all =
     let first = masked-within 4 m (p.at % 16) (word_place p) p.word is.some (let lt : p.at % 16 < 16 = omega arith in lt) (subst (All (λ cell. cell.0 < m)) (part_cells-is p) all) in
     omega (arith, first)
 
-All-front : (P : ℕ × ℕ → Type 0) (a b : List (ℕ × ℕ)) → All P (a ++ b) → All P a
-All-front P [] b all = All-nil P
-All-front P (x ∷ a) b all = All-cons P x a (All-head P x (a ++ b) all) (All-front P a b (All-tail P x (a ++ b) all))
-
-All-back : (P : ℕ × ℕ → Type 0) (a b : List (ℕ × ℕ)) → All P (a ++ b) → All P b
-All-back P [] b all = all
-All-back P (x ∷ a) b all = All-back P a b (All-tail P x (a ++ b) all)
-
 pub parts-within : (m : ℕ) (parts : List Part) → m % 4 ≡ 0 → All IsPart parts → All (λ cell. cell.0 < m) (all_cells parts) → All (λ p. word_place p + 4 ≤ m) parts
 parts-within m [] whole are all = All-nil (λ p. word_place p + 4 ≤ m)
 parts-within m (p ∷ parts) whole are all =
     All-cons (λ p. word_place p + 4 ≤ m) p parts
-    (part-within m p whole (All-head IsPart p parts are) (All-front (λ cell. cell.0 < m) (part_cells p) (all_cells parts) all))
-    (parts-within m parts whole (All-tail IsPart p parts are) (All-back (λ cell. cell.0 < m) (part_cells p) (all_cells parts) all))
+    (part-within m p whole (All-head IsPart p parts are) (All-first (λ cell. cell.0 < m) (part_cells p) (all_cells parts) all))
+    (parts-within m parts whole (All-tail IsPart p parts are) (All-behind (λ cell. cell.0 < m) (part_cells p) (all_cells parts) all))
 
 -- ---- cells, one after another
 

@@ -1,16 +1,14 @@
 -- The parts of a word's places: those that were read first, and those that were written.
-use Rattle.std.proofs.Common.{◌≡◌, ℕ, zero, suc, ◌+◌, ◌-◌, ◌*◌, ◌/◌, ◌%◌, ◌^◌, ◌<◌, ◌≤◌, ◌==◌, Bool, true, false, cond, List, [], ◌∷◌, ◌++◌, length, map, take, slice_index, get_or, append_assoc, length-append, refl, sym, ap, subst, ◌∙◌, inl, inr, arith}
+use Rattle.std.proofs.Common.{◌≡◌, ℕ, zero, suc, ◌+◌, ◌-◌, ◌*◌, ◌/◌, ◌%◌, ◌^◌, ◌<◌, ◌≤◌, ◌==◌, Bool, true, false, cond, List, [], ◌∷◌, ◌++◌, length, map, take, slice_index, get_or, append_assoc, length-append, min, refl, sym, ap, subst, ◌∙◌, inl, inr, arith}
 use lib.Count.{count_trailing_zeros, ones}
 use Rattle.std.specs.Prelude.{All, filter}
 use Rattle.std.specs.Int.{bit_at, trailing_zeros, w64}
 use Rattle.std.specs.Int.Bits.{bit_and}
-use Rattle.std.specs.Int.{bit_not}
-use Rattle.std.proofs.lemmas.Nat.{and_le_l}
 use Rattle.std.proofs.lemmas.Bool.{cases_Bool, cases_eq, cases_lt, cond-false, cond-true}
-use Rattle.std.proofs.lemmas.Nat.Bits.{bit_at-trailing_zeros, bit_at-zero, bit_at_above, bit_at_clear_other, bit_at_clear_same}
+use Rattle.std.proofs.lemmas.Nat.Bits.{bit_at-suc, bit_at-trailing_zeros, bit_at-zero, bit_at_and, bit_at_lowest}
 use Rattle.std.proofs.lemmas.Grind.{flat_map-append}
 use Rattle.std.proofs.lemmas.List.{append-nil, map-append, take_more}
-use Rattle.std.proofs.lemmas.List.Elements.{All-cons, All-head, All-nil, All-tail, filter-append}
+use Rattle.std.proofs.lemmas.List.Elements.{All-head, filter-append}
 use Rattle.asc_model.specs.declared.status.Status.{Status}
 use Rattle.asc_model.specs.Number.{AreBytes, bytes_of, word_at}
 use Rattle.asc_model.specs.Places.{cells, places_from}
@@ -20,6 +18,7 @@ use Rattle.asc_depvec.specs.Bits.{has_bit, words_in, words_of_blocks}
 use Rattle.asc_depvec.specs.declared.bitmap.Block.{Block}
 use Rattle.asc_depvec.specs.Tracer.{HaveStatus, Tracing}
 use Rattle.asc_depvec.proofs.Bits.{IsNext, filter-parts, filter-same, word-more, words_count}
+use Rattle.asc_depvec.proofs.Items.{All-behind, All-first}
 use Rattle.asc_traj.specs.Inside.{HasGrown, HasSplit, is_read_first, is_written, mask_at, mask_of, now_at, places_of_words, read_first, started, written}
 use Rattle.asc_traj.specs.Parts.{all_cells, masked}
 use Rattle.asc_traj.specs.declared.entry.Halves.{Halves}
@@ -159,25 +158,44 @@ rest-word block rest at k is small some tz =
     let same : at + (k - at) ≡ k = omega (arith, first.0) in
     subst (λ (n : ℕ). IsWord block at (block.first + n) (n + 1)) same (next_word block at (k - at) first.1)
 
+-- a number less by one has not its lowest bit, and above that the same bits
+bits-pred : (k n : ℕ) → bit_at n k ≡ 1 → ((i : ℕ) → i < k → bit_at n i ≡ 0) → (bit_at (n - 1) k ≡ 0) × ((i : ℕ) → k < i → bit_at (n - 1) i ≡ bit_at n i)
+bits-pred zero n one none =
+    let odd : n % 2 ≡ 1 = sym (bit_at_lowest n) ∙ one in
+    let half : (n - 1) / 2 ≡ n / 2 = omega (arith, odd) in (
+      bit_at_lowest (n - 1) ∙ omega (arith, odd),
+      λ i lt.
+          let next : i ≡ suc (i - 1) = omega (arith, lt) in
+          ap (bit_at (n - 1)) next ∙ bit_at-suc (n - 1) (i - 1) ∙ ap (λ (m : ℕ). bit_at m (i - 1)) half ∙ sym (ap (bit_at n) next ∙ bit_at-suc n (i - 1)),
+    )
+bits-pred (suc k) n one none =
+    let even : n % 2 ≡ 0 = sym (bit_at_lowest n) ∙ none 0 (omega arith) in
+    let some : n ≡ 0 → ⊥ = λ e. let zero_bit = ap (λ (m : ℕ). bit_at m (suc k)) e ∙ bit_at-zero (suc k) in omega (arith, one, zero_bit) in
+    let half : (n - 1) / 2 ≡ n / 2 - 1 = omega (arith, even, some) in
+    let each : (i : ℕ) → bit_at (n - 1) (suc i) ≡ bit_at (n / 2 - 1) i = λ i. bit_at-suc (n - 1) i ∙ ap (λ (m : ℕ). bit_at m i) half in
+    let rest = bits-pred k (n / 2) (sym (bit_at-suc n k) ∙ one) (λ i lt. sym (bit_at-suc n i) ∙ none (suc i) (omega (arith, lt))) in (
+      each k ∙ rest.0,
+      λ i lt.
+          let next : i ≡ suc (i - 1) = omega (arith, lt) in
+          ap (bit_at (n - 1)) next ∙ each (i - 1) ∙ rest.1 (i - 1) (omega (arith, lt)) ∙ sym (ap (bit_at n) next ∙ bit_at-suc n (i - 1)),
+    )
+
 -- and without it the others are left
-pub rest-less : (bits rest at k : ℕ) → IsRest bits rest at → rest < 2 ^ 64 → (rest ≡ 0 → ⊥) → k ≡ trailing_zeros w64 rest → IsRest bits (bit_and rest (bit_not w64 (1 * 2 ^ k % 2 ^ 64))) (k + 1)
+pub rest-less : (bits rest at k : ℕ) → IsRest bits rest at → rest < 2 ^ 64 → (rest ≡ 0 → ⊥) → k ≡ trailing_zeros w64 rest → IsRest bits (bit_and rest (rest - 1)) (k + 1)
 rest-less bits rest at k is small some tz =
     let found = bit_at-trailing_zeros w64 rest (omega (arith, some)) small in
-    let within : k < 64 = omega (arith, tz, found.0) in
+    let here : bit_at rest k ≡ 1 = ap (bit_at rest) tz ∙ found.1 in
+    let lower : (i : ℕ) → i < k → bit_at rest i ≡ 0 = λ i lt. found.2 i (omega (arith, lt, tz)) in
     let first = rest-first bits rest at k is small some tz in
-    let new = bit_and rest (bit_not w64 (1 * 2 ^ k % 2 ^ 64)) in
-    let same : (i : ℕ) → (i ≡ k → ⊥) → bit_at new i ≡ bit_at rest i =
-    λ i other. elim (cases_lt i 64) [
-      | inl lt ↦ bit_at_clear_other w64 rest k within i lt other
-      | inr past ↦ bit_at_above new 64 i (omega (arith, and_le_l rest (bit_not w64 (1 * 2 ^ k % 2 ^ 64)), small)) past ∙ sym (bit_at_above rest 64 i small past)
-    ] in
+    let pred = bits-pred k rest here lower in
+    let both : (i : ℕ) → bit_at (bit_and rest (rest - 1)) i ≡ min (bit_at rest i) (bit_at (rest - 1) i) = bit_at_and rest (rest - 1) in
     record {
-      most = omega (arith, within);
+      most = omega (arith, tz, found.0);
       below = λ i lt. elim (cases_eq i k) [
-        | inl e ↦ ap (bit_at new) e ∙ bit_at_clear_same w64 rest k within
-        | inr other ↦ same i other ∙ found.2 i (omega (arith, lt, other, tz))
+        | inl e ↦ ap (bit_at (bit_and rest (rest - 1))) e ∙ omega (arith, both k, pred.0)
+        | inr other ↦ omega (arith, both i, lower i (omega (arith, lt, other)))
       ];
-      above = λ i le. same i (λ e. omega (arith, e, le)) ∙ is.above i (omega (arith, le, first.0));
+      above = λ i le. omega (arith, both i, pred.1 i (omega (arith, le)), is.above i (omega (arith, le, first.0)));
     }
 
 -- a number that is not 0 has a lowest bit
@@ -204,17 +222,9 @@ all_words block at is =
     sym (filter-same g at (64 - at) block.first (λ w least most. ap (λ (b : ℕ). b == 1) (sym (is.above (w - block.first) (omega (arith, least))) ∙ bit_at-zero (w - block.first))))
     ∙ ap (words_until block) whole
 
-All-right : (P : ℕ → Type 0) (xs ys : List ℕ) → All P (xs ++ ys) → All P ys
-All-right P [] ys all = all
-All-right P (x ∷ xs) ys all = All-right P xs ys (All-tail P x (xs ++ ys) all)
-
-All-left : (P : ℕ → Type 0) (xs ys : List ℕ) → All P (xs ++ ys) → All P xs
-All-left P [] ys all = All-nil P
-All-left P (x ∷ xs) ys all = All-cons P x xs (All-head P x (xs ++ ys) all) (All-left P xs ys (All-tail P x (xs ++ ys) all))
-
 -- what holds of all words of a block holds of the next one
 pub word-holds : (P : ℕ → Type 0) (block : Block) (at word later : ℕ) → IsWord block at word later → All P (words_in block) → P word
-word-holds P block at word later is all = All-head P word is.rest (All-right P (words_until block at) (word ∷ is.rest) (subst (All P) is.all all))
+word-holds P block at word later is all = All-head P word is.rest (All-behind P (words_until block at) (word ∷ is.rest) (subst (All P) is.all all))
 
 -- and there is room for it
 pub word-room : (block : Block) (at word later : ℕ) → IsWord block at word later → length (words_until block at) < length (words_in block)
@@ -225,8 +235,8 @@ word-room block at word later is =
 -- what holds of all words of blocks holds of those of each block
 pub block-holds : (P : ℕ → Type 0) (blocks : List Block) (i : ℕ) (d : Block) → i < length blocks → All P (words_of_blocks blocks) → All P (words_in (get_or blocks i d))
 block-holds P [] i d within all = absurd (omega (arith, within))
-block-holds P (block ∷ blocks) zero d within all = All-left P (words_in block) (words_of_blocks blocks) all
-block-holds P (block ∷ blocks) (suc i) d within all = block-holds P blocks i d (omega (arith, within)) (All-right P (words_in block) (words_of_blocks blocks) all)
+block-holds P (block ∷ blocks) zero d within all = All-first P (words_in block) (words_of_blocks blocks) all
+block-holds P (block ∷ blocks) (suc i) d within all = block-holds P blocks i d (omega (arith, within)) (All-behind P (words_in block) (words_of_blocks blocks) all)
 
 -- the words of one block more
 pub blocks-take : (blocks : List Block) (i : ℕ) (d : Block) → i < length blocks → words_of_blocks (take (i + 1) blocks) ≡ words_of_blocks (take i blocks) ++ words_in (get_or blocks i d)

@@ -5,7 +5,7 @@
 ghost use Rattle.std.specs.Prelude.{◌≡◌};
 ghost use Rattle.asc_model.specs.Shape.{length_of};
 
-use crate::beside::Do::{Steps, Undo};
+use crate::beside::Action::{Steps, Undo};
 use asc_depvec::Tracer;
 use asc_shape::Status::{Read, ReadWritten, Untouched, Written};
 use asc_shape::{Bytes, Guess, Shape, Snapshot, State, Status};
@@ -29,26 +29,28 @@ struct Beside {
     statuses: Vec<Status>,
     // The touched places, in the order of their first touches.
     touched: Vec<u32>,
+    // How many steps went on.
+    steps: u64,
 }
 
 /// What is done with both.
 #[derive(Clone, Copy)]
-enum Do {
+enum Action {
     /// So many steps, or as many as go on.
     Steps(u32),
     /// The places behind so many touched ones are made untouched again.
     Undo(usize),
 }
 
-/// Words from 0x10000 on, registers, and what is done. Then what the last step answers, and statuses and registers.
+/// Words from 0x10000 on, registers, and what is done. Then what the last step answers, and statuses and values of registers.
 struct Case {
     two: bool,
     words: &'static [u32],
     registers: &'static [(u32, u32)],
-    done: &'static [Do],
+    actions: &'static [Action],
     answer: Stepped,
     statuses: &'static [(u32, u32, Status)],
-    after: &'static [(u32, u32)],
+    values: &'static [(u32, u32)],
 }
 
 static CASES: [Case; 7] = [
@@ -63,7 +65,7 @@ static CASES: [Case; 7] = [
             0xFF1F_F06F,
         ],
         registers: &[(8, 0x10000), (9, 0x0001_0100)],
-        done: &[Steps(20)],
+        actions: &[Steps(20)],
         answer: Stepped::Went,
         statuses: &[
             (0, 4, ReadWritten),
@@ -76,14 +78,14 @@ static CASES: [Case; 7] = [
             (144, 4, Read),
             (148, 4, Untouched),
         ],
-        after: &[(5, 2), (7, 2)],
+        values: &[(5, 2), (7, 2)],
     },
     // ADDI x5, x5, 1, which the next step replaces: SW x6, 0(x8)
     Case {
         two: false,
         words: &[0x0012_8293, 0x0064_2023, 0xFF9F_F06F],
         registers: &[(6, 0x0013_8393), (8, 0x10000)],
-        done: &[Steps(6)],
+        actions: &[Steps(6)],
         answer: Stepped::Went,
         statuses: &[
             (0, 4, ReadWritten),
@@ -94,14 +96,14 @@ static CASES: [Case; 7] = [
             (128, 4, ReadWritten),
             (132, 8, Read),
         ],
-        after: &[(5, 1), (7, 1)],
+        values: &[(5, 1), (7, 1)],
     },
     // The word at 0x10008 is read as data and executed later: LW x6, 8(x8)
     Case {
         two: false,
         words: &[0x0084_2303, 0x0012_8293, 0x0030_0393, 0xFF9F_F06F],
         registers: &[(8, 0x10000)],
-        done: &[Steps(7)],
+        actions: &[Steps(7)],
         answer: Stepped::Went,
         statuses: &[
             (0, 4, ReadWritten),
@@ -111,14 +113,14 @@ static CASES: [Case; 7] = [
             (32, 4, Read),
             (128, 16, Read),
         ],
-        after: &[(5, 2), (6, 0x0030_0393), (7, 3)],
+        values: &[(5, 2), (6, 0x0030_0393), (7, 3)],
     },
     // Two words are executed twice, and then a half is put across them: SH x7, 3(x8). The first adds 17 then.
     Case {
         two: false,
         words: &[0x0012_8293, 0xFE62_9EE3, 0x0074_11A3, 0xFF5F_F06F],
         registers: &[(6, 2), (7, 0xE301), (8, 0x10000)],
-        done: &[Steps(7)],
+        actions: &[Steps(7)],
         answer: Stepped::Went,
         statuses: &[
             (0, 4, ReadWritten),
@@ -128,14 +130,14 @@ static CASES: [Case; 7] = [
             (131, 2, ReadWritten),
             (133, 11, Read),
         ],
-        after: &[(5, 19)],
+        values: &[(5, 19)],
     },
     // A lap that ends in a fault at a word that was executed before: LW x6, 0(x9). Then all but the pc is taken back.
     Case {
         two: false,
         words: &[0x0012_8293, 0x0004_A303, 0x0044_8493, 0xFF5F_F06F],
         registers: &[(9, 0x1FFF8)],
-        done: &[Steps(10), Undo(4), Steps(3)],
+        actions: &[Steps(10), Undo(4), Steps(3)],
         answer: Stepped::Went,
         statuses: &[
             (0, 4, ReadWritten),
@@ -147,14 +149,14 @@ static CASES: [Case; 7] = [
             (65_656, 4, Read),
             (65_660, 4, Untouched),
         ],
-        after: &[(5, 0), (9, 0x1FFFC)],
+        values: &[(5, 0), (9, 0x1FFFC)],
     },
     // ADDI x5, x5, 1 and a guest call at a word that was not fetched before. Then all is taken back, and done again.
     Case {
         two: false,
         words: &[0x0012_8293, 0x0000_0073],
         registers: &[],
-        done: &[Steps(2), Undo(0), Steps(2)],
+        actions: &[Steps(2), Undo(0), Steps(2)],
         answer: Stepped::Call,
         statuses: &[
             (0, 4, ReadWritten),
@@ -162,7 +164,7 @@ static CASES: [Case; 7] = [
             (128, 4, Read),
             (132, 4, Untouched),
         ],
-        after: &[(5, 1)],
+        values: &[(5, 1)],
     },
     // Atomics on the word of ADDI x11, x11, 1: AMOADD.W x5, x6, (x8); LR.W x7, (x8); SC.W x10, x7, (x8)
     Case {
@@ -175,7 +177,7 @@ static CASES: [Case; 7] = [
             0xFF1F_F06F,
         ],
         registers: &[(6, 0x0010_0000), (8, 0x1000C), (10, 7)],
-        done: &[Steps(10)],
+        actions: &[Steps(10)],
         answer: Stepped::Went,
         statuses: &[
             (0, 4, ReadWritten),
@@ -191,7 +193,7 @@ static CASES: [Case; 7] = [
             (148, 4, ReadWritten),
             (152, 4, Read),
         ],
-        after: &[(5, 0x0025_8593), (10, 0), (11, 5)],
+        values: &[(5, 0x0025_8593), (10, 0), (11, 5)],
     },
 ];
 
@@ -241,6 +243,7 @@ fn start_beside<R: Abort>(rt: &R, alloc: Global, start: State) -> Beside {
         start,
         statuses,
         touched: Vec::new(alloc),
+        steps: 0,
     }
 }
 
@@ -323,7 +326,7 @@ fn atomic_puts(state: &State, word: u32, rd: Run, at: Run) -> (Run, Run, Run) {
 }
 
 /// The status of a place after a read or a put.
-fn after(status: Status, is_put: bool) -> Status {
+fn status_after(status: Status, is_put: bool) -> Status {
     match (status, is_put) {
         (Untouched, false) => Read,
         (Untouched, true) => Written,
@@ -339,7 +342,7 @@ fn touch<R: Abort>(rt: &R, beside: &mut Beside, run: Run, is_put: bool) {
         let at = place as usize;
         assert!(rt; at < beside.statuses.len());
         let status = beside.statuses[at];
-        beside.statuses[at] = after(status, is_put);
+        beside.statuses[at] = status_after(status, is_put);
         if status == Untouched {
             beside.touched.push(place).expect(rt, "memory");
         }
@@ -351,6 +354,7 @@ fn step<R: Abort>(rt: &R, beside: &mut Beside) -> Stepped {
     let (reads, puts) = touches(&beside.state);
     let answer = try_step(&mut beside.state);
     if answer == Stepped::Went {
+        beside.steps = beside.steps.saturating_add(1);
         for run in reads {
             touch(rt, beside, run, false);
         }
@@ -419,11 +423,11 @@ fn compare<R: Abort>(rt: &R, beside: &Beside) {
     }
 }
 
-/// Does what a list says, and compares after each of it. It answers what the last step answered.
-fn done<R: Abort>(rt: &R, beside: &mut Beside, list: &[Do]) -> Stepped {
+/// Carries out actions, and compares after each of them. It answers what the last step answered.
+fn carry_out<R: Abort>(rt: &R, beside: &mut Beside, actions: &[Action]) -> Stepped {
     let mut answer = Stepped::Went;
-    for part in list {
-        match *part {
+    for action in actions {
+        match *action {
             Steps(count) => answer = steps(rt, beside, count),
             Undo(mark) => undo(rt, beside, mark),
         }
@@ -462,10 +466,10 @@ fn changing_code(rt: HostRuntime) {
         let mut start = state_of(&rt, alloc, case.two, case.words);
         set_registers(&rt, &mut start, case.registers);
         let mut beside = start_beside(&rt, alloc, start);
-        let answer = done(&rt, &mut beside, case.done);
+        let answer = carry_out(&rt, &mut beside, case.actions);
         assert_eq!(rt; answer, case.answer);
         have_statuses(&rt, &beside.tracer, case.statuses);
-        have_values(&rt, &beside.state, case.after);
+        have_values(&rt, &beside.state, case.values);
     }
 }
 
@@ -533,12 +537,12 @@ fn random_run<R: Abort>(rt: &R, beside: &mut Beside, seed: u32) {
     let mut number = seed;
     for _ in 0..12 {
         number = next(number);
-        let _ = done(rt, beside, &[Steps(number % 64)]);
+        let _ = carry_out(rt, beside, &[Steps(number % 64)]);
         let touched = beside.touched.len();
         number = next(number);
         let mark = touched / 2 + (number % 64) as usize;
         if mark < touched {
-            let _ = done(rt, beside, &[Undo(mark)]);
+            let _ = carry_out(rt, beside, &[Undo(mark)]);
         }
     }
 }
@@ -564,18 +568,23 @@ static SEEDS: [u32; 24] = [
     0x9E37_79B9,
     0xA5A5_0F0F,
     0xB105_F00D,
-    0xC0FF_EE11,
+    0xC0FF_EE12,
     0xD00D_2BAD,
     0xDEAD_BEEF,
     0xEDB8_8320,
     0xFFFF_FFFB,
 ];
 
+/// Each program takes some steps, and all together so many.
 #[test]
 fn random_programs(rt: HostRuntime) {
     let alloc = rt.alloc();
+    let mut steps: u64 = 0;
     for seed in &SEEDS {
         let mut beside = start_beside(&rt, alloc, random_state(&rt, alloc, *seed));
         random_run(&rt, &mut beside, *seed);
+        assert!(rt; beside.steps > 0, "no step of {seed:#x}");
+        steps = steps.saturating_add(beside.steps);
     }
+    assert_eq!(rt; steps, 4_185);
 }

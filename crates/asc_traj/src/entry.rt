@@ -238,7 +238,7 @@ fn split_block(tracer: &Tracer, first: u32, bits: u64, halves: &mut Halves)
     let mut rest = bits;
     while rest != 0 {
         let at = rest.trailing_zeros();
-        rest &= !(1 << at);
+        rest &= rest - 1;
         split_word(tracer, first + at, halves);
     }
 }
@@ -348,8 +348,9 @@ fn kept_word(tracer: &Tracer, place: u32) -> u32
     tracer.read_word(place)
 }
 
-/// The word that stood in four places at the start.
-#[inline]
+/// The word that stood in four places at the start. It is out of line, as `read_mask` is.
+#[cold]
+#[inline(never)]
 fn first_word(tracer: &Tracer, place: u32) -> u32
     requires start { IsState (origin_of tracer.now) }
     requires place { place + 4 ≤ length_of tracer.now.state.shape }

@@ -1,11 +1,11 @@
 use Rattle.std.proofs.Common.{ℕ, ◌+◌, ◌*◌, ◌++◌, ◌∙◌, List, map, slice_index, slice_index_or, sym, ap, arith}
 use Rattle.std.specs.Prelude.{filter, vec_capacity, vec_len, count_ones}
 use Rattle.std.proofs.lemmas.List.{map-append}
-use Rattle.std.proofs.lemmas.List.Sums.{sum_by-take-le}
+use Rattle.std.proofs.lemmas.List.Sums.{sum_by-take-le, sum_by_more}
 use Rattle.asc_model.specs.Places.{places_from}
 use Rattle.asc_depvec.specs.Bits.{block_at, has_bit, has_word}
 use Rattle.asc_depvec.specs.declared.bitmap.Block.{Block}
-use Rattle.asc_depvec.proofs.Bits.{left-more, sum-take, words-all, words-more}
+use Rattle.asc_depvec.proofs.Bits.{left-more, words-all, words-more}
 use Rattle.asc_depvec.proofs.bitmap.blocks_of.Goals as goal
 use Rattle.asc_depvec.proofs.bitmap.blocks_of.Goals.{then-group-next, else-group-next}
 
@@ -14,7 +14,7 @@ push_blocks-requires-clause-room c =
     let ones = λ (g : ℕ). count_ones (slice_index c.args.groups.now g) in
     let used = c.args.used.now in
     let i = c.loop-group.group-index in
-    omega (arith, sum-take ones used i 0 c.loop-group-test.true, sum_by-take-le ones used (i + 1), c.loop-group.invariant.few, c.loop-group.invariant.capacity)
+    omega (arith, sum_by_more ones used i 0 c.loop-group-test.true, sum_by-take-le ones used (i + 1), c.loop-group.invariant.few, c.loop-group.invariant.capacity)
 
 pub loop-group-preserved : goal.loop-group-preserved
 loop-group-preserved c =
@@ -25,7 +25,7 @@ loop-group-preserved c =
     let group = slice_index_or used i 0 in
     let inv = c.loop-group.invariant in
     let ones = λ (g : ℕ). count_ones (slice_index groups g) in
-    let more = sum-take ones used i 0 c.loop-group-test.true in
+    let more = sum_by_more ones used i 0 c.loop-group-test.true in
     let before = filter (has_word groups) (places_from 0 (64 * c.loop-group.next)) in
     let here = filter (has_bit (slice_index groups group) (64 * group)) (places_from (64 * group) 64) in
     elim c.if-group-next.branch [

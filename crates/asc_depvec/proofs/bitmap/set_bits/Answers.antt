@@ -1,7 +1,4 @@
-use Rattle.std.proofs.Common.{◌≡◌, ℕ, ◌||◌, ◌∙◌, bit_or, slice_index, sym, ap}
-use Rattle.asc_depvec.specs.Bits.{has_word}
-use Rattle.asc_depvec.specs.Inside.{is_due}
-use Rattle.asc_depvec.proofs.Bits.{due-none, has-merged, marked-more, or_false}
+use Rattle.asc_depvec.proofs.Bits.{has-merged}
 use Rattle.asc_depvec.proofs.bitmap.set_bits.Goals as goal
 
 pub returns-then-bits-ne0-clause-bits : goal.returns-then-bits-ne0-clause-bits

@@ -3,12 +3,13 @@ use Rattle.std.specs.Prelude.{All}
 use Rattle.std.specs.Global.{Vec}
 use Rattle.std.proofs.lemmas.List.{length-set}
 use Rattle.std.proofs.lemmas.List.Elements.{All-push}
-use Rattle.asc_depvec.proofs.Bits.{bit_power, cond-most, has-added, live-less, live-set, or-some}
+use Rattle.std.proofs.lemmas.Nat.{one_shl}
+use Rattle.asc_depvec.proofs.Bits.{cond-most, has-added, live-less, live-set, or-some}
 use Rattle.asc_depvec.proofs.bitmap.set_block.Goals as goal
 use Rattle.asc_depvec.proofs.bitmap.set_block.Goals.{then-before-eq0, else-before-eq0}
 
 pub returns-clause-bits : goal.returns-clause-bits
-returns-clause-bits c = λ other. has-added c.args.groups.now c.args.block (1 * 2 ^ (c.args.block % 64) % 2 ^ 64) other c.requires.within (bit_power (c.args.block % 64) (omega arith))
+returns-clause-bits c = λ other. has-added c.args.groups.now c.args.block (1 * 2 ^ (c.args.block % 64) % 2 ^ 64) other c.requires.within (one_shl (c.args.block % 64) 64 (omega arith))
 
 pub returns-clause-used : goal.returns-clause-used
 returns-clause-used c =
@@ -34,7 +35,7 @@ returns-clause-few c =
     let bit = c.args.block % 64 in
     let power = 1 * 2 ^ bit % 2 ^ 64 in
     let value = bit_or (slice_index groups group) power in
-    let set = live-set groups group value c.requires.within (or-some (slice_index groups group) power bit (bit_power bit (omega arith))) in
+    let set = live-set groups group value c.requires.within (or-some (slice_index groups group) power bit (one_shl bit 64 (omega arith))) in
     elim c.if-before-eq0.branch [
       | then-before-eq0 w ↦
           let longer = ap (λ (v : Vec ℕ). length v.items) w.used-is ∙ ap (λ (list : List ℕ). length list) w.push_reserved.ensures.items ∙ length-append c.args.used.now.items (group ∷ []) in

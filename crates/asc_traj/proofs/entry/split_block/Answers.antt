@@ -1,5 +1,5 @@
-use Rattle.std.proofs.Common.{◌≡◌, ℕ, ◌+◌, ◌*◌, ◌<◌, ◌≤◌, ◌^◌, ◌%◌, ◌∙◌, List, ◌∷◌, [], length, append-nil, length-append, refl, sym, ap, subst, arith}
-use Rattle.std.specs.Int.{bit_not, trailing_zeros, w64}
+use Rattle.std.proofs.Common.{◌≡◌, ℕ, ◌+◌, ◌-◌, ◌*◌, ◌<◌, ◌≤◌, ◌^◌, ◌∙◌, List, ◌∷◌, [], length, append-nil, length-append, refl, sym, ap, subst, arith}
+use Rattle.std.specs.Int.{trailing_zeros, w64}
 use Rattle.std.proofs.lemmas.Nat.{and_le_l}
 use Rattle.asc_model.specs.Places.{places_from}
 use Rattle.asc_model.specs.Shape.{length_of}
@@ -48,7 +48,7 @@ loop-rest-smaller c =
     let k = trailing_zeros w64 rest in
     let small : rest < 2 ^ 64 = omega (arith, c.loop-rest.auto.rest-fits) in
     let left = rest-less c.args.bits rest inv.at k inv.rest small c.loop-rest-test.true refl in
-    omega (arith, rest-low rest small c.loop-rest-test.true, rest-later c.args.bits _ k left (omega (arith, small, and_le_l rest (bit_not w64 (1 * 2 ^ k % 2 ^ 64)))))
+    omega (arith, rest-low rest small c.loop-rest-test.true, rest-later c.args.bits _ k left (omega (arith, small, and_le_l rest (rest - 1))))
 
 pub loop-rest-preserved : goal.loop-rest-preserved
 loop-rest-preserved c =

@@ -1,5 +1,5 @@
 -- The parts of the words of so many bits are listed, and the rest of the block has the others.
-use Rattle.std.proofs.Common.{◌≡◌, ℕ, ◌-◌, length}
+use Rattle.std.proofs.Common.{ℕ, ◌-◌, length}
 use Rattle.std.specs.Int.{trailing_zeros, w64}
 use Rattle.asc_traj.specs.Inside.{AreHalves, HasGrown, HasSplit, places_of_words}
 use Rattle.asc_traj.proofs.Splits.{IsRest, block_of, words_until}

@@ -1,0 +1,48 @@
+use Rattle.std.proofs.Common.{◌≡◌, ℕ, ◌+◌, ◌-◌, ◌*◌, ◌/◌, ◌%◌, ◌^◌, ◌==◌, ◌||◌, ◌∙◌, Bool, take, slice_index_or, refl, sym, ap, arith}
+use Rattle.std.specs.List.{list_any}
+use Rattle.std.proofs.Math.Bool.{or_assoc, or-false}
+use Rattle.std.proofs.lemmas.List.Folds.{list_any-append}
+use Rattle.std.proofs.lemmas.Nat.{one_shl}
+use Rattle.asc_depvec.specs.Inside.{is_due}
+use Rattle.asc_depvec.specs.Tracer.{places_of, places_of_item}
+use Rattle.asc_depvec.proofs.Bits.{due-more, due-none, item_due, rotated}
+use Rattle.asc_depvec.proofs.Items.{places_of-take}
+use Rattle.asc_depvec.proofs.bitmap.bits_of.Goals as goal
+
+pub loop-at-init : goal.loop-at-init
+loop-at-init c = record {
+  least = omega arith;
+  most = c.requires.from;
+  bits = λ word.
+      let any = list_any (λ place. place / 4 == word) (places_of (take c.args.from c.args.items.now)) in
+      sym (ap (λ (b : Bool). any || b) (due-none (c.args.first / 512) 0 word refl) ∙ or-false any);
+}
+
+pub loop-at-preserved : goal.loop-at-preserved
+loop-at-preserved c =
+    let items = c.args.items.now in
+    let at = c.loop-at.at in
+    let item = slice_index_or items at 0 in
+    let first = c.args.first in
+    let bits = c.loop-at.bits in
+    let behind = (item + (2 ^ 32 - first)) % 2 ^ 32 in
+    let bit = c.rotate_right-word.result in
+    let low = c.if-word-ge64.false in
+    let is = rotated behind bit (omega arith) c.rotate_right-word.ensures (omega (arith, low)) in
+    let sum : item ≡ first + behind = omega (arith, is.0, is.1, low, c.requires.first, c.type_inv.items at, c.ranges.first) in
+    let whole : item % 8 ≡ 1 = omega (arith, sum, is.0, c.requires.first) in
+    let here : 64 * (first / 512) + bit ≡ item / 8 = omega (arith, sum, is.0, is.1, low, c.requires.first) in
+    record {
+      least = omega (arith, c.loop-at.invariant.least);
+      most = omega (arith, c.loop-at-test.true);
+      bits = λ word.
+          let test : ℕ → Bool = λ place. place / 4 == word in
+          let before = list_any test (places_of (take c.args.from items)) in
+          ap (list_any test) (places_of-take items at 0 c.loop-at-test.true) ∙ list_any-append test (places_of (take at items)) (places_of_item item)
+          ∙ ap (λ (b : Bool). b || list_any test (places_of_item item)) (c.loop-at.invariant.bits word)
+          ∙ ap (λ (b : Bool). (before || is_due (first / 512) bits word) || b) (item_due item word whole)
+          ∙ or_assoc before (is_due (first / 512) bits word) (item / 8 == word)
+          ∙ ap (λ (b : Bool). before || b)
+          (ap (λ (n : ℕ). is_due (first / 512) bits word || n == word) (sym here)
+          ∙ sym (due-more (first / 512) bits bit (1 * 2 ^ bit % 2 ^ 64) word (omega (arith, low)) (one_shl bit 64 (omega (arith, low)))));
+    }
