@@ -9,6 +9,7 @@ use Rattle.asc_run.specs.Helped.{Aid, aid}
 use Rattle.asc_run.specs.Walk.{Walk, tally}
 use Rattle.asc_run.proofs.Seeings.{visits-asked}
 use Rattle.asc_cache.specs.Cache.{AreOpened, ShardReader, ShardReaders, ShardWriter}
+use Rattle.asc_live.specs.Due.{full_of}
 use Rattle.asc_live.specs.Laws.{new_plan}
 use Rattle.asc_live.specs.Live.{Live, IsLive, new_live, queue_of, plan_of}
 use Rattle.asc_live.specs.Crew.{IsWriterOf, Walks, WentBeside, shard_capacity}
@@ -40,7 +41,7 @@ kept_giver readers giver guessing was now old new l k ended left is walks end =
 pub went : {many : ℕ} → (guessing : Guessing) (was now : Walk) (old new : Outside) (readers : ShardReaders) (giver : Giver) (l k : Live ShardReaders) (worked : Worked)
     → l ≡ new_live readers giver guessing many → giver.pushed ≡ [] → readers.tally ≡ tally 0 0 0 → IsLive k
     → Walks was now old new (aid_of l) (aid_of k) worked.ended
-    → worked.made ≡ length k.pusher.giver.pushed → worked.refused ≡ k.pusher.refused → worked.full ≡ k.pusher.full
+    → worked.made ≡ length k.pusher.giver.pushed → worked.refused ≡ k.pusher.refused → worked.full ≡ full_of k.pusher
     → length k.pusher.giver.pushed ≡ worked.taken.tally.ran + worked.taken.left
     → (crew : Crew) → giver.capacity ≡ crew.queue → worked.workers ≡ crew.workers → WentBeside guessing crew was now old new worked
 went {many} guessing was now old new readers giver l k worked is none told good walks made refused full jobs crew capacity workers =

@@ -1,5 +1,6 @@
 -- What is pushed one after another.
-use Rattle.std.proofs.Common.{◌≡◌, ◌≤◌, ◌<◌, ℕ, zero, suc, ◌+◌, Bool, true, List, [], ◌∷◌, ◌++◌, length, map, filter, refl, sym, ap, ◌∙◌, inl, inr, subst, arith, append_assoc}
+use Rattle.std.proofs.Common.{◌≡◌, ◌≤◌, ◌<◌, ℕ, zero, suc, ◌+◌, Bool, true, false, ◌&&◌, nat_lt, nat_le, List, [], ◌∷◌, ◌++◌, length, map, filter, refl, sym, ap, ◌∙◌, inl, inr, subst, arith, append_assoc}
+use Rattle.std.proofs.lemmas.Bool.{ltb-true, leb-true}
 use Rattle.std.proofs.lemmas.List.{append-nil, map-append, length-append}
 use Rattle.std.proofs.lemmas.List.Elements.{filter-append}
 use Rattle.std.specs.Arc.{arc_value}
@@ -11,7 +12,7 @@ use Rattle.asc_jobs.specs.declared.job.Job.{Job}
 use Rattle.asc_jobs.specs.Jobs.{Giver, after_push}
 use Rattle.asc_jobs.specs.JobRule.{CountUp}
 use Rattle.asc_outside.specs.Outside.{one_more}
-use Rattle.asc_live.specs.Due.{Due, Pusher, Pushes, IsSublist, due_of, raised}
+use Rattle.asc_live.specs.Due.{Due, Pusher, Pushes, IsSublist, due_of, full_of, is_filled, raised}
 use Rattle.asc_live.proofs.Lists.{IsSublist-append, CountUp-append}
 
 raised-more : (count a b : ℕ) → raised (raised count a) b ≡ raised count (a + b)
@@ -30,7 +31,9 @@ Pushes-none offers p = record {
   rest = omega arith;
   giver = ap (λ xs. record p.giver { pushed = xs }) (sym (append-nil p.giver.pushed));
   tickets = tt;
-  full = omega arith;
+  lacked_is = omega arith;
+  left_is = omega arith;
+  passed_is = refl;
   room = λ h. absurd (let x : ⊥ = omega (arith, h) in x);
   refused = refl;
 }
@@ -63,17 +66,25 @@ Pushes-more offers xs ys p q r s t =
       rest = omega (arith, many, length-append xs ys, s.rest, t.rest);
       giver = t.giver ∙ ap (λ (g : Giver). record g { pushed = g.pushed ++ t.jobs }) s.giver ∙ ap (λ l. record p.giver { pushed = l }) (append_assoc p.giver.pushed s.jobs t.jobs);
       tickets = CountUp-append (length p.giver.pushed) s.jobs t.jobs s.tickets (subst (λ n. CountUp n t.jobs) more t.tickets);
-      full = omega (arith, s.full, t.full);
+      lacked_is = omega (arith, s.lacked_is, t.lacked_is);
+      left_is = omega (arith, s.left_is, t.left_is);
+      passed_is = t.passed_is ∙ s.passed_is;
       room = λ h. room-more (s.lacked + s.left) (t.lacked + t.left) p.giver.capacity (length q.giver.pushed) (length r.giver.pushed) s.room
           (λ k. subst (λ c. c ≤ length r.giver.pushed) (ap (λ (g : Giver). g.capacity) s.giver) (t.room k)) (omega (arith, most)) (omega (arith, h));
       refused = t.refused ∙ ap (λ n. raised n t.wanting) s.refused ∙ raised-more p.refused s.wanting t.wanting;
     }
 
+-- how many are not pushed
+pub full-is : (offers : Due → Bool) (due : List Due) (p q : Pusher) (s : Pushes offers due p q) → full_of q ≡ full_of p + s.lacked + s.left
+full-is offers due p q s = omega (arith, s.lacked_is, s.left_is, s.passed_is)
+
 -- at most as many as are due
 pub Pushes-few : (offers : Due → Bool) (due : List Due) (p q : Pusher) → Pushes offers due p q
-    → (length p.giver.pushed ≤ length q.giver.pushed) × ((p.full ≤ q.full) × (length q.giver.pushed + q.full ≤ length p.giver.pushed + p.full + length due))
-Pushes-few offers due p q s = let more = pushed-length offers due p q s in
-    (omega (arith, more), (omega (arith, s.full), omega (arith, more, s.full, s.all, s.rest)))
+    → (length p.giver.pushed ≤ length q.giver.pushed) × ((full_of p ≤ full_of q) × (length q.giver.pushed + full_of q ≤ length p.giver.pushed + full_of p + length due))
+Pushes-few offers due p q s =
+    let more = pushed-length offers due p q s in
+    let full = full-is offers due p q s in
+    (omega (arith, more), (omega (arith, full), omega (arith, more, full, s.all, s.rest)))
 
 -- of all that are offered
 abbrev pub each : Due → Bool
@@ -91,14 +102,16 @@ Pushes-refused d p q e = record {
   rest = omega arith;
   giver = ap (λ (x : Pusher). x.giver) e ∙ ap (λ xs. record p.giver { pushed = xs }) (sym (append-nil p.giver.pushed));
   tickets = tt;
-  full = ap (λ (x : Pusher). x.full) e ∙ (let n : p.full ≡ p.full + 0 + 0 = omega arith in n);
+  lacked_is = ap (λ (x : Pusher). x.lacked) e ∙ (let n : p.lacked ≡ p.lacked + 0 = omega arith in n);
+  left_is = ap (λ (x : Pusher). x.left) e ∙ (let n : p.left ≡ p.left + 0 = omega arith in n);
+  passed_is = ap (λ (x : Pusher). x.passed) e;
   room = λ h. absurd (let x : ⊥ = omega (arith, h) in x);
   refused = ap (λ (x : Pusher). x.refused) e;
 }
 
 -- a job that found no room
-pub Pushes-full : (d : Due) (p q : Pusher) → q.giver ≡ p.giver → q.full ≡ p.full + 1 → q.refused ≡ p.refused → p.giver.capacity ≤ length p.giver.pushed → Pushes each (d ∷ []) p q
-Pushes-full d p q giver full refused room = record {
+pub Pushes-full : (d : Due) (p : Pusher) (giver : Giver) → giver ≡ p.giver → p.giver.capacity ≤ length p.giver.pushed → Pushes each (d ∷ []) p (record p { giver = giver; lacked = p.lacked + 1 })
+Pushes-full d p giver same room = record {
   jobs = [];
   lacked = 1;
   wanting = 0;
@@ -106,16 +119,18 @@ Pushes-full d p q giver full refused room = record {
   some = inl refl;
   all = omega arith;
   rest = omega arith;
-  giver = giver ∙ ap (λ xs. record p.giver { pushed = xs }) (sym (append-nil p.giver.pushed));
+  giver = same ∙ ap (λ xs. record p.giver { pushed = xs }) (sym (append-nil p.giver.pushed));
   tickets = tt;
-  full = full ∙ (let n : p.full + 1 ≡ p.full + 1 + 0 = omega arith in n);
-  room = λ h. subst (λ (g : Giver). p.giver.capacity ≤ length g.pushed) (sym giver) room;
-  refused = refused;
+  lacked_is = refl;
+  left_is = omega arith;
+  passed_is = refl;
+  room = λ h. subst (λ (g : Giver). p.giver.capacity ≤ length g.pushed) (sym same) room;
+  refused = refl;
 }
 
 -- a job that was pushed
-pub Pushes-one : (d : Due) (p q : Pusher) (job : Job) → due_of job ≡ d → job.ticket ≡ length p.giver.pushed → q.giver ≡ after_push p.giver job → q.full ≡ p.full → q.refused ≡ p.refused → Pushes each (d ∷ []) p q
-Pushes-one d p q job asks ticket giver full refused = record {
+pub Pushes-one : (d : Due) (p : Pusher) (giver : Giver) (job : Job) → due_of job ≡ d → job.ticket ≡ length p.giver.pushed → giver ≡ after_push p.giver job → Pushes each (d ∷ []) p (record p { giver = giver })
+Pushes-one d p giver job asks ticket pushed = record {
   jobs = job ∷ [];
   lacked = 0;
   wanting = 0;
@@ -123,11 +138,13 @@ Pushes-one d p q job asks ticket giver full refused = record {
   some = inr ([], ap (λ x. x ∷ []) asks, refl);
   all = omega arith;
   rest = omega arith;
-  giver = giver;
+  giver = pushed;
   tickets = (ticket, tt);
-  full = full ∙ (let n : p.full ≡ p.full + 0 + 0 = omega arith in n);
+  lacked_is = omega arith;
+  left_is = omega arith;
+  passed_is = refl;
   room = λ h. absurd (let x : ⊥ = omega (arith, h) in x);
-  refused = refused;
+  refused = refl;
 }
 
 filter-each : (due : List Due) → filter each due ≡ due
@@ -148,13 +165,15 @@ Pushes-offered offers due p q all s =
       rest = s.rest ∙ ap (λ ds. length ds + s.left) same;
       giver = s.giver;
       tickets = s.tickets;
-      full = s.full;
+      lacked_is = s.lacked_is;
+      left_is = s.left_is;
+      passed_is = s.passed_is;
       room = s.room;
       refused = s.refused;
     }
 
 -- jobs none of which is offered
-pub Pushes-left : (offers : Due → Bool) (due : List Due) (p q : Pusher) → filter offers due ≡ [] → q ≡ record p { full = p.full + length due } → p.giver.capacity ≤ length p.giver.pushed → Pushes offers due p q
+pub Pushes-left : (offers : Due → Bool) (due : List Due) (p q : Pusher) → filter offers due ≡ [] → q ≡ record p { left = p.left + length due } → p.giver.capacity ≤ length p.giver.pushed → Pushes offers due p q
 Pushes-left offers due p q none e room = record {
   jobs = [];
   lacked = 0;
@@ -165,7 +184,9 @@ Pushes-left offers due p q none e room = record {
   rest = let few = ap length none in omega (arith, few);
   giver = ap (λ (x : Pusher). x.giver) e ∙ ap (λ xs. record p.giver { pushed = xs }) (sym (append-nil p.giver.pushed));
   tickets = tt;
-  full = ap (λ (x : Pusher). x.full) e ∙ (let n : p.full + length due ≡ p.full + 0 + length due = omega arith in n);
+  lacked_is = ap (λ (x : Pusher). x.lacked) e ∙ (let n : p.lacked ≡ p.lacked + 0 = omega arith in n);
+  left_is = ap (λ (x : Pusher). x.left) e;
+  passed_is = ap (λ (x : Pusher). x.passed) e;
   room = λ h. subst (λ (x : Pusher). p.giver.capacity ≤ length x.giver.pushed) (sym e) room;
   refused = ap (λ (x : Pusher). x.refused) e;
 }
@@ -174,3 +195,14 @@ Pushes-left offers due p q none e room = record {
 pub asks-same : (prev last : State) (ahead : ℕ) (kind : Kind) (ticket : ℕ) (a b : Arc State Global) → arc_value a ≡ prev → arc_value b ≡ last
     → due_of (record { ticket = ticket; prev = a; last = b; ahead = ahead; kind = kind }) ≡ record { prev = prev; last = last; ahead = ahead; kind = kind }
 asks-same prev last ahead kind ticket a b e f = λ i. record { prev = e i; last = f i; ahead = ahead; kind = kind }
+
+both-true : (a b : Bool) → a && b ≡ true → (a ≡ true) × (b ≡ true)
+both-true true true e = (refl, refl)
+both-true true false e = absurd (cc)
+both-true false b e = absurd (cc)
+
+-- jobs were pushed, and as many as the queue holds
+pub filled-is : (giver : Giver) → is_filled giver ≡ true → (0 < length giver.pushed) × (giver.capacity ≤ length giver.pushed)
+filled-is giver e =
+    let both = both-true (nat_lt 0 (length giver.pushed)) (nat_le giver.capacity (length giver.pushed)) e in
+    (ltb-true 0 (length giver.pushed) both.0, leb-true giver.capacity (length giver.pushed) both.1)

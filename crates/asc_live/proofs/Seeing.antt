@@ -1,9 +1,10 @@
 -- Up to which visit all were guessed.
-use Rattle.std.proofs.Common.{◌≡◌, inl, inr, ◌≤◌, ◌<◌, ◌+◌, ◌-◌, ◌*◌, ◌^◌, ◌==◌, ◌&&◌, ℕ, zero, suc, Bool, true, false, List, [], length, Option, Some, None, refl, sym, ap, ◌∙◌, subst, arith, nat_lt, if◌then◌else◌}
+use Rattle.std.proofs.Common.{◌≡◌, inl, inr, not, ◌||◌, ◌∷◌, ◌++◌, ◌≤◌, ◌<◌, ◌+◌, ◌-◌, ◌*◌, ◌^◌, ◌==◌, ◌&&◌, ℕ, zero, suc, Bool, true, false, List, [], length, Option, Some, None, refl, sym, ap, ◌∙◌, subst, arith, nat_lt, if◌then◌else◌}
 use Rattle.std.specs.Prelude.{max}
 use Rattle.std.proofs.lemmas.Bool.{le-ltb, lt-ltb}
 use Rattle.std.proofs.lemmas.Bool.Decides.{eqb_tells}
 use Rattle.asc_model.specs.State.{State}
+use Rattle.asc_guess.specs.declared.kind.Kind.TheVariants.{Last, Stride}
 use Rattle.asc_outside.specs.Outside.{one_more}
 use Rattle.asc_jobs.specs.Jobs.{Giver}
 use Rattle.asc_traj.specs.declared.guessing.Guessing.{Guessing}
@@ -12,14 +13,15 @@ use Rattle.asc_run.specs.Helped.{Plans}
 use Rattle.asc_run.specs.Serial.{kinds_of, tasks_of}
 use Rattle.asc_run.specs.Seen.{Sees, seen, newly_guessed, guesses_at}
 use Rattle.asc_run.proofs.Seeings.{newly-later, guesses_until-more}
-use Rattle.asc_live.specs.Due.{Due, Pusher, Pushes, HasFilled, jobs_of, raised}
-use Rattle.asc_live.specs.Live.{Live, IsLive, HasSeen, Visits, queue_of, plan_of, due_by, issued_by, offers_at, seen_after}
-use Rattle.asc_live.proofs.Pushing.{Pushes-few, pushed-length, room-more}
+use Rattle.asc_live.specs.Budget.{Budget, pays}
+use Rattle.asc_live.specs.Due.{Due, Pusher, Pushes, full_of, is_filled, jobs_of, raised}
+use Rattle.asc_live.specs.Live.{Live, IsLive, HasSeen, Visits, queue_of, plan_of, charged, due_by, given_up, is_guessing, is_passed_over, issued_by, offers_at, seen_after}
+use Rattle.asc_live.proofs.Pushing.{Pushes-few, filled-is, full-is, pushed-length, room-more}
 use Rattle.asc_live.proofs.Tasks.{kinds-few, twice, visit-length}
 
--- whatever finder it asks
-pub IsLive-finder : {F : Type 0} (l : Live F) (finder : F) → IsLive l → IsLive (record l { finder = finder })
-IsLive-finder l finder q = record {
+-- whatever finder it asks, and whatever visits may cost
+pub IsLive-asked : {F : Type 0} (l : Live F) (finder : F) (budget : Budget) → IsLive l → IsLive (record l { finder = finder; budget = budget })
+IsLive-asked l finder budget q = record {
   least = q.least;
   most = q.most;
   issued = q.issued;
@@ -75,21 +77,21 @@ due-some n count last now l room e =
     (visit-length last now l.guessing l.issued (n + 1) ∙ ap (λ m. length (kinds_of l.guessing) * m) e)
 
 -- the state of the last visit is there, where the next one is kept
-last-kept : {F : Type 0} (n : ℕ) (l : Live F) → HasSeen n l → (HasFilled l.pusher.giver → (last : State) × (l.last ≡ Some last)) → 0 < n → (last : State) × (l.last ≡ Some last)
-last-kept n l h pair some = elim (h.later some) [ inl is ↦ is | inr filled ↦ pair filled ]
+last-kept : {F : Type 0} (n : ℕ) (l : Live F) → HasSeen n l → is_guessing l.guessing ≡ true → (is_filled l.pusher.giver ≡ true → (last : State) × (l.last ≡ Some last)) → 0 < n → (last : State) × (l.last ≡ Some last)
+last-kept n l h on pair some = elim (h.later on some) [ inl is ↦ is | inr filled ↦ pair filled ]
 
-pub due-seen : {F : Type 0} (n : ℕ) (now : State) (l : Live F) → IsLive l → HasSeen n l → (HasFilled l.pusher.giver → (last : State) × (l.last ≡ Some last))
+pub due-seen : {F : Type 0} (n : ℕ) (now : State) (l : Live F) → IsLive l → HasSeen n l → is_guessing l.guessing ≡ true → (is_filled l.pusher.giver ≡ true → (last : State) × (l.last ≡ Some last))
     → length (due_by (n + 1) l.last (Some now) l) ≡ guesses_at l.guessing (n + 1)
-due-seen zero now l q h pair = subst (λ last. length (due_by 1 last (Some now) l) ≡ guesses_at l.guessing 1) (sym (h.first refl)) (omega arith)
-due-seen (suc zero) now l q h pair =
-    let is = last-kept 1 l h pair (omega arith) in
-    let none = h.none_issued (omega arith) in
+due-seen zero now l q h on pair = subst (λ last. length (due_by 1 last (Some now) l) ≡ guesses_at l.guessing 1) (sym (h.first refl)) (omega arith)
+due-seen (suc zero) now l q h on pair =
+    let is = last-kept 1 l h on pair (omega arith) in
+    let none = h.none_issued on (omega arith) in
     subst (λ last. length (due_by 2 last (Some now) l) ≡ guesses_at l.guessing 2) (sym is.1)
     (due-some 1 0 is.0 now l (pushed-few 1 l q h) (omega (arith, none)))
-due-seen (suc (suc m)) now l q h pair =
+due-seen (suc (suc m)) now l q h on pair =
     let n : ℕ = suc (suc m) in
-    let is = last-kept (suc (suc m)) l h pair (omega arith) in
-    let issued = h.issued (omega arith) in
+    let is = last-kept (suc (suc m)) l h on pair (omega arith) in
+    let issued = h.issued on (omega arith) in
     let least = q.least in
     let one : n + 1 + l.guessing.ahead - max l.issued (n + 1) ≡ 1 = omega (arith, issued, least) in
     subst (λ last. length (due_by (n + 1) last (Some now) l) ≡ guesses_at l.guessing (n + 1)) (sym is.1)
@@ -108,17 +110,17 @@ raised-none zero e = refl
 raised-none (suc n) e = absurd (let x : ⊥ = omega (arith, e) in x)
 
 -- where memory was not wanting, each job that is due was pushed, found no room or was not offered
-all-made : (offers : Due → Bool) (due : List Due) (p q : Pusher) → Pushes offers due p q → p.refused ≡ 0 → q.refused ≡ 0 → length q.giver.pushed + q.full ≡ length p.giver.pushed + p.full + length due
+all-made : (offers : Due → Bool) (due : List Due) (p q : Pusher) → Pushes offers due p q → p.refused ≡ 0 → q.refused ≡ 0 → length q.giver.pushed + full_of q ≡ length p.giver.pushed + full_of p + length due
 all-made offers due p q s e f =
     let none = raised-none s.wanting (ap (λ c. raised c s.wanting) (sym e) ∙ sym s.refused ∙ f) in
     let more = pushed-length offers due p q s in
-    omega (arith, none, more, s.all, s.rest, s.full)
+    omega (arith, none, more, s.all, s.rest, full-is offers due p q s)
 
 -- ---- one visit more
 
 -- what a visit leaves that keeps its state, by what it leaves of the pusher
 abbrev after : {F : Type 0} → (number : ℕ) → State → (old : Live F) → Pusher → Live F
-after number now old p = record old {
+after number now old p = record (charged old) {
   prev = old.last;
   last = Some now;
   issued = issued_by number old.last (Some now) old;
@@ -163,33 +165,33 @@ seen-was number refused n (Some b) e = elim (eqb_tells number (b + 1)) [
   | inr p ↦ absurd (untold' number n (number == b + 1) (refused == 0) p.0 e)
 ]
 
-pushes-sees : {F : Type 0} (n : ℕ) (now : State) (old : Live F) (p : Pusher) → IsLive old → HasSeen n old → (HasFilled old.pusher.giver → (last : State) × (old.last ≡ Some last))
+pushes-sees : {F : Type 0} (n : ℕ) (now : State) (old : Live F) (p : Pusher) → IsLive old → HasSeen n old → is_guessing old.guessing ≡ true → (is_filled old.pusher.giver ≡ true → (last : State) × (old.last ≡ Some last))
     → Pushes (offers_at (n + 1) old) (due_by (n + 1) old.last (Some now) old) old.pusher p → p.refused ≡ 0
-    → length p.giver.pushed + p.full ≡ length old.pusher.giver.pushed + old.pusher.full + guesses_at old.guessing (n + 1)
-pushes-sees n now old p q h pair pushes none =
+    → length p.giver.pushed + full_of p ≡ length old.pusher.giver.pushed + full_of old.pusher + guesses_at old.guessing (n + 1)
+pushes-sees n now old p q h on pair pushes none =
     all-made (offers_at (n + 1) old) (due_by (n + 1) old.last (Some now) old) old.pusher p pushes h.refused none
-    ∙ ap (λ m. length old.pusher.giver.pushed + old.pusher.full + m) (due-seen n now old q h pair)
+    ∙ ap (λ m. length old.pusher.giver.pushed + full_of old.pusher + m) (due-seen n now old q h on pair)
 
-issued-none : {F : Type 0} (n : ℕ) (now : State) (old : Live F) → HasSeen n old → n + 1 < 2 → issued_by (n + 1) old.last (Some now) old ≡ 0
-issued-none n now old h few =
+issued-none : {F : Type 0} (n : ℕ) (now : State) (old : Live F) → HasSeen n old → is_guessing old.guessing ≡ true → n + 1 < 2 → issued_by (n + 1) old.last (Some now) old ≡ 0
+issued-none n now old h on few =
     let z : n ≡ 0 = omega (arith, few) in
-    ap (λ last. issued_by (n + 1) last (Some now) old) (h.first z) ∙ h.none_issued (omega (arith, few))
+    ap (λ last. issued_by (n + 1) last (Some now) old) (h.first z) ∙ h.none_issued on (omega (arith, few))
 
-issued-some : {F : Type 0} (n : ℕ) (now : State) (old : Live F) → HasSeen n old → (HasFilled old.pusher.giver → (last : State) × (old.last ≡ Some last)) → 2 ≤ n + 1 → issued_by (n + 1) old.last (Some now) old ≡ n + 1 + old.guessing.ahead
-issued-some n now old h pair more =
-    let last = last-kept n old h pair (omega (arith, more)) in
+issued-some : {F : Type 0} (n : ℕ) (now : State) (old : Live F) → HasSeen n old → is_guessing old.guessing ≡ true → (is_filled old.pusher.giver ≡ true → (last : State) × (old.last ≡ Some last)) → 2 ≤ n + 1 → issued_by (n + 1) old.last (Some now) old ≡ n + 1 + old.guessing.ahead
+issued-some n now old h on pair more =
+    let last = last-kept n old h on pair (omega (arith, more)) in
     ap (λ last. issued_by (n + 1) last (Some now) old) last.1
 
-after-seen : {F : Type 0} (n : ℕ) (now : State) (old : Live F) (p : Pusher) → n + 1 ≤ 2 ^ 40 → IsLive old → HasSeen n old → (HasFilled old.pusher.giver → (last : State) × (old.last ≡ Some last)) → Pushes (offers_at (n + 1) old) (due_by (n + 1) old.last (Some now) old) old.pusher p → p.refused ≡ 0
+after-seen : {F : Type 0} (n : ℕ) (now : State) (old : Live F) (p : Pusher) → n + 1 ≤ 2 ^ 40 → IsLive old → HasSeen n old → is_guessing old.guessing ≡ true → (is_filled old.pusher.giver ≡ true → (last : State) × (old.last ≡ Some last)) → Pushes (offers_at (n + 1) old) (due_by (n + 1) old.last (Some now) old) old.pusher p → p.refused ≡ 0
     → HasSeen (n + 1) (after (n + 1) now old p)
-after-seen n now old p most q h pair pushes none = record {
+after-seen n now old p most q h on pair pushes none = record {
   most = most;
   refused = none;
-  guesses = pushes-sees n now old p q h pair pushes none ∙ ap (λ m. m + guesses_at old.guessing (n + 1)) h.guesses ∙ sym (guesses_until-more old.guessing n);
+  guesses = pushes-sees n now old p q h on pair pushes none ∙ ap (λ m. m + guesses_at old.guessing (n + 1)) h.guesses ∙ sym (guesses_until-more old.guessing n);
   first = λ z. absurd (let x : ⊥ = omega (arith, z) in x);
-  later = λ some. inl (now, refl);
+  later = λ _ some. inl (now, refl);
   none_issued = issued-none n now old h;
-  issued = issued-some n now old h pair;
+  issued = λ on. issued-some n now old h on pair;
 }
 
 issued-small : {F : Type 0} (number : ℕ) (last : Option State) (now : State) (old : Live F) → number ≤ 2 ^ 40 → old.guessing.ahead ≤ 64 → old.issued ≤ 2 ^ 41 → issued_by number last (Some now) old ≤ 2 ^ 41
@@ -197,14 +199,14 @@ issued-small number None now old most ahead issued = issued
 issued-small number (Some last) now old most ahead issued = omega (arith, most, ahead)
 
 -- guesses find no room, or are not offered, only once the queue had been filled up
-room-after : (offers : Due → Bool) (due : List Due) (p q : Pusher) → Pushes offers due p q → (0 < p.full → p.giver.capacity ≤ length p.giver.pushed) → 0 < q.full → q.giver.capacity ≤ length q.giver.pushed
+room-after : (offers : Due → Bool) (due : List Due) (p q : Pusher) → Pushes offers due p q → (0 < full_of p → p.giver.capacity ≤ length p.giver.pushed) → 0 < full_of q → q.giver.capacity ≤ length q.giver.pushed
 room-after offers due p q s was some =
     let more = pushed-length offers due p q s in
     subst (λ c. c ≤ length q.giver.pushed) (sym (ap (λ (g : Giver). g.capacity) s.giver))
-    (room-more p.full (s.lacked + s.left) p.giver.capacity (length p.giver.pushed) (length q.giver.pushed) was s.room (omega (arith, more)) (omega (arith, some, s.full)))
+    (room-more (full_of p) (s.lacked + s.left) p.giver.capacity (length p.giver.pushed) (length q.giver.pushed) was s.room (omega (arith, more)) (omega (arith, some, full-is offers due p q s)))
 
-after-live : {F : Type 0} (number : ℕ) (now : State) (old : Live F) (p : Pusher) → number ≤ 2 ^ 40 → IsLive old → (HasFilled old.pusher.giver → (last : State) × (old.last ≡ Some last)) → Pushes (offers_at number old) (due_by number old.last (Some now) old) old.pusher p → IsLive (after number now old p)
-after-live number now old p most q pair pushes = record {
+after-live : {F : Type 0} (number : ℕ) (now : State) (old : Live F) (p : Pusher) → number ≤ 2 ^ 40 → IsLive old → is_guessing old.guessing ≡ true → (is_filled old.pusher.giver ≡ true → (last : State) × (old.last ≡ Some last)) → Pushes (offers_at number old) (due_by number old.last (Some now) old) old.pusher p → IsLive (after number now old p)
+after-live number now old p most q on pair pushes = record {
   least = q.least;
   most = q.most;
   issued = issued-small number old.last now old most q.most q.issued;
@@ -214,71 +216,128 @@ after-live number now old p most q pair pushes = record {
       let h = q.seen was.0 was.1 in
       subst (λ m. HasSeen m (after number now old p)) (sym was.2.1.1)
       (subst (λ m. HasSeen m (after m now old p)) (sym was.2.0)
-      (after-seen was.0 now old p (omega (arith, most, was.2.0)) q h pair (subst (λ m. Pushes (offers_at m old) (due_by m old.last (Some now) old) old.pusher p) was.2.0 pushes) was.2.1.0));
+      (after-seen was.0 now old p (omega (arith, most, was.2.0)) q h on pair (subst (λ m. Pushes (offers_at m old) (due_by m old.last (Some now) old) old.pusher p) was.2.0 pushes) was.2.1.0));
 }
 
--- ---- a visit that is passed over
+-- ---- a visit of which no job is pushed
 
--- what such a visit leaves, by the state that is kept
-abbrev passed : {F : Type 0} → (number : ℕ) → (last : Option State) → (old : Live F) → Live F
-passed number last old = record old {
-  prev = None;
-  last = last;
-  issued = number + old.guessing.ahead;
-  pusher = record old.pusher { full = old.pusher.full + length (kinds_of old.guessing) };
-  seen = seen_after number old.pusher.refused old.seen;
-}
+-- where no kind of guess is on, no guess is due
+no-kinds-by : (a b : Bool) → a || b ≡ false → length ((if a then Last ∷ [] else []) ++ (if b then Stride ∷ [] else [])) ≡ 0
+no-kinds-by true b e = absurd (cc)
+no-kinds-by false true e = absurd (cc)
+no-kinds-by false false e = refl
+
+no-kinds : (g : Guessing) → is_guessing g ≡ false → length (kinds_of g) ≡ 0
+no-kinds g off = no-kinds-by g.last g.stride off
+
+-- where one is on, the queue had been filled up before a visit is passed over
+passes-filled : (guesses filled paid : Bool) → guesses ≡ true → (not guesses || (filled && not paid)) ≡ true → filled ≡ true
+passes-filled true true paid on e = refl
+passes-filled true false paid on e = absurd (cc)
+passes-filled false filled paid on e = absurd (cc)
+
+-- a visit is made only where one is on
+made-on : (guesses b : Bool) → (not guesses || b) ≡ false → guesses ≡ true
+made-on true b e = refl
+made-on false b e = absurd (cc)
+
+pub is-on : {F : Type 0} (l : Live F) → is_passed_over l ≡ false → is_guessing l.guessing ≡ true
+is-on l made = made-on (is_guessing l.guessing) (is_filled l.pusher.giver && not (pays l.budget)) made
+
+pub passed-filled : {F : Type 0} (l : Live F) → is_passed_over l ≡ true → is_guessing l.guessing ≡ true → is_filled l.pusher.giver ≡ true
+passed-filled l passed on = passes-filled (is_guessing l.guessing) (is_filled l.pusher.giver) (pays l.budget) on passed
 
 -- two visits were seen before, since jobs were pushed
-passed-later : {F : Type 0} (n : ℕ) (old : Live F) → HasSeen n old → HasFilled old.pusher.giver → 2 ≤ n
-passed-later zero old h room = let some = room.some in let g = h.guesses in absurd (let x : ⊥ = omega (arith, some, g) in x)
-passed-later (suc zero) old h room = let some = room.some in let g = h.guesses in absurd (let x : ⊥ = omega (arith, some, g) in x)
-passed-later (suc (suc n)) old h room = omega arith
+given_up-later : {F : Type 0} (n : ℕ) (old : Live F) → HasSeen n old → is_filled old.pusher.giver ≡ true → 2 ≤ n
+given_up-later zero old h filled = let some = filled-is old.pusher.giver filled in let g = h.guesses in absurd (let x : ⊥ = omega (arith, some.0, g) in x)
+given_up-later (suc zero) old h filled = let some = filled-is old.pusher.giver filled in let g = h.guesses in absurd (let x : ⊥ = omega (arith, some.0, g) in x)
+given_up-later (suc (suc n)) old h filled = omega arith
 
 -- one guess of each kind is due
 kinds-later : (g : Guessing) (n : ℕ) → 2 ≤ n → length (kinds_of g) ≡ guesses_at g (n + 1)
 kinds-later g n later =
     (let one : length (kinds_of g) ≡ length (kinds_of g) * 1 = omega arith in one) ∙ ap (λ m. length (kinds_of g) * m) (sym (newly-later g.ahead n later))
 
-passed-sees : {F : Type 0} (n : ℕ) (old : Live F) → HasSeen n old → HasFilled old.pusher.giver
-    → length old.pusher.giver.pushed + (old.pusher.full + length (kinds_of old.guessing)) ≡ length old.pusher.giver.pushed + old.pusher.full + guesses_at old.guessing (n + 1)
-passed-sees n old h room = let kinds = kinds-later old.guessing n (passed-later n old h room) in omega (arith, kinds)
+kinds-none : (g : Guessing) (n : ℕ) → is_guessing g ≡ false → length (kinds_of g) ≡ guesses_at g (n + 1)
+kinds-none g n off = let none = no-kinds g off in
+    none ∙ (let z : 0 ≡ 0 * newly_guessed g.ahead (n + 1) = omega arith in z) ∙ ap (λ k. k * newly_guessed g.ahead (n + 1)) (sym none)
 
-passed-seen : {F : Type 0} (n : ℕ) (last : Option State) (old : Live F) → n + 1 ≤ 2 ^ 40 → HasSeen n old → HasFilled old.pusher.giver → HasSeen (n + 1) (passed (n + 1) last old)
-passed-seen n last old most h room = record {
+given_up-kinds : {F : Type 0} (n : ℕ) (old : Live F) → HasSeen n old → (on : Bool) → is_guessing old.guessing ≡ on → (is_guessing old.guessing ≡ true → is_filled old.pusher.giver ≡ true)
+    → length (kinds_of old.guessing) ≡ guesses_at old.guessing (n + 1)
+given_up-kinds n old h true on room = kinds-later old.guessing n (given_up-later n old h (room on))
+given_up-kinds n old h false off room = kinds-none old.guessing n off
+
+given_up-sees : {F : Type 0} (n : ℕ) (last : Option State) (old : Live F) → HasSeen n old → (is_guessing old.guessing ≡ true → is_filled old.pusher.giver ≡ true)
+    → length old.pusher.giver.pushed + full_of (given_up (n + 1) last old).pusher ≡ length old.pusher.giver.pushed + full_of old.pusher + guesses_at old.guessing (n + 1)
+given_up-sees n last old h room = let kinds = given_up-kinds n old h (is_guessing old.guessing) refl room in omega (arith, kinds)
+
+given_up-seen : {F : Type 0} (n : ℕ) (last : Option State) (old : Live F) → n + 1 ≤ 2 ^ 40 → HasSeen n old → (is_guessing old.guessing ≡ true → is_filled old.pusher.giver ≡ true)
+    → HasSeen (n + 1) (given_up (n + 1) last old)
+given_up-seen n last old most h room = record {
   most = most;
   refused = h.refused;
-  guesses = passed-sees n old h room ∙ ap (λ m. m + guesses_at old.guessing (n + 1)) h.guesses ∙ sym (guesses_until-more old.guessing n);
+  guesses = given_up-sees n last old h room ∙ ap (λ m. m + guesses_at old.guessing (n + 1)) h.guesses ∙ sym (guesses_until-more old.guessing n);
   first = λ z. absurd (let x : ⊥ = omega (arith, z) in x);
-  later = λ some. inr room;
-  none_issued = λ few. let later = passed-later n old h room in absurd (let x : ⊥ = omega (arith, few, later) in x);
-  issued = λ more. refl;
+  later = λ on some. inr (room on);
+  none_issued = λ on few. let later = given_up-later n old h (room on) in absurd (let x : ⊥ = omega (arith, few, later) in x);
+  issued = λ on more. refl;
 }
 
-passed-live : {F : Type 0} (number : ℕ) (last : Option State) (old : Live F) → number ≤ 2 ^ 40 → IsLive old → HasFilled old.pusher.giver → IsLive (passed number last old)
-passed-live number last old most q room = record {
+-- a guess is not offered only once the queue had been filled up
+given_up-room : {F : Type 0} (number : ℕ) (last : Option State) (old : Live F) → (0 < full_of old.pusher → old.pusher.giver.capacity ≤ length old.pusher.giver.pushed)
+    → (on : Bool) → is_guessing old.guessing ≡ on → (is_guessing old.guessing ≡ true → is_filled old.pusher.giver ≡ true)
+    → 0 < full_of (given_up number last old).pusher → old.pusher.giver.capacity ≤ length old.pusher.giver.pushed
+given_up-room number last old was true on room some = (filled-is old.pusher.giver (room on)).1
+given_up-room number last old was false off room some = was (let none = no-kinds old.guessing off in omega (arith, some, none))
+
+pub given_up-live : {F : Type 0} (number : ℕ) (last : Option State) (old : Live F) → number ≤ 2 ^ 40 → IsLive old → (is_guessing old.guessing ≡ true → is_filled old.pusher.giver ≡ true)
+    → IsLive (given_up number last old)
+given_up-live number last old most q room = record {
   least = q.least;
   most = q.most;
   issued = let ahead = q.most in omega (arith, most, ahead);
-  room = λ some. room.capacity;
+  room = given_up-room number last old q.room (is_guessing old.guessing) refl room;
   seen = λ n e.
       let was = seen-was number old.pusher.refused n old.seen e in
-      subst (λ m. HasSeen m (passed number last old)) (sym was.2.1.1)
-      (subst (λ m. HasSeen m (passed m last old)) (sym was.2.0)
-      (passed-seen was.0 last old (omega (arith, most, was.2.0)) (q.seen was.0 was.1) room));
+      subst (λ m. HasSeen m (given_up number last old)) (sym was.2.1.1)
+      (subst (λ m. HasSeen m (given_up m last old)) (sym was.2.0)
+      (given_up-seen was.0 last old (omega (arith, most, was.2.0)) (q.seen was.0 was.1) room));
 }
+
+-- whatever is left for visits
+charged-live : {F : Type 0} (old : Live F) → IsLive old → IsLive (charged old)
+charged-live old q = IsLive-asked old old.finder (charged old).budget q
+
+given_up-plans : {F : Type 0} (number : ℕ) (last : Option State) (old : Live F) → Plans 1 (plan_of old) (plan_of (given_up number last (charged old)))
+given_up-plans number last old =
+    let few = kinds-few old.guessing in
+    record { made = omega arith; full = omega arith; few = omega (arith, few); refused = omega arith; queue = refl }
+
+given_up-told : {F : Type 0} (number : ℕ) (last : Option State) (old : Live F) → IsLive old → (is_guessing old.guessing ≡ true → is_filled old.pusher.giver ≡ true)
+    → Sees number (plan_of old) (plan_of (given_up number last (charged old)))
+given_up-told number last old q room before told next same =
+    let is = told-is old.seen old.guessing before told in
+    let h = q.seen before.number is.0 in
+    let seen_is : seen_after number old.pusher.refused old.seen ≡ Some number = (λ i. seen_after (next i) (h.refused i) (is.0 i)) ∙ seen-next before.number ∙ ap Some (sym next) in (
+      ap (λ (o : Option ℕ). elim o [ Some m ↦ Some (seen m old.guessing) | None ↦ None ]) seen_is ∙ ap (λ g. Some (seen number g)) is.1,
+      given_up-sees before.number last old h room
+          ∙ (λ i. length old.pusher.giver.pushed + full_of old.pusher + guesses_at (is.1 i) (sym next i)),
+    )
 
 -- ---- any visit
 
 -- what a visit leaves is such a helper
 pub visit-live : {F : Type 0} (number : ℕ) (now : State) (old new : Live F) → number ≤ 2 ^ 40 → IsLive old → Visits number now old new → IsLive new
-visit-live number now old new most q (inl v) = subst IsLive (sym v.rest) (after-live number now old new.pusher most q v.pair v.pushes)
-visit-live number now old new most q (inr (inr v)) = subst IsLive (sym v.rest) (passed-live number new.last old most q v.room)
-visit-live number now old new most q (inr (inl v)) = subst IsLive (sym v) (record { least = q.least; most = q.most; issued = q.issued; room = q.room; seen = λ n e. absurd (cc) })
+visit-live number now old new most q (inl v) = subst IsLive (sym v.rest) (given_up-live number None (charged old) most (charged-live old q) (passed-filled old v.passed))
+visit-live number now old new most q (inr (inl v)) = subst IsLive (sym v.rest) (given_up-live number (Some now) (charged old) most (charged-live old q) (λ on. v.filled))
+visit-live number now old new most q (inr (inr (inl v))) = subst IsLive (sym v.rest) (after-live number now old new.pusher most q (is-on old v.made) v.pair v.pushes)
+visit-live number now old new most q (inr (inr (inr v))) = subst IsLive (sym v.rest) (record { least = q.least; most = q.most; issued = q.issued; room = q.room; seen = λ n e. absurd (cc) })
 
 -- it makes at most 128 guesses
 pub visit-plans : {F : Type 0} (number : ℕ) (now : State) (old new : Live F) → IsLive old → Visits number now old new → Plans 1 (plan_of old) (plan_of new)
-visit-plans number now old new q (inl v) =
+visit-plans number now old new q (inl v) = subst (λ l. Plans 1 (plan_of old) (plan_of l)) (sym v.rest) (given_up-plans number None old)
+visit-plans number now old new q (inr (inl v)) = subst (λ l. Plans 1 (plan_of old) (plan_of l)) (sym v.rest) (given_up-plans number (Some now) old)
+visit-plans number now old new q (inr (inr (inl v))) =
     let grown = Pushes-few (offers_at number old) _ _ _ v.pushes in
     let few = due-few number old.last now old q.most in
     record {
@@ -288,14 +347,13 @@ visit-plans number now old new q (inl v) =
       refused = subst (λ n. old.pusher.refused ≤ n) (sym v.pushes.refused) (raised-grows old.pusher.refused v.pushes.wanting);
       queue = ap (λ (giver : Giver). Some (queue_of giver)) v.pushes.giver;
     }
-visit-plans number now old new q (inr (inr v)) =
-    let few = kinds-few old.guessing in
-    subst (λ l. Plans 1 (plan_of old) (plan_of l)) (sym v.rest) (record { made = omega arith; full = omega arith; few = omega (arith, few); refused = omega arith; queue = refl })
-visit-plans number now old new q (inr (inl v)) = subst (λ l. Plans 1 (plan_of old) (plan_of l)) (sym v) (record { made = omega arith; full = omega arith; few = omega arith; refused = omega arith; queue = refl })
+visit-plans number now old new q (inr (inr (inr v))) = subst (λ l. Plans 1 (plan_of old) (plan_of l)) (sym v.rest) (record { made = omega arith; full = omega arith; few = omega arith; refused = omega arith; queue = refl })
 
 -- it is told of, where the one before was
 pub visit-sees : {F : Type 0} (number : ℕ) (now : State) (old new : Live F) → IsLive old → Visits number now old new → Sees number (plan_of old) (plan_of new)
-visit-sees {F} number now old new q (inl v) before told next same =
+visit-sees {F} number now old new q (inl v) before told next same = subst (λ l. Sees number (plan_of old) (plan_of l)) (sym v.rest) (given_up-told number None old q (passed-filled old v.passed)) before told next same
+visit-sees {F} number now old new q (inr (inl v)) before told next same = subst (λ l. Sees number (plan_of old) (plan_of l)) (sym v.rest) (given_up-told number (Some now) old q (λ on. v.filled)) before told next same
+visit-sees {F} number now old new q (inr (inr (inl v))) before told next same =
     let is = told-is old.seen old.guessing before told in
     let h = q.seen before.number is.0 in
     let none = same ∙ h.refused in
@@ -303,21 +361,12 @@ visit-sees {F} number now old new q (inl v) before told next same =
     let seen_is : new.seen ≡ Some number = ap (λ (l : Live F). l.seen) v.rest ∙ (λ i. seen_after (next i) (none i) (is.0 i)) ∙ seen-next before.number ∙ ap Some (sym next) in
     let guessing_is : new.guessing ≡ before.guessing = ap (λ (l : Live F). l.guessing) v.rest ∙ is.1 in (
       ap (λ (o : Option ℕ). elim o [ Some m ↦ Some (seen m new.guessing) | None ↦ None ]) seen_is ∙ ap (λ g. Some (seen number g)) guessing_is,
-      pushes-sees before.number now old new.pusher q h v.pair pushes none
-          ∙ (λ i. length old.pusher.giver.pushed + old.pusher.full + guesses_at (is.1 i) (sym next i)),
+      pushes-sees before.number now old new.pusher q h (is-on old v.made) v.pair pushes none
+          ∙ (λ i. length old.pusher.giver.pushed + full_of old.pusher + guesses_at (is.1 i) (sym next i)),
     )
-visit-sees {F} number now old new q (inr (inr v)) before told next same =
+visit-sees {F} number now old new q (inr (inr (inr v))) before told next same =
     let is = told-is old.seen old.guessing before told in
     let h = q.seen before.number is.0 in
-    let seen_is : new.seen ≡ Some number = ap (λ (l : Live F). l.seen) v.rest ∙ (λ i. seen_after (next i) (h.refused i) (is.0 i)) ∙ seen-next before.number ∙ ap Some (sym next) in
-    let guessing_is : new.guessing ≡ before.guessing = ap (λ (l : Live F). l.guessing) v.rest ∙ is.1 in (
-      ap (λ (o : Option ℕ). elim o [ Some m ↦ Some (seen m new.guessing) | None ↦ None ]) seen_is ∙ ap (λ g. Some (seen number g)) guessing_is,
-      ap (λ (l : Live F). length l.pusher.giver.pushed + l.pusher.full) v.rest ∙ passed-sees before.number old h v.room
-          ∙ (λ i. length old.pusher.giver.pushed + old.pusher.full + guesses_at (is.1 i) (sym next i)),
-    )
-visit-sees {F} number now old new q (inr (inl v)) before told next same =
-    let is = told-is old.seen old.guessing before told in
-    let h = q.seen before.number is.0 in
-    let rose : new.pusher.refused ≡ one_more old.pusher.refused = ap (λ (l : Live F). l.pusher.refused) v in
+    let rose : new.pusher.refused ≡ one_more old.pusher.refused = ap (λ (l : Live F). l.pusher.refused) v.rest in
     let zero_is = h.refused in
     absurd (let x : ⊥ = omega (arith, rose, same, zero_is) in x)

@@ -129,7 +129,7 @@ Pushes-target offers prev last g ahead p q are s = Pushes-offered offers _ p q (
 
 -- those of one that is left to the walk
 pub Pushes-target-left : (offers : Due → Bool) (prev last : State) (g : Guessing) (ahead : ℕ) (p q : Pusher) → ((kind : Kind) → offers (job_of prev last (kind, ahead)) ≡ false)
-    → q ≡ record p { full = p.full + length (kinds_of g) } → p.giver.capacity ≤ length p.giver.pushed
+    → q ≡ record p { left = p.left + length (kinds_of g) } → p.giver.capacity ≤ length p.giver.pushed
     → Pushes offers (jobs_of prev last (map (λ (kind : Kind). (kind, ahead)) (kinds_of g))) p q
 Pushes-target-left offers prev last g ahead p q are e room = Pushes-left offers _ p q (kinds-offered offers prev last ahead false are (kinds_of g))
-    (e ∙ ap (λ n. record p { full = p.full + n }) (sym (kinds-length prev last g ahead))) room
+    (e ∙ ap (λ n. record p { left = p.left + n }) (sym (kinds-length prev last g ahead))) room

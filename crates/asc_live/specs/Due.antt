@@ -45,17 +45,24 @@ raised count (suc n) = one_more (raised count n)
 -- what pushes jobs, and what it counted
 pub record Pusher : Type 0 where
   pub giver : Giver
-  -- how many guesses found no room, or were not offered once the queue had been filled up
-  pub full : ℕ
+  -- how many guesses were offered and found no room
+  pub lacked : ℕ
+  -- how many were not in the workers' share, and left to the walk
+  pub left : ℕ
+  -- how many were due at visits that were passed over, or that kept a state alone after such ones
+  pub passed : ℕ
   -- how often memory was wanting
   pub refused : ℕ
 
--- jobs were pushed, and as many as the queue holds
-pub record HasFilled (giver : Giver) : Type 0 where
-  pub some : 0 < length giver.pushed
-  pub capacity : giver.capacity ≤ length giver.pushed
+-- one that has pushed nothing yet
+abbrev pub new_pusher : Giver → Pusher
+new_pusher giver = record { giver = giver; lacked = 0; left = 0; passed = 0; refused = 0 }
 
--- the same as a test
+-- how many guesses were not pushed though memory was not wanting
+abbrev pub full_of : Pusher → ℕ
+full_of p = p.lacked + p.left + p.passed
+
+-- whether jobs were pushed, and as many as the queue holds
 abbrev pub is_filled : Giver → Bool
 is_filled giver = nat_lt 0 (length giver.pushed) && nat_le giver.capacity (length giver.pushed)
 
@@ -81,6 +88,8 @@ pub record Pushes (offers : Due → Bool) (due : List Due) (old new : Pusher) : 
   pub rest : length due ≡ length (filter offers due) + left
   pub giver : new.giver ≡ record old.giver { pushed = old.giver.pushed ++ jobs }
   pub tickets : CountUp (length old.giver.pushed) jobs
-  pub full : new.full ≡ old.full + lacked + left
+  pub lacked_is : new.lacked ≡ old.lacked + lacked
+  pub left_is : new.left ≡ old.left + left
+  pub passed_is : new.passed ≡ old.passed
   pub room : 0 < lacked + left → old.giver.capacity ≤ length new.giver.pushed
   pub refused : new.refused ≡ raised old.refused wanting

@@ -1,3 +1,4 @@
+pub mod Budget
 pub mod Due
 pub mod Live
 pub mod Laws

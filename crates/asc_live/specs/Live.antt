@@ -1,5 +1,5 @@
 -- A helper that has others do what it guesses.
-use Rattle.std.specs.Prelude.{◌≡◌, ◌⊎◌, ℕ, ◌+◌, ◌^◌, ◌≤◌, ◌<◌, nat_lt, ◌==◌, ◌&&◌, Bool, List, [], length, Option, Some, None, if◌then◌else◌}
+use Rattle.std.specs.Prelude.{◌≡◌, ◌⊎◌, ℕ, ◌+◌, ◌^◌, ◌≤◌, ◌<◌, nat_lt, ◌==◌, ◌&&◌, ◌||◌, Bool, true, false, List, [], length, Option, Some, None, if◌then◌else◌}
 use Rattle.std.specs.Global.{Global}
 use Rattle.std.specs.declared.sync.Arc.{Arc}
 use Rattle.asc_model.specs.State.{State}
@@ -9,7 +9,8 @@ use Rattle.asc_traj.specs.declared.guessing.Guessing.{Guessing}
 use Rattle.asc_traj.specs.Finder.{Plan, Queue}
 use Rattle.asc_run.specs.Serial.{kinds_of, tasks_of}
 use Rattle.asc_run.specs.Seen.{seen, guesses_until}
-use Rattle.asc_live.specs.Due.{Due, Pusher, Pushes, HasFilled, is_filled, is_offered, jobs_of}
+use Rattle.asc_live.specs.Budget.{Budget, new_budget, passes, after_visit}
+use Rattle.asc_live.specs.Due.{Due, Pusher, Pushes, new_pusher, full_of, is_filled, is_offered, jobs_of}
 
 -- the helper of a walk that has workers beside it
 pub record Live (F : Type 0) : Type 0 where
@@ -25,6 +26,8 @@ pub record Live (F : Type 0) : Type 0 where
   pub seen : Option ℕ
   -- how many workers there are
   pub workers : ℕ
+  -- what its visits may cost
+  pub budget : Budget
 
 -- the state of a copy, where there is one
 abbrev pub state_in : Option (Arc State Global) → Option State
@@ -33,8 +36,8 @@ state_in (Some copy) = Some copy.value
 
 -- what is seen of its fields
 abbrev pub live : {F : Type 0} → F → Guessing → (prev last : Option (Arc State Global)) → (issued : ℕ) → Pusher
-    → (seen : Option ℕ) → (workers : ℕ) → Live F
-live finder guessing prev last issued pusher seen workers = record {
+    → (seen : Option ℕ) → (workers : ℕ) → Budget → Live F
+live finder guessing prev last issued pusher seen workers budget = record {
   finder = finder;
   guessing = guessing;
   prev = state_in prev;
@@ -43,6 +46,7 @@ live finder guessing prev last issued pusher seen workers = record {
   pusher = pusher;
   seen = seen;
   workers = workers;
+  budget = budget;
 }
 
 -- one that was not visited yet, and whose queue never had a job
@@ -53,9 +57,10 @@ new_live finder giver guessing workers = record {
   prev = None;
   last = None;
   issued = 0;
-  pusher = record { giver = giver; full = 0; refused = 0 };
+  pusher = new_pusher giver;
   seen = Some 0;
   workers = workers;
+  budget = new_budget workers;
 }
 
 -- the queue of a giver, as a finder tells it
@@ -67,7 +72,7 @@ abbrev pub plan_of : {F : Type 0} → Live F → Plan
 plan_of l = record {
   made = length l.pusher.giver.pushed;
   refused = l.pusher.refused;
-  full = l.pusher.full;
+  full = full_of l.pusher;
   seen = elim l.seen [ Some number ↦ Some (seen number l.guessing) | None ↦ None ];
   queue = Some (queue_of l.pusher.giver);
 }
@@ -95,20 +100,29 @@ abbrev pub seen_after : (number refused : ℕ) → Option ℕ → Option ℕ
 seen_after number refused (Some before) = if (number == before + 1) && (refused == 0) then Some number else None
 seen_after number refused None = None
 
--- At a visit its state was kept, and the jobs that are due and offered were pushed, but where memory or room was wanting.
--- Once the queue had been filled up, a state is kept so only where that of the visit before was too.
-pub record Keeps {F : Type 0} (number : ℕ) (now : State) (old new : Live F) : Type 0 where
-  pub pair : HasFilled old.pusher.giver → (last : State) × (old.last ≡ Some last)
-  pub pushes : Pushes (offers_at number old) (due_by number old.last (Some now) old) old.pusher new.pusher
-  pub rest : new ≡ record old {
-    prev = old.last;
-    last = Some now;
-    issued = issued_by number old.last (Some now) old;
-    pusher = new.pusher;
-    seen = seen_after number new.pusher.refused old.seen;
-  }
+-- whether a kind of guess is on
+abbrev pub is_guessing : Guessing → Bool
+is_guessing g = g.last || g.stride
 
--- memory was wanting for a visit's state: both states are given up, and no job is pushed
+-- whether a visit is passed over
+abbrev pub is_passed_over : {F : Type 0} → Live F → Bool
+is_passed_over l = passes (is_guessing l.guessing) (is_filled l.pusher.giver) l.budget
+
+-- one whose budget was charged for a visit, where it pays for it
+abbrev pub charged : {F : Type 0} → Live F → Live F
+charged l = record l { budget = after_visit (is_guessing l.guessing) (is_filled l.pusher.giver) l.budget }
+
+-- no job of a visit is pushed, nor offered: of each kind one was due
+abbrev pub given_up : {F : Type 0} → (number : ℕ) → (last : Option State) → Live F → Live F
+given_up number last l = record l {
+  prev = None;
+  last = last;
+  issued = number + l.guessing.ahead;
+  pusher = record l.pusher { passed = l.pusher.passed + length (kinds_of l.guessing) };
+  seen = seen_after number l.pusher.refused l.seen;
+}
+
+-- memory is wanting for a visit's state: both states are given up, and no job is pushed
 abbrev pub refused_visit : {F : Type 0} → Live F → Live F
 refused_visit l = record l {
   prev = None;
@@ -117,32 +131,51 @@ refused_visit l = record l {
   seen = None;
 }
 
--- A visit was passed over, once the queue had been filled up: of each kind one guess is not offered. Its state is kept,
--- where it ends a row of such visits, or is not.
-pub record PassesOver {F : Type 0} (number : ℕ) (now : State) (old new : Live F) : Type 0 where
-  pub room : HasFilled old.pusher.giver
-  pub state : (new.last ≡ None) ⊎ (new.last ≡ Some now)
-  pub rest : new ≡ record old {
-    prev = None;
-    last = new.last;
-    issued = number + old.guessing.ahead;
-    pusher = record old.pusher { full = old.pusher.full + length (kinds_of old.guessing) };
-    seen = seen_after number old.pusher.refused old.seen;
+-- A visit is passed over: its state is not kept.
+pub record PassesOver {F : Type 0} (number : ℕ) (old new : Live F) : Type 0 where
+  pub passed : is_passed_over old ≡ true
+  pub rest : new ≡ given_up number None (charged old)
+
+-- A visit keeps its state alone: the queue had been filled up, and the state of the visit before was not kept.
+pub record BeginsRow {F : Type 0} (number : ℕ) (now : State) (old new : Live F) : Type 0 where
+  pub made : is_passed_over old ≡ false
+  pub filled : is_filled old.pusher.giver ≡ true
+  pub alone : old.last ≡ None
+  pub rest : new ≡ given_up number (Some now) (charged old)
+
+-- At any other visit its state is kept, and the jobs that are due and offered are pushed, but where memory or room is
+-- wanting.
+pub record Keeps {F : Type 0} (number : ℕ) (now : State) (old new : Live F) : Type 0 where
+  pub made : is_passed_over old ≡ false
+  pub pair : is_filled old.pusher.giver ≡ true → (last : State) × (old.last ≡ Some last)
+  pub pushes : Pushes (offers_at number old) (due_by number old.last (Some now) old) old.pusher new.pusher
+  pub rest : new ≡ record (charged old) {
+    prev = old.last;
+    last = Some now;
+    issued = issued_by number old.last (Some now) old;
+    pusher = new.pusher;
+    seen = seen_after number new.pusher.refused old.seen;
   }
+
+-- Memory is wanting for the state of a visit that is not passed over.
+pub record Refuses {F : Type 0} (old new : Live F) : Type 0 where
+  pub made : is_passed_over old ≡ false
+  pub rest : new ≡ refused_visit (charged old)
 
 -- what a visit does
 abbrev pub Visits : {F : Type 0} → (number : ℕ) → State → (old new : Live F) → Type 0
-Visits number now old new = Keeps number now old new ⊎ ((new ≡ refused_visit old) ⊎ PassesOver number now old new)
+Visits number now old new = PassesOver number old new ⊎ (BeginsRow number now old new ⊎ (Keeps number now old new ⊎ Refuses old new))
 
 -- what holds where all visits up to one were guessed
 pub record HasSeen {F : Type 0} (number : ℕ) (l : Live F) : Type 0 where
   pub most : number ≤ 2 ^ 40
   pub refused : l.pusher.refused ≡ 0
-  pub guesses : length l.pusher.giver.pushed + l.pusher.full ≡ guesses_until l.guessing number
+  pub guesses : length l.pusher.giver.pushed + full_of l.pusher ≡ guesses_until l.guessing number
   pub first : number ≡ 0 → l.last ≡ None
-  pub later : 0 < number → ((last : State) × (l.last ≡ Some last)) ⊎ HasFilled l.pusher.giver
-  pub none_issued : number < 2 → l.issued ≡ 0
-  pub issued : 2 ≤ number → l.issued ≡ number + l.guessing.ahead
+  pub later : is_guessing l.guessing ≡ true → 0 < number
+      → ((last : State) × (l.last ≡ Some last)) ⊎ (is_filled l.pusher.giver ≡ true)
+  pub none_issued : is_guessing l.guessing ≡ true → number < 2 → l.issued ≡ 0
+  pub issued : is_guessing l.guessing ≡ true → 2 ≤ number → l.issued ≡ number + l.guessing.ahead
 
 -- what holds of every such helper
 pub record IsLive {F : Type 0} (l : Live F) : Type 0 where
@@ -150,5 +183,5 @@ pub record IsLive {F : Type 0} (l : Live F) : Type 0 where
   pub most : l.guessing.ahead ≤ 64
   pub issued : l.issued ≤ 2 ^ 41
   -- a guess finds no room, or is not offered, only once the queue had been filled up
-  pub room : 0 < l.pusher.full → l.pusher.giver.capacity ≤ length l.pusher.giver.pushed
+  pub room : 0 < full_of l.pusher → l.pusher.giver.capacity ≤ length l.pusher.giver.pushed
   pub seen : (number : ℕ) → l.seen ≡ Some number → HasSeen number l

@@ -1,16 +1,22 @@
-ghost use Rattle.std.specs.Prelude.{◌≡◌, ◌≤◌, not, true, false};
+ghost use Rattle.std.specs.Prelude.{◌≡◌, ◌≤◌, ◌^◌, not, true, false, IfSome};
+ghost use Rattle.asc_live.specs.Budget.{new_budget, passes, after_visit, after_look_up};
 
-// What a visit is charged, in steps of the guest: for the copy of its state and its jobs, and for a look-up in the list
-// of each worker. It is several times what it takes, so that visits which save nothing cost a run little.
+use std::marker::Model;
+
+/// What a visit is charged, in steps of the guest: for the copy of its state and its jobs, and for a look-up in the list
+/// of each worker. It is several times what it takes, so that visits which save nothing cost a run little.
 const VISIT_STEPS: u64 = 5_000;
 
 const WORKER_STEPS: u64 = 1_000;
 
-// A step that was jumped over counts as so many: it is saved, and visits may cost what they save.
-const SAVED: u64 = 4;
+/// So many workers are charged for at most.
+const WORKERS: usize = 64;
 
-// So many visits the budget pays for at most. After visits that were passed over it first grows to that again: a guess
-// wants the states of two visits, one after the other, and workers that are awake.
+/// A step that was jumped over counts as so many more: it is saved, and visits may cost what they save.
+const SAVED: u64 = 3;
+
+/// So many visits the budget pays for at most. After visits that were passed over it first grows to that again: a guess
+/// wants the states of two visits, one after the other, and workers that are awake.
 const ROW: u64 = 32;
 
 /// What the visits of a walk may cost. It changes no answer of a run.
@@ -26,43 +32,48 @@ pub(crate) struct Budget {
     passing: bool,
 }
 
+impl Model for Budget {
+    ghost use Rattle.asc_live.specs.Budget as model;
+
+    ghost Value = { model.Budget };
+
+    ghost view = { λ b. record { cost = b.cost; steps = b.steps; left = b.left; passing = b.passing } };
+
+    ghost invariant = { λ b. model.IsBudget (record { cost = b.cost; steps = b.steps; left = b.left; passing = b.passing }) };
+}
+
 impl Budget {
     /// That of a walk with so many workers. It may begin with a row of visits.
     pub(crate) fn new(workers: usize) -> Budget
-        ensures { result.passing ≡ false }
+        ensures { result ≡ new_budget workers }
     {
-        let cost = WORKER_STEPS
-            .saturating_mul(workers as u64)
-            .saturating_add(VISIT_STEPS);
+        let cost = VISIT_STEPS + WORKER_STEPS * workers.min(WORKERS) as u64;
         Budget {
             cost,
-            steps: cost.saturating_mul(ROW),
+            steps: ROW * cost,
             left: 0,
             paid: false,
             passing: false,
         }
     }
 
-    /// Whether a visit is made, and not passed over. Each is made until the queue was filled up, also where the budget
-    /// does not pay for it.
-    pub(crate) fn pay(&mut self, filled: bool) -> bool
-        ensures filled { result ≡ false → filled ≡ true }
-        ensures passing { self.new.passing ≡ not result }
+    /// Whether a visit is made, and not passed over. Where a kind of guess is on, each is made until the queue was filled
+    /// up, also where the budget does not pay for it.
+    pub(crate) fn pay(&mut self, guesses: bool, filled: bool) -> bool
+        ensures made { result ≡ not (passes guesses filled self.old) }
+        ensures after { self.new ≡ after_visit guesses filled self.old }
     {
         let wanted = if self.passing {
-            self.cost.saturating_mul(ROW)
+            ROW * self.cost
         } else {
             self.cost
         };
-        self.paid = wanted <= self.steps;
-        self.passing = filled && !self.paid;
-        if self.passing {
-            return false;
-        }
+        self.paid = guesses && wanted <= self.steps;
+        self.passing = !guesses || filled && !self.paid;
         if self.paid {
-            self.steps = self.steps.saturating_sub(self.cost);
+            self.steps -= self.cost;
         }
-        true
+        !self.passing
     }
 
     /// Whether the last visit was paid for.
@@ -70,34 +81,24 @@ impl Budget {
         self.paid
     }
 
-    /// How many steps a look-up may jump over, where so many are left: none at a visit that was passed over. The budget
-    /// grows by the steps since the last look-up.
-    pub(crate) fn reach(&mut self, left: u64) -> u64
-        ensures few { result ≤ left }
-        ensures made { self.old.passing ≡ false → result ≡ left }
-        ensures passed { self.old.passing ≡ true → result ≡ 0 }
-        ensures passing { self.new.passing ≡ self.old.passing }
+    /// How many steps a look-up may jump over, where so many are left: none at a visit that was passed over.
+    pub(crate) fn reach(&self, left: u64) -> u64
+        ensures made { self.now.passing ≡ false → result ≡ left }
+        ensures passed { self.now.passing ≡ true → result ≡ 0 }
     {
-        self.grow(self.left.saturating_sub(left));
-        self.left = left;
         if self.passing { 0 } else { left }
     }
 
-    /// The budget grows by what a look-up saved, beyond the steps that it jumped over.
-    pub(crate) fn save(&mut self, found: Option<u64>)
-        ensures { self.new.passing ≡ self.old.passing }
+    /// After a look-up with so many steps left, which jumped over some, it grows by the steps since the last one, and by
+    /// what was saved, up to what a row of visits costs.
+    pub(crate) fn look_up(&mut self, left: u64, jumped: Option<u64>)
+        requires left { left ≤ 2 ^ 40 }
+        requires jumped { IfSome jumped (λ steps. steps ≤ 2 ^ 40) }
+        ensures { self.new ≡ after_look_up left jumped self.old }
     {
-        let steps = found.unwrap_or(0);
-        self.grow(steps.saturating_mul(SAVED - 1));
-    }
-
-    // The budget grows, up to what a row of visits costs.
-    fn grow(&mut self, steps: u64)
-        ensures { self.new.passing ≡ self.old.passing }
-    {
-        self.steps = self
-            .steps
-            .saturating_add(steps)
-            .min(self.cost.saturating_mul(ROW));
+        let gone = self.left.saturating_sub(left);
+        let saved = SAVED * jumped.unwrap_or(0);
+        self.steps = (self.steps + gone + saved).min(ROW * self.cost);
+        self.left = left;
     }
 }

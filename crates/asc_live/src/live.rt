@@ -1,12 +1,13 @@
-ghost use Rattle.std.specs.Prelude.{◌≡◌, ◌+◌, ◌<◌, ◌≤◌, ◌^◌, [], ◌∷◌, length, true, false, None, Some};
+ghost use Rattle.std.specs.Prelude.{◌≡◌, ◌⊎◌, ◌+◌, ◌<◌, ◌≤◌, ◌^◌, [], ◌∷◌, length, true, false, None, Some};
 ghost use Rattle.asc_traj.specs.Finder.{Tells, tally_after, IsJump};
 ghost use Rattle.asc_traj.specs.Serial.{Serial, serial_reply};
 ghost use Rattle.asc_run.specs.Helped.{aid, Plans, VisitsMachine};
 ghost use Rattle.asc_run.specs.Seen.{Sees};
 ghost use Rattle.asc_run.specs.Serial.{kinds_of};
 ghost use Rattle.asc_live.specs.Laws.{new_plan};
-ghost use Rattle.asc_live.specs.Live.{IsLive, new_live, queue_of, plan_of, refused_visit, due_by, issued_by, offers_at, seen_after as seen_by, Visits};
-ghost use Rattle.asc_live.specs.Due.{HasFilled, Pushes, is_filled};
+ghost use Rattle.asc_live.specs.Live.{IsLive, new_live, queue_of, plan_of, given_up, refused_visit, due_by, issued_by, is_guessing, offers_at, seen_after as seen_by, Visits};
+ghost use Rattle.asc_live.specs.Due.{Pushes, full_of, is_filled};
+ghost use Rattle.asc_live.specs.Budget.{after_look_up};
 
 use crate::budget::Budget;
 use crate::pusher::Pusher;
@@ -26,8 +27,9 @@ use std::sync::{Arc, Wait};
 ///
 /// Visits cost the walk time, so it has a budget for them. The budget grows by the steps of the walk, and by more where
 /// they are jumped over. Once the queue had been filled up, a visit that the budget does not pay for is passed over, and
-/// so are those after it until the budget is whole again. At such a visit no state is kept, nothing is pushed, and the
-/// finder is asked for no step. Which visits are passed over changes no answer of a run.
+/// so are those after it until the budget is whole again. Where no kind of guess is on, each visit is passed over. At such
+/// a visit no state is kept, nothing is pushed, and the finder is asked for no step. Which visits are passed over changes
+/// no answer of a run.
 ///
 /// Of the guesses that are then due at the other visits, the workers' share is offered to them (`Share`). Those that are
 /// left to the walk count as full.
@@ -57,9 +59,9 @@ impl<'a, F, G, R> Model for Live<'a, F, G, R> {
 
     ghost Value = { model.Live F };
 
-    ghost view = { λ s. model.live s.finder s.guessing s.prev s.last s.issued s.pusher s.seen (length s.workers.items) };
+    ghost view = { λ s. model.live s.finder s.guessing s.prev s.last s.issued s.pusher s.seen (length s.workers.items) s.budget };
 
-    ghost invariant = { λ s. model.IsLive (model.live s.finder s.guessing s.prev s.last s.issued s.pusher s.seen (length s.workers.items)) };
+    ghost invariant = { λ s. model.IsLive (model.live s.finder s.guessing s.prev s.last s.issued s.pusher s.seen (length s.workers.items) s.budget) };
 }
 
 impl<'a, F, G, R> Live<'a, F, G, R> {
@@ -167,11 +169,10 @@ impl<'a, F, G, R> Live<'a, F, G, R> {
     // Keeps the state of the first visit after those that were passed over. It has no other to guess by.
     fn begin_row(&mut self, state: &mut State, number: u64)
         requires seen { self.old.seen ≡ None }
-        requires last { self.old.last ≡ None }
-        requires filled { HasFilled self.old.pusher.giver }
+        requires filled { is_filled self.old.pusher.giver ≡ true }
         requires number { number ≤ 2 ^ 40 }
-        requires full { self.old.pusher.full < 2 ^ 62 }
-        ensures visits { Visits number state.old self.old self.new }
+        requires full { full_of self.old.pusher < 2 ^ 62 }
+        ensures begins { (self.new ≡ given_up number (Some state.old) self.old) ⊎ (self.new ≡ refused_visit self.old) }
         ensures stays { state.new ≡ state.old }
     {
         if self.keep(state) {
@@ -179,24 +180,18 @@ impl<'a, F, G, R> Live<'a, F, G, R> {
         }
     }
 
-    // No job of a visit is pushed: the guesses that are due count as those that find no room.
+    // No job of a visit is pushed, nor offered.
     fn give_up(&mut self, number: u64)
         requires seen { self.old.seen ≡ None }
-        requires filled { HasFilled self.old.pusher.giver }
+        requires filled { is_guessing self.old.guessing ≡ true → is_filled self.old.pusher.giver ≡ true }
         requires number { number ≤ 2 ^ 40 }
-        requires full { self.old.pusher.full < 2 ^ 62 }
-        ensures { self.new ≡ record self.old {
-          prev = None;
-          issued = number + self.old.guessing.ahead;
-          pusher = record self.old.pusher {
-            full = self.old.pusher.full + length (kinds_of self.old.guessing);
-          };
-        } }
+        requires full { full_of self.old.pusher < 2 ^ 62 }
+        ensures { self.new ≡ given_up number self.old.last self.old }
     {
         let ahead = u64::from(self.guessing.ahead);
         self.prev = None;
         self.issued = number + ahead;
-        self.pusher.give_up(&self.guessing);
+        self.pusher.pass_over(&self.guessing);
     }
 }
 
@@ -205,12 +200,13 @@ impl<'a, F, G, R: Wait> Live<'a, F, G, R> {
     fn make_or_pass(&mut self, state: &mut State, number: u64)
         requires seen { self.old.seen ≡ None }
         requires number { number ≤ 2 ^ 40 }
-        requires full { self.old.pusher.full < 2 ^ 62 }
+        requires full { full_of self.old.pusher < 2 ^ 62 }
         ensures visits { Visits number state.old self.old self.new }
         ensures stays { state.new ≡ state.old }
     {
+        let guesses = self.guessing.last || self.guessing.stride;
         let filled = self.pusher.has_filled();
-        if !self.budget.pay(filled) {
+        if !self.budget.pay(guesses, filled) {
             self.last = None;
             self.give_up(number);
         } else if filled && self.last.is_none() {
@@ -225,9 +221,8 @@ impl<'a, F, G, R: Wait> Live<'a, F, G, R> {
     fn push_due(&mut self, number: u64, filled: bool)
         requires seen { self.old.seen ≡ None }
         requires filled { filled ≡ is_filled self.old.pusher.giver }
-        requires room { filled ≡ true → HasFilled self.old.pusher.giver }
         requires number { number ≤ 2 ^ 40 }
-        requires full { self.old.pusher.full < 2 ^ 62 }
+        requires full { full_of self.old.pusher < 2 ^ 62 }
         ensures pushes { Pushes (offers_at number self.old) (due_by number self.old.prev self.old.last self.old)
             self.old.pusher self.new.pusher }
         ensures rest { self.new ≡ record self.old {
@@ -280,7 +275,11 @@ impl<'a, F: Finder, G, R> Finder for Live<'a, F, G, R> {
         requires left { left ≤ 2 ^ 40 }
         requires asked { (F.tally self.old.finder).asked < 2 ^ 62 }
         requires given { (F.tally self.old.finder).given < 2 ^ 62 }
-        ensures rest { self.new ≡ record self.old { finder = self.new.finder } }
+        ensures rest { self.new ≡ record self.old {
+          finder = self.new.finder;
+          budget = after_look_up left result self.old.budget;
+        } }
+        ensures passed { self.old.budget.passing ≡ true → result ≡ None }
         ensures jump { IsJump result left state.old state.new }
         ensures tally { F.tally self.new.finder ≡ tally_after (F.tally self.old.finder) result }
         ensures replies { Tells (result ∷ []) (F.replies self.old.finder) (F.replies self.new.finder) }
@@ -290,7 +289,7 @@ impl<'a, F: Finder, G, R> Finder for Live<'a, F, G, R> {
     {
         let most = self.budget.reach(left);
         let found = self.finder.jump(state, most);
-        self.budget.save(found);
+        self.budget.look_up(left, found);
         found
     }
 

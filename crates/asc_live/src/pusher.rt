@@ -2,7 +2,7 @@ ghost use Rattle.std.specs.Prelude.{◌≡◌, ◌+◌, ◌-◌, ◌<◌, ◌≤
 ghost use Rattle.std.specs.Arc.{arc_value};
 ghost use Rattle.asc_guess.specs.declared.kind.Kind.{Kind as kind_of};
 ghost use Rattle.asc_outside.specs.Outside.{one_more};
-ghost use Rattle.asc_live.specs.Due.{HasFilled, Pushes, is_filled, is_offered, jobs_of, tasks_for};
+ghost use Rattle.asc_live.specs.Due.{Pushes, full_of, is_filled, is_offered, jobs_of, new_pusher, tasks_for};
 ghost use Rattle.asc_run.specs.Serial.{kinds_of, tasks_of};
 
 use crate::share::Share;
@@ -21,27 +21,41 @@ const MOST_JOBS: u64 = 1 << 60;
 pub(crate) struct Pusher<'a, R> {
     rt: &'a R,
     giver: Giver,
-    full: u64,
+    // How many guesses found no room, were left to the walk, and were due at visits that were passed over.
+    lacked: u64,
+    left: u64,
+    passed: u64,
     refused: u64,
 }
 
 impl<'a, R> Model for Pusher<'a, R> {
+    ghost use Rattle.std.specs.Prelude.{◌+◌, ◌<◌, ◌^◌};
     ghost use Rattle.asc_live.specs.Due as model;
 
     ghost Value = { model.Pusher };
 
-    ghost view = { λ s. record { giver = s.giver; full = s.full; refused = s.refused } };
+    ghost view = { λ s. record {
+      giver = s.giver;
+      lacked = s.lacked;
+      left = s.left;
+      passed = s.passed;
+      refused = s.refused;
+    } };
+
+    ghost invariant = { λ s. s.lacked + s.left + s.passed < 2 ^ 64 };
 }
 
 impl<'a, R> Pusher<'a, R> {
     /// It has pushed nothing yet.
     pub(crate) fn new(rt: &'a R, giver: Giver) -> Pusher<'a, R>
-        ensures { result ≡ record { giver = giver; full = 0; refused = 0 } }
+        ensures { result ≡ new_pusher giver }
     {
         Pusher {
             rt,
             giver,
-            full: 0,
+            lacked: 0,
+            left: 0,
+            passed: 0,
             refused: 0,
         }
     }
@@ -53,7 +67,9 @@ impl<'a, R> Pusher<'a, R> {
         let Pusher {
             rt: _,
             giver,
-            full: _,
+            lacked: _,
+            left: _,
+            passed: _,
             refused: _,
         } = self;
         giver
@@ -68,9 +84,9 @@ impl<'a, R> Pusher<'a, R> {
 
     /// How many guesses found no room or were not offered.
     pub(crate) fn full(&self) -> u64
-        ensures { result ≡ self.now.full }
+        ensures { result ≡ full_of self.now }
     {
-        self.full
+        self.lacked + self.left + self.passed
     }
 
     /// How often memory was wanting.
@@ -82,20 +98,26 @@ impl<'a, R> Pusher<'a, R> {
 
     /// Whether jobs were pushed, and as many as the queue holds.
     pub(crate) fn has_filled(&self) -> bool
-        ensures test { result ≡ is_filled self.now.giver }
-        ensures filled { result ≡ true → HasFilled self.now.giver }
-        ensures always { HasFilled self.now.giver → result ≡ true }
+        ensures { result ≡ is_filled self.now.giver }
     {
         let pushed = self.giver.pushed();
         0 < pushed && self.giver.capacity() as u64 <= pushed
     }
 
-    /// Counts one guess of each kind that is on as one that is not pushed.
-    pub(crate) fn give_up(&mut self, guessing: &Guessing)
-        requires { self.old.full < 2 ^ 63 }
-        ensures { self.new ≡ record self.old { full = self.old.full + length (kinds_of guessing.now) } }
+    /// Counts one guess of each kind that is on as one that is left to the walk.
+    fn leave(&mut self, guessing: &Guessing)
+        requires { full_of self.old < 2 ^ 63 }
+        ensures { self.new ≡ record self.old { left = self.old.left + length (kinds_of guessing.now) } }
     {
-        self.full += kinds(guessing);
+        self.left += kinds(guessing);
+    }
+
+    /// Counts one guess of each kind that is on as due at a visit that is passed over, or that keeps its state alone.
+    pub(crate) fn pass_over(&mut self, guessing: &Guessing)
+        requires { full_of self.old < 2 ^ 63 }
+        ensures { self.new ≡ record self.old { passed = self.old.passed + length (kinds_of guessing.now) } }
+    {
+        self.passed += kinds(guessing);
     }
 
     /// Counts that memory was wanting.
@@ -120,8 +142,8 @@ impl<'a, R: Wait> Pusher<'a, R> {
         number: u64,
     )
         requires workers { share.workers + 1 < 2 ^ 64 }
-        requires filled { share.filled ≡ true → HasFilled self.old.giver }
-        requires full { self.old.full < 2 ^ 62 }
+        requires filled { share.filled ≡ true → is_filled self.old.giver ≡ true }
+        requires full { full_of self.old < 2 ^ 62 }
         requires ahead { guessing.now.ahead ≤ 64 }
         requires issued { issued ≤ 2 ^ 41 }
         requires number { number ≤ 2 ^ 40 }
@@ -148,9 +170,9 @@ impl<'a, R: Wait> Pusher<'a, R> {
         end: u64,
     )
         requires workers { share.workers + 1 < 2 ^ 64 }
-        requires filled { share.filled ≡ true → HasFilled self.old.giver }
+        requires filled { share.filled ≡ true → is_filled self.old.giver ≡ true }
         requires tickets { length self.old.giver.pushed < 2 ^ 60 }
-        requires full { self.old.full < 2 ^ 62 }
+        requires full { full_of self.old < 2 ^ 62 }
         requires rises { start ≤ end }
         requires later { start < end → number ≤ start }
         requires few { end ≤ start + 64 }
@@ -163,7 +185,7 @@ impl<'a, R: Wait> Pusher<'a, R> {
             if share.offers(target) {
                 self.push_kinds(prev, last, guessing, (target - number) as u32);
             } else {
-                self.give_up(guessing);
+                self.leave(guessing);
             }
         }
     }
@@ -177,7 +199,7 @@ impl<'a, R: Wait> Pusher<'a, R> {
         ahead: u32,
     )
         requires tickets { length self.old.giver.pushed + 1 < 2 ^ 61 }
-        requires full { self.old.full + 1 < 2 ^ 63 }
+        requires full { full_of self.old + 1 < 2 ^ 63 }
         ensures { Pushes (λ due. true) (jobs_of (arc_value prev.now) (arc_value last.now)
             (map (λ (kind : kind_of). (kind, ahead)) (kinds_of guessing.now))) self.old self.new }
     {
@@ -195,7 +217,7 @@ impl<'a, R: Wait> Pusher<'a, R> {
         kind: Kind,
     )
         requires tickets { length self.old.giver.pushed < 2 ^ 61 }
-        requires full { self.old.full < 2 ^ 63 }
+        requires full { full_of self.old < 2 ^ 63 }
         ensures { Pushes (λ due. true) (jobs_of (arc_value prev.now) (arc_value last.now)
             (if on then (kind, ahead) ∷ [] else [])) self.old self.new }
     {
@@ -207,7 +229,7 @@ impl<'a, R: Wait> Pusher<'a, R> {
     // Pushes a job.
     fn push(&mut self, prev: &Arc<Snapshot>, last: &Arc<Snapshot>, ahead: u32, kind: Kind)
         requires tickets { length self.old.giver.pushed < 2 ^ 61 }
-        requires full { self.old.full < 2 ^ 63 }
+        requires full { full_of self.old < 2 ^ 63 }
         ensures { Pushes (λ due. true) (record {
           prev = arc_value prev.now;
           last = arc_value last.now;
@@ -221,7 +243,7 @@ impl<'a, R: Wait> Pusher<'a, R> {
         };
         match self.giver.push(self.rt, prev, last, ahead, kind) {
             Ok(_) => {}
-            Err(Full) => self.full += 1,
+            Err(Full) => self.lacked += 1,
         }
     }
 }

@@ -1,6 +1,7 @@
-ghost use Rattle.std.specs.Prelude.{◌≤◌};
+ghost use Rattle.std.specs.Prelude.{◌≡◌};
 
 use crate::Live;
+use crate::budget::Budget;
 use asc_guess::Kind;
 use asc_jobs::{Jobs, Taker};
 use asc_outside::{Gate, Point};
@@ -9,6 +10,7 @@ use asc_shape::{Shape, State};
 use asc_traj::{Finder, Guessing, Nothing};
 use crossbeam_utils::sync::Parker;
 use std::process::Abort;
+use std::slice::Iter;
 use std::sync::Wait;
 use std::sync::atomic::{AtomicU64, Ordering};
 use std::test::Fail;
@@ -76,16 +78,38 @@ static JOBS: [Row; 10] = [
     (284, 288, 2, Kind::Stride),
 ];
 
-/// Pops a job, and answers how many there were. It is this row's, if all jobs were pushed that are due.
-fn pop<R: Abort + Wait>(rt: &R, taker: &mut Taker, row: Option<&Row>, all: bool) -> u64
-    ensures { result ≤ 1 }
+/// 2 visits ahead are guessed, of both kinds or of none.
+fn guessing(on: bool) -> Guessing
+    ensures { result.ahead ≡ 2 }
 {
-    let found = match taker.pop(rt) {
-        Some(job) => Some((job.prev.pc(), job.last.pc(), job.ahead, job.kind)),
-        None => None,
-    };
-    assert!(rt; !all || found == row.copied());
-    u64::from(found.is_some())
+    Guessing {
+        last: on,
+        stride: on,
+        laps: 1,
+        span: 100,
+        ahead: 2,
+    }
+}
+
+/// Takes the jobs of so many rows, and answers how many there were. They are those of the rows, if all jobs were pushed
+/// that are due.
+fn pop<R: Abort + Wait>(
+    rt: &R,
+    taker: &mut Taker,
+    rows: &mut Iter<'_, Row>,
+    times: u64,
+    all: bool,
+) -> u64 {
+    let mut popped = 0;
+    for _ in 0..times {
+        let found = match taker.pop(rt) {
+            Some(job) => Some((job.prev.pc(), job.last.pc(), job.ahead, job.kind)),
+            None => None,
+        };
+        assert!(rt; popped < 12 && (!all || found == rows.next().copied()));
+        popped += u64::from(found.is_some());
+    }
+    popped
 }
 
 /// A visit of this number, and a look-up where so many steps are left.
@@ -105,48 +129,59 @@ fn visit<R: Abort + Wait>(
     assert_eq!(rt; live.jump(state, left), None);
 }
 
+/// The visits of the table, and the jobs that are taken before them. It answers how many these were.
+fn go<R: Abort + Wait>(
+    rt: &R,
+    live: &mut Live<'_, Nothing, Noting, R>,
+    gate: &Noting,
+    state: &mut State,
+    taker: &mut Taker,
+    rows: &mut Iter<'_, Row>,
+) -> u64 {
+    let mut popped = 0;
+    let mut number = 0;
+    let mut left = 500_000;
+    for &(times, lap, taken, made, full) in &VISITS {
+        let more = pop(rt, taker, rows, taken, live.refused() == 0);
+        assert!(rt; popped < 99 && more < 99);
+        popped += more;
+        for _ in 0..times {
+            assert!(rt; number < 98 && lap <= left);
+            number += 1;
+            left -= lap;
+            visit(rt, live, gate, state, number, left);
+        }
+        let counts = (live.made(), live.full());
+        assert_eq!(rt; (live.refused(), counts), (0, (made, full)));
+    }
+    popped
+}
+
 #[test]
 fn visits(rt: HostRuntime) -> Result<(), Fail> {
     let alloc = rt.alloc();
-    let mut state = State::new(
-        alloc,
-        Shape::new(65_536, 65_536).expect(&rt, "a good shape"),
-    )?;
+    let shape = Shape::new(65_536, 65_536).expect(&rt, "a good shape");
+    let mut state = State::new(alloc, shape)?;
     let (giver, mut takers) = Jobs::open(alloc, 3, 1)?;
     let mut taker = takers.pop().expect(&rt, "a taker");
     let parker = Parker::new(alloc)?;
     let mut workers = Vec::new(alloc);
     workers.push(parker.unparker().clone()?)?;
-    let guessing = Guessing {
-        last: true,
-        stride: true,
-        laps: 1,
-        span: 100,
-        ahead: 2,
-    };
     let gate = Noting {
         visit: AtomicU64::new(0),
     };
-    let mut live = Live::new(alloc, &rt, &gate, Nothing::new(), giver, workers, guessing);
+    let mut live = Live::new(
+        alloc,
+        &rt,
+        &gate,
+        Nothing::new(),
+        giver,
+        workers,
+        guessing(true),
+    );
     is_sent(&live);
     let mut rows = JOBS.iter();
-    let mut popped = 0;
-    let mut number = 0;
-    let mut left = 500_000;
-    for &(times, lap, taken, made, full) in &VISITS {
-        for _ in 0..taken {
-            assert!(rt; popped < 12);
-            popped += pop(&rt, &mut taker, rows.next(), live.refused() == 0);
-        }
-        for _ in 0..times {
-            assert!(rt; number < 98 && lap <= left);
-            number += 1;
-            left -= lap;
-            visit(&rt, &mut live, &gate, &mut state, number, left);
-        }
-        let counts = (live.made(), live.full());
-        assert_eq!(rt; (live.refused(), counts), (0, (made, full)));
-    }
+    let popped = go(&rt, &mut live, &gate, &mut state, &mut taker, &mut rows);
     // Where memory was wanting for a state, jobs were left out.
     let (made, full) = (live.made(), live.full());
     assert!(rt; live.refused() == 0 || made < 147 && full < 147 && made + full < 147);
@@ -154,12 +189,64 @@ fn visits(rt: HostRuntime) -> Result<(), Fail> {
     if live.made() > 0 {
         parker.park(&rt);
     }
-    for _ in 0..4 {
-        assert!(rt; popped < 12);
-        popped += pop(&rt, &mut taker, rows.next(), live.refused() == 0);
-    }
-    assert_eq!(rt; popped, live.made());
+    let last = pop(&rt, &mut taker, &mut rows, 4, live.refused() == 0);
+    assert!(rt; popped < 99 && last < 99);
+    assert_eq!(rt; popped + last, live.made());
     assert_eq!(rt; live.finder().asked(), 73);
     let (_finder, _giver) = live.into_parts();
+    Ok(())
+}
+
+/// Where no kind of guess is on, each visit is passed over: nothing is pushed. No state is kept, so memory is never wanting.
+#[test]
+fn no_kinds(rt: HostRuntime) -> Result<(), Fail> {
+    let alloc = rt.alloc();
+    let shape = Shape::new(65_536, 65_536).expect(&rt, "a good shape");
+    let mut state = State::new(alloc, shape)?;
+    let (giver, _takers) = Jobs::open(alloc, 3, 1)?;
+    let gate = Noting {
+        visit: AtomicU64::new(0),
+    };
+    let workers = Vec::new(alloc);
+    let mut live = Live::new(
+        alloc,
+        &rt,
+        &gate,
+        Nothing::new(),
+        giver,
+        workers,
+        guessing(false),
+    );
+    for number in 1..70 {
+        visit(&rt, &mut live, &gate, &mut state, number, 500_000 - number);
+    }
+    assert_eq!(rt; (live.made(), live.full(), live.refused()), (0, 0, 0));
+    Ok(())
+}
+
+/// How many of 50 visits are made and paid for, once the queue had been filled up.
+fn paid<R: Abort>(rt: &R, budget: &mut Budget) -> u64 {
+    let mut visits = 0;
+    for _ in 0..50 {
+        assert!(rt; visits < 50);
+        visits += u64::from(budget.pay(true, true));
+    }
+    visits
+}
+
+/// With 3 workers a visit costs 8,000 steps, and a row 256,000. The budget grows to that by 100,000 steps, and by 3 more for
+/// each of 52,000 that were jumped over. It never has more than a row.
+#[test]
+fn budget(rt: HostRuntime) -> Result<(), Fail> {
+    let mut budget = Budget::new(3);
+    budget.look_up(2_000_000, None);
+    assert_eq!(rt; paid(&rt, &mut budget), 32);
+    budget.look_up(1_900_001, Some(52_000));
+    assert_eq!(rt; (budget.reach(9), paid(&rt, &mut budget)), (0, 0));
+    budget.look_up(1_900_000, None);
+    assert_eq!(rt; paid(&rt, &mut budget), 32);
+    budget.look_up(900_000, Some(1_000_000));
+    assert_eq!(rt; paid(&rt, &mut budget), 32);
+    assert!(rt; !budget.pay(false, false) && !budget.has_paid());
     Ok(())
 }

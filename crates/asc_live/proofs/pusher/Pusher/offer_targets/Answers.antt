@@ -5,7 +5,7 @@ use Rattle.asc_guess.specs.declared.kind.Kind.{Kind}
 use Rattle.asc_jobs.specs.Jobs.{Giver}
 use Rattle.asc_run.specs.Serial.{kinds_of}
 use Rattle.asc_live.specs.Due.{Pushes, is_offered, is_for_workers, jobs_of, tasks_for}
-use Rattle.asc_live.proofs.Pushing.{Pushes-none, Pushes-more, Pushes-few}
+use Rattle.asc_live.proofs.Pushing.{Pushes-none, Pushes-more, Pushes-few, filled-is}
 use Rattle.asc_live.proofs.Tasks.{jobs-more, kinds-length, kinds-few, Pushes-target, Pushes-target-left}
 use Rattle.asc_live.proofs.pusher.Pusher.offer_targets.Goals as goal
 use Rattle.asc_live.proofs.pusher.Pusher.offer_targets.Goals.{then-offers, else-offers}
@@ -42,10 +42,10 @@ loop-target-preserved g c =
       | then-offers w ↦ subst (λ q. Pushes offers due c.loop-target.self q) (sym w.self-is)
           (Pushes-target offers prev last guessing ahead _ _ (λ kind. sym tells ∙ w.if-offers.true) w.push_kinds.ensures)
       | else-offers w ↦
-          let room = c.requires.filled (left-filled filled (is_for_workers workers (number + ahead)) (sym tells ∙ w.if-offers.false)) in
+          let room = filled-is c.args.self.now.giver (c.requires.filled (left-filled filled (is_for_workers workers (number + ahead)) (sym tells ∙ w.if-offers.false))) in
           subst (λ q. Pushes offers due c.loop-target.self q) (sym w.self-is)
-          (Pushes-target-left offers prev last guessing ahead _ _ (λ kind. sym tells ∙ w.if-offers.false) w.give_up.ensures
-          (subst (λ capacity. capacity ≤ length c.loop-target.self.giver.pushed) (sym (ap (λ (giver : Giver). giver.capacity) v.pushes.giver)) (omega (arith, room.capacity, so_far.0))))
+          (Pushes-target-left offers prev last guessing ahead _ _ (λ kind. sym tells ∙ w.if-offers.false) w.leave.ensures
+          (subst (λ capacity. capacity ≤ length c.loop-target.self.giver.pushed) (sym (ap (λ (giver : Giver). giver.capacity) v.pushes.giver)) (omega (arith, room.1, so_far.0))))
     ] in
     let one : target + 1 - c.args.start ≡ n + 1 = omega (arith, a.target) in
     let start : c.args.start + n ≡ target = omega (arith, a.target) in
