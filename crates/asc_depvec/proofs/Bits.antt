@@ -206,15 +206,6 @@ has-already blocks word other has = elim (cases_eq word other) [
   | inr apart ↦ sym (ap (λ (b : Bool). has_word blocks other || b) (ne_eqb word other apart) ∙ or-false (has_word blocks other))
 ]
 
--- blocks of which one more is marked
-pub marked-more : (blocks groups now : List ℕ) (number value : ℕ) → ((block : ℕ) → (slice_index blocks block ≡ 0 → ⊥) → has_word groups block ≡ true)
-    → ((other : ℕ) → has_word now other ≡ (has_word groups other || number == other))
-    → (block : ℕ) → (slice_index (slice_set blocks number value) block ≡ 0 → ⊥) → has_word now block ≡ true
-marked-more blocks groups now number value marked bits block some = elim (cases_eq block number) [
-  | inl same ↦ bits block ∙ ap (λ (b : Bool). has_word groups block || b) (eq-eqb number block (sym same)) ∙ or-true (has_word groups block)
-  | inr other ↦ bits block ∙ ap (λ (b : Bool). b || number == block) (marked block (λ zero. some (get_or-set_other blocks number block value 0 other ∙ zero)))
-]
-
 -- a number with one bit more is not 0
 pub or-some : (old power k : ℕ) → power ≡ 2 ^ k → bit_or old power ≡ 0 → ⊥
 or-some old power k is none =
