@@ -2,11 +2,12 @@
 use Rattle.std.proofs.Common.{◌≡◌, ℕ, Bool, true, false, List, [], ◌∷◌, ◌++◌, length, take, drop, refl, sym, ap, ◌∙◌, slice_index, slice_set, append_assoc, if◌then◌else◌}
 use Rattle.std.proofs.lemmas.List.{set-set, set-get_or, append-nil, take_at, drop_at}
 use Rattle.asc_model.specs.declared.status.Status.{Status}
-use Rattle.asc_model.specs.declared.status.Status.TheVariants.{Untouched, Read, Written, ReadWritten}
+use Rattle.asc_model.specs.declared.status.Status.TheVariants.{Untouched}
 use Rattle.asc_model.specs.State.{State}
 use Rattle.asc_model.specs.Places.{bytes_after}
 use Rattle.asc_model.proofs.Numbers.{bytes_after-append}
 use Rattle.asc_shape.specs.Face.{Face, Marks, Untold, Told, status_at, is_untouched, status_after_read, face_after_read, face_after_reads}
+use Rattle.asc_shape.proofs.Settled.{read_touched, untouched_count-one}
 use Rattle.asc_depvec.specs.Tracer.{cap_of, face_of, untouch}
 use Rattle.asc_depvec.specs.Laws.{ReadsAreUndone}
 use Rattle.asc_depvec.proofs.Marking.{untouched_is}
@@ -24,12 +25,19 @@ record IsReadFrom (state : State) (cap : ℕ) (statuses : List Status) (touched 
   pub back : untouch later fresh ≡ statuses
   pub bytes : bytes_after state.bytes fresh ≡ state.bytes
 
--- a read of a place that is touched leaves its status
-pub after_read_touched : (status : Status) → is_untouched status ≡ false → status_after_read status ≡ status
-after_read_touched Untouched e = absurd (cc)
-after_read_touched Read e = refl
-after_read_touched Written e = refl
-after_read_touched ReadWritten e = refl
+-- a read of a place that is touched leaves the statuses
+statuses_in : Face → List Status
+statuses_in f = by_marks f.marks
+  where
+    by_marks : Marks → List Status
+    by_marks Untold = []
+    by_marks (Told cap statuses touched) = statuses
+
+read_stays : (state : State) (cap : ℕ) (statuses : List Status) (touched : List (ℕ × ℕ)) (place : ℕ) → is_untouched (status_at statuses place) ≡ false
+    → slice_set statuses place (status_after_read (status_at statuses place)) ≡ statuses
+unfolding face_after_read statuses_in
+read_stays state cap statuses touched place e =
+    ap statuses_in (read_touched (told state cap statuses touched) place (untouched_count-one cap statuses touched place ∙ ap (λ (b : Bool). if b then 1 else 0) e))
 
 -- one read
 read_by : (state : State) (cap : ℕ) (statuses : List Status) (touched : List (ℕ × ℕ)) (place : ℕ) (b : Bool) → is_untouched (status_at statuses place) ≡ b
@@ -47,7 +55,7 @@ read_by state cap statuses touched place false e = record {
   later = slice_set statuses place (status_after_read (status_at statuses place));
   fresh = [];
   face = ap (told state cap (slice_set statuses place (status_after_read (status_at statuses place)))) (sym (append-nil touched));
-  back = ap (λ (s : Status). slice_set statuses place s) (after_read_touched (status_at statuses place) e) ∙ set-get_or statuses place Untouched;
+  back = read_stays state cap statuses touched place e;
   bytes = refl;
 }
 
