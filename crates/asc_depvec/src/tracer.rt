@@ -193,10 +193,10 @@ impl Tracer {
     {
         // That its state is one, and its marks fit it.
         let _ = Bytes::shape(self);
-        if are_read(&self.marks, place) {
-            Some(Status::Read)
-        } else if have_mark(&self.marks, place, WRITTEN) {
+        if have_mark(&self.marks, place, WRITTEN) {
             Some(Status::Written)
+        } else if are_read(&self.marks, place) {
+            Some(Status::Read)
         } else if have_mark(&self.marks, place, READ_WRITTEN) {
             Some(Status::ReadWritten)
         } else {
