@@ -26,7 +26,7 @@ CASES = {
     "collatz_chunks": ("3000\n", "100f4", "1024"),
 }
 
-NUMBERS = re.compile(r"asc: executed (\d+) skipped (\d+) asked \d+ hits (\d+) made (\d+) refused 0\n")
+NUMBERS = re.compile(r"asc: executed (\d+) skipped (\d+) asked (\d+) hits (\d+) made (\d+) refused 0\n")
 
 def counted(program, options, image, text):
     """The processor's instructions of a run, and what it reports."""
@@ -35,19 +35,23 @@ def counted(program, options, image, text):
     done = subprocess.run(command, input=text, capture_output=True, text=True, env=WIDE)
     return int(next(line for line in done.stderr.splitlines() if "Collected" in line).split(":")[1]), done.stderr
 
+def numbers_of(program, text, address, memory, image):
+    """A plain lap and a job with its visit in instructions, how many visits there were, and the laps outside of these."""
+    room = ["--memory", memory]
+    none, _ = counted(program, room + ["--steps", "0"], image, text)
+    plain, _ = counted(program, room, image, text)
+    guessed, report = counted(program, room + ["--ahead", "1", "--pc", address, "--report"], image, text)
+    executed, skipped, asked, hits, made = map(int, NUMBERS.search(report).groups())
+    price = (plain - none) / (executed + skipped)
+    lap = price * skipped / hits
+    return lap, (guessed - none - price * executed) / made, asked, (executed + skipped) * hits / skipped - asked
+
+
 def main():
     program = sys.argv[1] if len(sys.argv) > 1 else str(ROOT / "crates/asc_cli/out/asc_cli")
     print(f"{'':16}{'plain lap':>12}{'job and visit':>16}{'r':>8}")
     for name, (text, address, memory) in CASES.items():
-        image = ROOT / "examples/images" / name
-        room = ["--memory", memory]
-        none, _ = counted(program, room + ["--steps", "0"], image, text)
-        plain, _ = counted(program, room, image, text)
-        guessed, report = counted(program, room + ["--ahead", "1", "--pc", address, "--report"], image, text)
-        executed, skipped, hits, made = map(int, NUMBERS.search(report).groups())
-        price = (plain - none) / (executed + skipped)
-        lap = price * skipped / hits
-        job = (guessed - none - price * executed) / made
+        lap, job, _, _ = numbers_of(program, text, address, memory, ROOT / "examples/images" / name)
         print(f"{name:16}{lap:12.0f}{job:16.0f}{job / lap:8.2f}")
 
 if __name__ == "__main__":

@@ -1,7 +1,8 @@
 #!/usr/bin/env python3
-"""Reckons what workers gain, by the order in which visits, jobs and jumps come. It runs no asc, and needs none.
+"""Reckons what workers gain, by the order in which visits, jobs and jumps come.
 
     python3 bench/schedule.py [--visits N] [--ahead A] [--right SHARE] [--job R..] [--most W] [--queue Q]
+    python3 bench/schedule.py --counted PROGRAM [--visits N] [--ahead A] [--most W] [--queue Q]
 
 Time goes in laps of a plain run. A walk makes N visits. At each it offers a job for the visit A later, if there is room
 in a queue of Q, or 2W. A worker takes the oldest job, and its entry is there R laps later, give or take a twentieth. Where
@@ -13,10 +14,19 @@ asc_live says:
     how many jobs were pushed, and how many visits the walk jumped from
 
 What a visit, a wake and a busy machine cost is left out. So what is printed is more than what can be measured.
+
+With --counted R, the visits and the laps outside of them are those of three examples, as bench/jobs.py counts them with the
+built PROGRAM. So a gain is reckoned that no clock of a busy machine has part in; R has the cost of a visit in it. Where N is
+given, the laps outside of the visits are in proportion.
 """
 
 import argparse
 import random
+import sys
+
+sys.dont_write_bytecode = True
+
+from jobs import CASES, ROOT, numbers_of
 
 
 def every(workers, visit):
@@ -78,23 +88,43 @@ def walk(crew, offers, visits, ahead):
     return now, jumps
 
 
+def gain_of(asked, workers, offers, visits, job, outside=0):
+    """The gain of a walk with so many visits, where so many laps more are outside of them, and its crew and jumps."""
+    crew = Crew(workers, asked.queue or 2 * workers, job, asked.right, random.Random(1))
+    time, jumps = walk(crew, offers, visits, asked.ahead)
+    return (visits + outside) / (time + outside), crew, jumps
+
+
+def counted(asked):
+    """A row of gains for each example."""
+    print(f"{'':16}{'R':>6}{'visits':>8}{'outside':>9}  gains with 1 to {asked.most} workers")
+    for name, (text, address, memory) in CASES.items():
+        lap, job, visits, outside = numbers_of(asked.counted, text, address, memory, ROOT / "examples/images" / name)
+        if asked.visits:
+            visits, outside = asked.visits, outside * asked.visits / visits
+        gains = [gain_of(asked, workers, share, visits, job / lap, outside)[0] for workers in range(1, asked.most + 1)]
+        print(f"{name:16}{job / lap:6.2f}{visits:8}{outside:9.1f} ", *(f"{gain:5.2f}" for gain in gains))
+
+
 def main():
     parser = argparse.ArgumentParser(description=__doc__, formatter_class=argparse.RawDescriptionHelpFormatter)
-    parser.add_argument("--visits", type=int, default=223, help="how many visits (223)")
+    parser.add_argument("--visits", type=int, metavar="N", help="how many visits (223, or as counted)")
     parser.add_argument("--ahead", type=int, default=16, help="how many visits ahead jobs are for (16)")
     parser.add_argument("--right", type=float, default=1.0, metavar="SHARE", help="how many guesses are right (1)")
     parser.add_argument("--job", type=float, nargs="+", default=[1.5, 1.8, 2.2], metavar="R", help="laps a job takes")
     parser.add_argument("--most", type=int, default=3, help="the most workers (3)")
     parser.add_argument("--queue", type=int, metavar="Q", help="how many jobs the queue holds (2W)")
+    parser.add_argument("--counted", metavar="PROGRAM", help="count three examples with this built asc")
     asked = parser.parse_args()
+    if asked.counted:
+        counted(asked)
+        return
     print(f"{'R':>4} {'W':>3}   {'for all visits':30}   {'for the share':30}")
     for job in asked.job:
         for workers in range(1, asked.most + 1):
             cells = []
             for offers in (every, share):
-                crew = Crew(workers, asked.queue or 2 * workers, job, asked.right, random.Random(1))
-                time, jumps = walk(crew, offers, asked.visits, asked.ahead)
-                gain = asked.visits / time
+                gain, crew, jumps = gain_of(asked, workers, offers, asked.visits or 223, job)
                 part = gain / (1 + workers * asked.right / job)
                 cells.append(f"{gain:5.2f} {part:5.2f}  {crew.pushed:5} pushed {jumps:5} jumps")
             print(f"{job:4.1f} {workers:3}   {cells[0]:30}   {cells[1]:30}")
