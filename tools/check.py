@@ -321,19 +321,20 @@ def check_steps(program, folder):
         same(f"asc-steps: {name} with a step less, and with as many", statuses, [75, 0])
 
 
-# In place of asc, for pictures that are known: laps of 1000 steps, jumps at all visits but the first ten, and 200,000
-# steps a second.
+# In place of asc, for pictures that are known: laps of 1000 steps, jumps at all visits but the first ten, with workers at
+# 10058 alone. It does 200,000 steps a second.
 STAND_IN = """#!/usr/bin/env python3
 import sys
 import time
 options = dict(word[2:].partition("=")[::2] for word in sys.argv[1:] if word.startswith("--"))
 steps = min(int(options.get("steps", 100000)), 100000)
 asked = steps // 1000
-hits = 0 if options.get("guess") == "none" else max(0, asked - 10)
+none = options.get("guess") == "none" or "queue" in options and "10058" not in sys.argv
+hits = 0 if none else max(0, asked - 10)
 time.sleep((steps - 900 * hits) / 200_000)
 numbers = f"executed {steps - 900 * hits} skipped {900 * hits} asked {asked} hits {hits}"
 sys.stderr.write(f"asc: {numbers} made 0 refused 0\\n")
-if int(options.get("workers", 0)):
+if options.get("workers", "0") != "0":
     sys.stderr.write("asc: ran 0 left 0 stored 0 known 0 empty 0 dropped 0 stopped 0 full 0\\n")
 """
 
@@ -378,10 +379,12 @@ def check_pc(program, folder):
     same("asc-pc: the best options", (re.sub(rb"ahead \d+ --queue \d+", b"ahead A --queue Q", line), status), (
         b"--pc 10058 --laps 1 --span 4000 --ahead A --queue Q --workers 2\n", 0))
     same("asc-pc: what they gain", re.sub(rb"\d\.\d\d times", b"G times", gained),
-         b"asc-pc: on the first 1048576 steps G times as fast as a plain run, 81% skipped\n")
+         b"asc-pc: on the first 100000 steps G times as fast as a plain run, 81% skipped\n")
     same("asc-pc: nothing gained", outcome([*best, "--guess=none"]), (b"", (
         b"asc-pc: nothing gained: guesses are wrong, or traces are cut short: at 10058, with laps of 1000 steps, jumps skip "
-        b"0.0%; asc-show and asc-plot show what laps read\n"), 1))
+        b"0.0%; asc-show shows what a lap reads\n"), 1))
+    same("asc-pc: no long laps", outcome([*best, "--lap=2000"]), (b"", (
+        b"asc-pc: nothing gained: no address with laps of 2000 steps or more is met 4 times in 100000 steps\n"), 1))
     if has("riscv64-unknown-elf-gcc", "function and line of asc-pc"):
         (folder / "sum.c").write_text("int main(void)\n{\n    volatile int sum = 0;\n    for (int k = 0; k < 10; k++)\n"
                                       "        sum += k;\n    return 0;\n}\n")

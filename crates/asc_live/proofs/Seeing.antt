@@ -19,9 +19,10 @@ use Rattle.asc_live.specs.Live.{Live, IsLive, HasSeen, Visits, queue_of, plan_of
 use Rattle.asc_live.proofs.Pushing.{Pushes-few, filled-is, full-is, pushed-length, room-more}
 use Rattle.asc_live.proofs.Tasks.{kinds-few, twice, visit-length}
 
--- whatever finder it asks, and whatever visits may cost
-pub IsLive-asked : {F : Type 0} (l : Live F) (finder : F) (budget : Budget) → IsLive l → IsLive (record l { finder = finder; budget = budget })
-IsLive-asked l finder budget q = record {
+-- whatever finder it asks, and whatever is left for visits of this cost
+pub IsLive-asked : {F : Type 0} (l : Live F) (finder : F) (budget : Budget) → budget.cost ≡ l.budget.cost → IsLive l → IsLive (record l { finder = finder; budget = budget })
+IsLive-asked l finder budget same q = record {
+  price = same ∙ q.price;
   least = q.least;
   most = q.most;
   issued = q.issued;
@@ -210,6 +211,7 @@ after-live number now old p most q on pair pushes = record {
   least = q.least;
   most = q.most;
   issued = issued-small number old.last now old most q.most q.issued;
+  price = q.price;
   room = room-after (offers_at number old) (due_by number old.last (Some now) old) old.pusher p pushes q.room;
   seen = λ n e.
       let was = seen-was number p.refused n old.seen e in
@@ -296,6 +298,7 @@ given_up-live number last old most q room = record {
   least = q.least;
   most = q.most;
   issued = let ahead = q.most in omega (arith, most, ahead);
+  price = q.price;
   room = given_up-room number last old q.room (is_guessing old.guessing) refl room;
   seen = λ n e.
       let was = seen-was number old.pusher.refused n old.seen e in
@@ -306,7 +309,7 @@ given_up-live number last old most q room = record {
 
 -- whatever is left for visits
 charged-live : {F : Type 0} (old : Live F) → IsLive old → IsLive (charged old)
-charged-live old q = IsLive-asked old old.finder (charged old).budget q
+charged-live old q = IsLive-asked old old.finder (charged old).budget refl q
 
 given_up-plans : {F : Type 0} (number : ℕ) (last : Option State) (old : Live F) → Plans 1 (plan_of old) (plan_of (given_up number last (charged old)))
 given_up-plans number last old =
@@ -331,7 +334,7 @@ pub visit-live : {F : Type 0} (number : ℕ) (now : State) (old new : Live F) �
 visit-live number now old new most q (inl v) = subst IsLive (sym v.rest) (given_up-live number None (charged old) most (charged-live old q) (passed-filled old v.passed))
 visit-live number now old new most q (inr (inl v)) = subst IsLive (sym v.rest) (given_up-live number (Some now) (charged old) most (charged-live old q) (λ on. v.filled))
 visit-live number now old new most q (inr (inr (inl v))) = subst IsLive (sym v.rest) (after-live number now old new.pusher most q (is-on old v.made) v.pair v.pushes)
-visit-live number now old new most q (inr (inr (inr v))) = subst IsLive (sym v.rest) (record { least = q.least; most = q.most; issued = q.issued; room = q.room; seen = λ n e. absurd (cc) })
+visit-live number now old new most q (inr (inr (inr v))) = subst IsLive (sym v.rest) (record { least = q.least; most = q.most; issued = q.issued; price = q.price; room = q.room; seen = λ n e. absurd (cc) })
 
 -- it makes at most 128 guesses
 pub visit-plans : {F : Type 0} (number : ℕ) (now : State) (old new : Live F) → IsLive old → Visits number now old new → Plans 1 (plan_of old) (plan_of new)

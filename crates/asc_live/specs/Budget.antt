@@ -16,17 +16,21 @@ pub record Budget : Type 0 where
 abbrev pub visit_cost : (workers : ℕ) → ℕ
 visit_cost workers = 5000 + 1000 * min workers 64
 
--- what a row of 32 visits is charged: a budget has no more
-abbrev pub row_cost : Budget → ℕ
-row_cost b = 32 * b.cost
+-- what a row of 32 visits is charged, of which each is charged so much: a budget has no more
+abbrev pub row_cost : (cost : ℕ) → ℕ
+row_cost cost = 32 * cost
+
+-- a budget of these numbers
+abbrev pub budget : (cost steps left : ℕ) → (passing : Bool) → Budget
+budget cost steps left passing = record { cost = cost; steps = steps; left = left; passing = passing }
 
 -- that of a walk which begins: it pays for a row
 abbrev pub new_budget : (workers : ℕ) → Budget
-new_budget workers = record { cost = visit_cost workers; steps = 32 * visit_cost workers; left = 0; passing = false }
+new_budget workers = budget (visit_cost workers) (row_cost (visit_cost workers)) 0 false
 
 -- whether it pays for a visit: after one that was passed over, it has to pay for a row
 abbrev pub pays : Budget → Bool
-pays b = nat_le (if b.passing then row_cost b else b.cost) b.steps
+pays b = nat_le (if b.passing then row_cost b.cost else b.cost) b.steps
 
 -- Whether a visit is passed over. Each one is, where no kind of guess is on. Once the queue had been filled up, one that is
 -- not paid for is too.
@@ -48,12 +52,12 @@ saved_by (Some steps) = 3 * steps
 -- After a look-up with so many steps left, it has grown by the steps since the last one, and by what was saved.
 abbrev pub after_look_up : (left : ℕ) → (jumped : Option ℕ) → Budget → Budget
 after_look_up left jumped b = record b {
-  steps = min (b.steps + (b.left - left) + saved_by jumped) (row_cost b);
+  steps = min (b.steps + (b.left - left) + saved_by jumped) (row_cost b.cost);
   left = left;
 }
 
 -- what holds of every budget
 pub record IsBudget (b : Budget) : Type 0 where
   pub cost : b.cost ≤ visit_cost 64
-  pub steps : b.steps ≤ row_cost b
+  pub steps : b.steps ≤ row_cost b.cost
   pub left : b.left ≤ 2 ^ 40

@@ -49,7 +49,7 @@ pub record Pusher : Type 0 where
   pub lacked : ℕ
   -- how many were not in the workers' share, and left to the walk
   pub left : ℕ
-  -- how many were due at visits that were passed over, or that kept a state alone after such ones
+  -- how many were counted at visits that were passed over, or that kept their state alone
   pub passed : ℕ
   -- how often memory was wanting
   pub refused : ℕ

@@ -9,7 +9,7 @@ use Rattle.asc_traj.specs.declared.guessing.Guessing.{Guessing}
 use Rattle.asc_traj.specs.Finder.{Plan, Queue}
 use Rattle.asc_run.specs.Serial.{kinds_of, tasks_of}
 use Rattle.asc_run.specs.Seen.{seen, guesses_until}
-use Rattle.asc_live.specs.Budget.{Budget, new_budget, passes, after_visit}
+use Rattle.asc_live.specs.Budget.{Budget, new_budget, passes, after_visit, visit_cost}
 use Rattle.asc_live.specs.Due.{Due, Pusher, Pushes, new_pusher, full_of, is_filled, is_offered, jobs_of}
 
 -- the helper of a walk that has workers beside it
@@ -112,7 +112,7 @@ is_passed_over l = passes (is_guessing l.guessing) (is_filled l.pusher.giver) l.
 abbrev pub charged : {F : Type 0} → Live F → Live F
 charged l = record l { budget = after_visit (is_guessing l.guessing) (is_filled l.pusher.giver) l.budget }
 
--- no job of a visit is pushed, nor offered: of each kind one was due
+-- no job of a visit is pushed, nor offered: for each kind that is on one is counted
 abbrev pub given_up : {F : Type 0} → (number : ℕ) → (last : Option State) → Live F → Live F
 given_up number last l = record l {
   prev = None;
@@ -182,6 +182,7 @@ pub record IsLive {F : Type 0} (l : Live F) : Type 0 where
   pub least : 1 ≤ l.guessing.ahead
   pub most : l.guessing.ahead ≤ 64
   pub issued : l.issued ≤ 2 ^ 41
+  pub price : l.budget.cost ≡ visit_cost l.workers
   -- a guess finds no room, or is not offered, only once the queue had been filled up
   pub room : 0 < full_of l.pusher → l.pusher.giver.capacity ≤ length l.pusher.giver.pushed
   pub seen : (number : ℕ) → l.seen ≡ Some number → HasSeen number l

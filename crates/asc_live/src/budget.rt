@@ -3,10 +3,11 @@ ghost use Rattle.asc_live.specs.Budget.{new_budget, passes, after_visit, after_l
 
 use std::marker::Model;
 
-/// What a visit is charged, in steps of the guest: for the copy of its state and its jobs, and for a look-up in the list
-/// of each worker. It is several times what it takes, so that visits which save nothing cost a run little.
+/// What a visit is charged for the copy of its state and its jobs, in steps of the guest. It is several times what most
+/// visits take.
 const VISIT_STEPS: u64 = 5_000;
 
+/// What it is charged for a look-up in the list of each worker.
 const WORKER_STEPS: u64 = 1_000;
 
 /// So many workers are charged for at most.
@@ -15,8 +16,8 @@ const WORKERS: usize = 64;
 /// A step that was jumped over counts as so many more: it is saved, and visits may cost what they save.
 const SAVED: u64 = 3;
 
-/// So many visits the budget pays for at most. After visits that were passed over it first grows to that again: a guess
-/// wants the states of two visits, one after the other, and workers that are awake.
+/// So many visits the budget pays for at most. After visits that were passed over it first grows to that again. A guess
+/// wants the states of two visits in a row, and workers that are awake.
 const ROW: u64 = 32;
 
 /// What the visits of a walk may cost. It changes no answer of a run.
@@ -37,9 +38,9 @@ impl Model for Budget {
 
     ghost Value = { model.Budget };
 
-    ghost view = { λ b. record { cost = b.cost; steps = b.steps; left = b.left; passing = b.passing } };
+    ghost view = { λ b. model.budget b.cost b.steps b.left b.passing };
 
-    ghost invariant = { λ b. model.IsBudget (record { cost = b.cost; steps = b.steps; left = b.left; passing = b.passing }) };
+    ghost invariant = { λ b. model.IsBudget (model.budget b.cost b.steps b.left b.passing) };
 }
 
 impl Budget {
@@ -89,8 +90,8 @@ impl Budget {
         if self.passing { 0 } else { left }
     }
 
-    /// After a look-up with so many steps left, which jumped over some, it grows by the steps since the last one, and by
-    /// what was saved, up to what a row of visits costs.
+    /// It grows by the steps since the last look-up, and by what this one saved, up to what a row of visits costs. This one
+    /// had so many steps left, and jumped over some.
     pub(crate) fn look_up(&mut self, left: u64, jumped: Option<u64>)
         requires left { left ≤ 2 ^ 40 }
         requires jumped { IfSome jumped (λ steps. steps ≤ 2 ^ 40) }

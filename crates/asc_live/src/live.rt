@@ -166,7 +166,7 @@ impl<'a, F, G, R> Live<'a, F, G, R> {
         }
     }
 
-    // Keeps the state of the first visit after those that were passed over. It has no other to guess by.
+    // Keeps the state of a visit that has none before it to guess by.
     fn begin_row(&mut self, state: &mut State, number: u64)
         requires seen { self.old.seen ≡ None }
         requires filled { is_filled self.old.pusher.giver ≡ true }
@@ -280,6 +280,8 @@ impl<'a, F: Finder, G, R> Finder for Live<'a, F, G, R> {
           budget = after_look_up left result self.old.budget;
         } }
         ensures passed { self.old.budget.passing ≡ true → result ≡ None }
+        ensures made { self.old.budget.passing ≡ false
+            → (m : Serial) → F.machine self.old.finder ≡ Some m → result ≡ serial_reply m state.old left }
         ensures jump { IsJump result left state.old state.new }
         ensures tally { F.tally self.new.finder ≡ tally_after (F.tally self.old.finder) result }
         ensures replies { Tells (result ∷ []) (F.replies self.old.finder) (F.replies self.new.finder) }
@@ -311,8 +313,9 @@ impl<'a, F: Finder, G: Gate, R: Wait> Helper for Live<'a, F, G, R> {
     /// filled up it pushes the workers' share of them; the others count as full. A visit costs a copy of what
     /// changed in the state since the last one, and two owners more of a copy for each job.
     ///
-    /// A visit that is passed over does none of this: one guess of each kind counts as not offered. So it does
-    /// at the first visit after such ones, which only keeps its state. At its end the gate is passed at `Visit`.
+    /// A visit that is passed over does none of this: one guess of each kind counts as not offered. So it does, once the
+    /// queue had been filled up, at a visit that has no state before it, and only keeps its own. At the end of a visit the
+    /// gate is passed at `Visit`.
     fn visit(&mut self, state: &mut State, number: u64)
         requires number { number ≤ 2 ^ 40 }
         requires made { (plan_of self.old).made < 2 ^ 62 }

@@ -13,7 +13,7 @@ use Rattle.asc_words.specs.declared.answer.Answer.TheVariants as answers
 use Rattle.asc_words.specs.declared.answer.Counts.{Counts}
 use Rattle.asc_words.specs.declared.answer.Outcome.{Outcome}
 use Rattle.asc_words.specs.Answer.{outcome_of}
-use Rattle.asc_words.specs.Answer.{file_limit}
+use Rattle.asc_words.specs.Line.{file_limit}
 use Rattle.asc_top.specs.Program.{answer_at, load_of}
 use Rattle.asc_top.specs.Numbers.{AreWorkerNumbers, WorkersAreTold, counts_of, guessing_of, reported_at, settings_of}
 use Rattle.asc_top.specs.Workers.{crew_of, workers_of}

@@ -13,7 +13,7 @@ use Rattle.asc_words.specs.declared.answer.Answer.{Answer}
 use Rattle.asc_words.specs.declared.answer.Answer.TheVariants as answers
 use Rattle.asc_words.specs.declared.answer.Outcome.{Outcome}
 use Rattle.asc_words.specs.declared.answer.Bad.{Bad}
-use Rattle.asc_words.specs.Answer.{file_limit}
+use Rattle.asc_words.specs.Line.{file_limit}
 use Rattle.asc_top.specs.Program.{load_of, IsNoImage, answer_at, refusal, result_of_load, run_of_image, meaning, Runs}
 use Rattle.asc_top.specs.Numbers.{Means}
 use Rattle.asc_top.specs.Kinds.{Finished, kind_of}

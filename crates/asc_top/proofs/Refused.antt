@@ -9,7 +9,7 @@ use Rattle.asc_words.specs.declared.line.RunLine.{RunLine}
 use Rattle.asc_words.specs.declared.answer.Answer.{Answer}
 use Rattle.asc_words.specs.declared.answer.Answer.TheVariants as answers
 use Rattle.asc_words.specs.Answer.{outcome_of}
-use Rattle.asc_words.specs.Answer.{file_limit}
+use Rattle.asc_words.specs.Line.{file_limit}
 use Rattle.asc_top.specs.Program.{Gives, ProgramResult, load_of, meaning, refusal, result_of_load}
 use Rattle.asc_top.specs.Numbers.{Means}
 use Rattle.asc_top.specs.Ran.{Ran}

@@ -9,7 +9,7 @@ use Rattle.asc_words.specs.declared.answer.Answer.{Answer}
 use Rattle.asc_words.specs.declared.answer.Answer.TheVariants as answers
 use Rattle.asc_words.specs.declared.answer.Outcome.{Outcome}
 use Rattle.asc_words.specs.Answer.{outcome_of}
-use Rattle.asc_words.specs.Answer.{file_limit}
+use Rattle.asc_words.specs.Line.{file_limit}
 use Rattle.asc_top.specs.Program.{meaning, Gives}
 use Rattle.asc_top.specs.Numbers.{Means}
 use Rattle.asc_top.specs.Ran.{Ran}

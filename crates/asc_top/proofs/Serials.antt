@@ -17,7 +17,7 @@ use Rattle.asc_run.proofs.Seeings.{visits-asked}
 use Rattle.asc_words.specs.declared.line.RunLine.{RunLine}
 use Rattle.asc_words.specs.declared.answer.Outcome.{Outcome}
 use Rattle.asc_words.specs.declared.answer.WorkerCounts.{WorkerCounts}
-use Rattle.asc_words.specs.Answer.{file_limit}
+use Rattle.asc_words.specs.Line.{file_limit}
 use Rattle.asc_top.specs.Program.{load_of}
 use Rattle.asc_top.specs.Numbers.{course_of_image, guessing_of, has_workers, makes_guesses, recognised_by, settings_of}
 use Rattle.asc_top.specs.Ran.{Walked}

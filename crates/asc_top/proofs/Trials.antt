@@ -19,7 +19,7 @@ use Rattle.asc_words.specs.declared.answer.Outcome.{Outcome}
 use Rattle.asc_words.specs.declared.answer.TrialOutcome.{TrialOutcome}
 use Rattle.asc_words.specs.Answer.{outcome_of}
 use Rattle.asc_words.specs.Report.{trial_text}
-use Rattle.asc_words.specs.Answer.{file_limit}
+use Rattle.asc_words.specs.Line.{file_limit}
 use Rattle.asc_top.specs.Program.{Gives, GivesPart, ProgramResult, answer_at, load_of, meaning, result_of_load, run_of_image, trial_run}
 use Rattle.asc_top.specs.Numbers.{AreNumbers, AreTold, AreTrialNumbers, Means, Tries, exit_at, exit_of, result_of_trial, told_by_trial, trial_meaning, trial_of, trial_result}
 use Rattle.asc_top.specs.Ran.{Ran}

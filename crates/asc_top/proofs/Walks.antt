@@ -16,7 +16,7 @@ use Rattle.asc_words.specs.declared.line.RunLine.{RunLine}
 use Rattle.asc_words.specs.declared.answer.Counts.{Counts}
 use Rattle.asc_words.specs.declared.answer.WorkerCounts.{WorkerCounts}
 use Rattle.asc_words.specs.declared.answer.Outcome.{Outcome}
-use Rattle.asc_words.specs.Answer.{file_limit}
+use Rattle.asc_words.specs.Line.{file_limit}
 use Rattle.asc_top.specs.Program.{load_of, answer_at, ProgramResult, result_of_run, result_of_load, run_of_image, meaning, Gives, IsStopped}
 use Rattle.asc_top.specs.Numbers.{AreOfVisits, AreTold, Means, counts_of, course_of_image, guessing_of, numbers_of, recognised_by, reported_at, settings_of, WorkersAreTold}
 use Rattle.asc_top.specs.Ran.{Ran, Walked}

@@ -17,7 +17,7 @@ use Rattle.asc_words.specs.declared.answer.Answer.TheVariants as answers
 use Rattle.asc_words.specs.declared.answer.Outcome.{Outcome}
 use Rattle.asc_words.specs.declared.answer.TrialOutcome.{TrialOutcome}
 use Rattle.asc_words.specs.declared.answer.Bad.{Bad}
-use Rattle.asc_words.specs.Answer.{file_limit}
+use Rattle.asc_words.specs.Line.{file_limit}
 use Rattle.asc_top.specs.Program.{meaning, Gives, GivesPart, Runs, IsNoImage, IsStopped, make_result, trial_run}
 use Rattle.asc_top.specs.Numbers.{Means, Tries, TriesPart, WorkersAreTold}
 use Rattle.asc_top.specs.Kinds.{Finished, kind_of, Completes, IsRefusal, device_of_answer}

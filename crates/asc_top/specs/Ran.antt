@@ -17,7 +17,7 @@ use Rattle.asc_words.specs.declared.answer.Answer.TheVariants as answers
 use Rattle.asc_words.specs.declared.answer.WorkerCounts.{WorkerCounts}
 use Rattle.asc_words.specs.declared.answer.Outcome.{Outcome}
 use Rattle.asc_words.specs.Answer.{outcome_of}
-use Rattle.asc_words.specs.Answer.{file_limit}
+use Rattle.asc_words.specs.Line.{file_limit}
 use Rattle.asc_top.specs.Program.{IsStopped, answer_at, load_of}
 use Rattle.asc_top.specs.Numbers.{Means, WorkersAreTold, counts_of, guessing_of, reported_at, settings_of}
 use Rattle.asc_top.specs.Kinds.{Finished, IsRefusal, device_of_answer, kind_of}

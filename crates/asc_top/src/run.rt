@@ -4,7 +4,7 @@ ghost use Rattle.asc_calls.specs.World.{Outside, faults, outside};
 ghost use Rattle.asc_run.specs.Helped.{aid, HasRoom};
 ghost use Rattle.asc_words.specs.Line.{IsRunWithin};
 ghost use Rattle.asc_words.specs.Answer.{outcome_of};
-ghost use Rattle.asc_words.specs.Answer.{file_limit};
+ghost use Rattle.asc_words.specs.Line.{file_limit};
 ghost use Rattle.asc_top.specs.Ran.{IsRead, IsWalkOf, Ran, RanBeside, Walked};
 ghost use Rattle.asc_top.specs.Answered.{IsAnswerFor, devices};
 

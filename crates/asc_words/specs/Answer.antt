@@ -1,4 +1,4 @@
--- The exit codes of the answers, answers without numbers, and the greatest file.
+-- The exit codes of the answers, and answers without numbers.
 use Rattle.std.specs.Prelude.{ℕ, None}
 use Rattle.asc_words.specs.declared.answer.Outcome.{Outcome}
 use Rattle.asc_words.specs.declared.line.LineFault.{LineFault}
@@ -31,7 +31,3 @@ refusal_of LineFaults.Memory = Memory
 -- an answer of which no numbers are reported
 abbrev pub outcome_of : Answer → Outcome
 outcome_of answer = record { answer = answer; counts = None; workers = None }
-
--- a program's file has at most 64 MiB
-abbrev pub file_limit : ℕ
-file_limit = 67108864

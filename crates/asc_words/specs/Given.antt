@@ -13,18 +13,18 @@ use Rattle.asc_words.specs.declared.line.LineFault.{LineFault}
 use Rattle.asc_words.specs.declared.line.LineFault.TheVariants.{Usage, Memory}
 
 -- Words that an error kept from being read are refused so: want of memory is told apart, and else they are not all text.
-pub record IsRefusalOf (kind : ErrorKind) (fault : LineFault) : Type 0 where
+pub record IsUnreadOf (kind : ErrorKind) (fault : LineFault) : Type 0 where
   pub memory : kind ≡ OutOfMemory → fault ≡ Memory
   pub words : kind ≢ OutOfMemory → fault ≡ Usage Words
 
 -- words are refused so: those that were read, where no memory is left to keep them
-abbrev pub IsRefusal : {A : Type 0} → Result (IntoIter (String A) A) Error → LineFault → Type 0
-IsRefusal (Ok words) fault = fault ≡ Memory
-IsRefusal (Err error) fault = IsRefusalOf (error_kind error) fault
+abbrev pub IsUnread : {A : Type 0} → Result (IntoIter (String A) A) Error → LineFault → Type 0
+IsUnread (Ok words) fault = fault ≡ Memory
+IsUnread (Err error) fault = IsUnreadOf (error_kind error) fault
 
 -- A predicate holds of the words that the system gave, or another one of why they were refused.
 abbrev pub HoldsOf : {A : Type 0} → Result (IntoIter (String A) A) Error → (words : List (List ℕ) → Type 0)
     → (refused : LineFault → Type 0) → Type 0
 HoldsOf given words refused =
     IsOkAnd given (λ items. words (map string_bytes (into_iter_items items)))
-    ⊎ ((fault : LineFault) × IsRefusal given fault × refused fault)
+    ⊎ ((fault : LineFault) × IsUnread given fault × refused fault)

@@ -17,6 +17,10 @@ use Rattle.asc_words.specs.declared.line.Guesses.{Guesses}
 use Rattle.asc_words.specs.declared.line.RunLine.{RunLine}
 use Rattle.asc_words.specs.Command.{asc_command}
 
+-- a file that is read has at most 64 MiB
+abbrev pub file_limit : ℕ
+file_limit = 67108864
+
 -- ---- the values that clap found for an argument
 
 abbrev pub text_in : Text → List Row → Text

@@ -4,9 +4,6 @@ use crate::line::LineFault;
 use asc_elf::ElfFault;
 use asc_step::Fault;
 
-/// The greatest file that is run, in bytes: 64 MiB.
-pub const FILE_LIMIT: usize = 67_108_864;
-
 /// What is wrong with a command line.
 #[derive(Clone, Copy, Debug, PartialEq, Eq)]
 pub enum Bad {

@@ -8,10 +8,10 @@ mod laws;
 mod line;
 mod report;
 
-pub use answer::{Answer, Bad, Counts, FILE_LIMIT, Outcome, TrialOutcome, WorkerCounts};
+pub use answer::{Answer, Bad, Counts, Outcome, TrialOutcome, WorkerCounts};
 pub use given::given_words;
 pub use laws::{lines_are_within, taken_words_have_lines};
-pub use line::{FileName, Line, LineFault, RunLine, parse};
+pub use line::{FILE_LIMIT, FileName, Line, LineFault, RunLine, parse};
 pub use report::{text, trial_text};
 
 #[cfg(test)]

@@ -12,6 +12,9 @@ use clap::error::ErrorKind;
 use std::alloc::{AllocError, Global};
 use std::marker::Model;
 
+/// The greatest file that is read, in bytes: 64 MiB.
+pub const FILE_LIMIT: usize = 67_108_864;
+
 /// The name of a file in a store. Contracts see it as its bytes.
 #[derive(Debug, Drop)]
 pub struct FileName {

@@ -1,7 +1,7 @@
 -- What the file of a line was read as.
 use Rattle.std.proofs.Common.{◌≡◌, ℕ, List, Ok, ap, subst}
 use Rattle.asc_outside.specs.Outside.{AsksFor, MayHoldLonger}
-use Rattle.asc_words.specs.Answer.{file_limit}
+use Rattle.asc_words.specs.Line.{file_limit}
 use Rattle.asc_top.specs.Answered.{devices}
 use Rattle.asc_top.proofs.Runs.{answer_of_long}
 use Rattle.asc_top.proofs.run.file_of.Goals as goal
