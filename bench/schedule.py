@@ -39,6 +39,10 @@ def share(workers, visit):
     return workers > 0 and visit % (workers + 1) != 1
 
 
+# Inputs that are longer than those of jobs.py: laps of matrix grow with its side.
+LONGER = {"matrix": "100\n", "collatz_chunks": "20000\n"}
+
+
 class Crew:
     """A queue and the workers that take jobs from it."""
 
@@ -99,7 +103,8 @@ def counted(asked):
     """A row of gains for each example."""
     print(f"{'':16}{'R':>6}{'visits':>8}{'outside':>9}  gains with 1 to {asked.most} workers")
     for name, (text, address, memory) in CASES.items():
-        lap, job, visits, outside = numbers_of(asked.counted, text, address, memory, ROOT / "examples/images" / name)
+        image, text = ROOT / "examples/images" / name, LONGER.get(name, text)
+        lap, job, visits, outside = numbers_of(asked.counted, text, address, memory, image)
         if asked.visits:
             visits, outside = asked.visits, outside * asked.visits / visits
         gains = [gain_of(asked, workers, share, visits, job / lap, outside)[0] for workers in range(1, asked.most + 1)]
