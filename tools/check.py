@@ -513,7 +513,7 @@ def check_copy(folder):
     same("the crates that copy.sh lists", sorted(line[0].split()[0] for line in lines), sorted(wanted))
     same("the crates that it copies", sorted(path.name for path in (copied / "crates").iterdir()), sorted(wanted))
     texts = [path.read_text() for path in copied.glob("crates/embed/*/**/*") if path.suffix in (".rt", ".antt")]
-    same("the name that it has before", [len(texts), any("asc_embed" in text for text in texts)], [2, False])
+    same("the name that it has before", [len(texts), any("asc_embed" in text for text in texts)], [8, False])
 
 
 def check_completion(known):

@@ -32,6 +32,6 @@ sed 's/[ :].*//' "$1/crates.txt" | while read -r name; do
         [ ! -e "$root/crates/$from/$part" ] || cp -R "$root/crates/$from/$part" "$1/crates/$name/$part"
     done
 done
-for file in src/main.rt proofs/main/Invariants.antt; do
-    sed 's/asc_embed/embed/' "$root/crates/asc_embed/$file" >"$1/crates/embed/$file"
+(cd "$root/crates/asc_embed" && find src proofs -type f) | while read -r file; do
+    sed 's/asc_embed/embed/g' "$root/crates/asc_embed/$file" >"$1/crates/embed/$file"
 done

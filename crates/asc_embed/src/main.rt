@@ -1,23 +1,29 @@
 //! A small program over the crates, to be copied: it runs an image, and on its way prints the entry of one lap, which is
-//! what the steps from one visit of an address to the next read and write.
+//! what the steps from one visit of an address to the next read and write. By that entry it jumps over the lap.
 //!
 //!     asc_embed IMAGE ADDRESS
 //!
-//! Its functions are proved to be safe and to return. What they answer no clause of theirs says.
+//! Its functions are proved to be safe and to return. What those of `entries` answer their clauses say, and of the others
+//! none does.
 #![tactic(auto)]
 
 ghost use Rattle.std.specs.Prelude.{◌≡◌, ◌<◌};
 
+#[cfg(test)]
+mod counted;
+mod entries;
+#[cfg(test)]
+mod tests;
+
+use crate::entries::{entry_from, jump};
 use asc_calls::{Calls, Served};
-use asc_depvec::Tracer;
 use asc_elf::read;
-use asc_shape::{Guess, Memory, Sink, Snapshot, Source, State, Steps, Version};
+use asc_shape::{Memory, Sink, Source, State, Steps, Version};
 use asc_step::{Stepped, step};
 use asc_streams::{StreamSink, StreamSource};
-use asc_traj::{Entry, Never, Part, Stop, cells_of, trace};
+use asc_traj::{Entry, Part, Stop, cells_of};
 use std::marker::Brand;
 use std::process::ExitCode;
-use std::sync::Arc;
 use std::sync::ledger::{Blank, Ledger};
 use std::{env, fs, io};
 
@@ -84,8 +90,16 @@ fn run<L: Ledger>(rt: &HostRuntime, blank: Blank) -> Result<u8, Trouble>
         steps: Steps::<L>::new(blank),
     };
     if guest.go_to(Some(pc)) == Went::ToPc {
-        match lap(rt, &guest.state, pc)? {
-            Some(entry) => print(rt, &entry)?,
+        let stop = Stop {
+            pc,
+            laps: 1,
+            span: MOST_IN_LAP,
+        };
+        match entry_from(rt.alloc(), &guest.state, &stop)? {
+            Some(entry) => {
+                print(rt, &entry)?;
+                let _ = jump(&[entry], &mut guest.state);
+            }
             None => eprintln!(rt; "no step goes on there")?,
         }
     }
@@ -106,26 +120,6 @@ fn words(rt: &HostRuntime) -> Result<(String, u32), Trouble> {
         },
         _ => Err(Trouble::Words),
     }
-}
-
-/// The entry of the steps from a state to the next visit of an address, or none where no step goes on. It ends before a
-/// guest call too, and once so many steps were taken.
-fn lap(rt: &HostRuntime, state: &State, pc: u32) -> Result<Option<Arc<Entry>>, Memory> {
-    let stop = Stop {
-        pc,
-        laps: 1,
-        span: MOST_IN_LAP,
-    };
-    let mut tracer = Tracer::new(rt.alloc(), state.shape(), 4096)?;
-    let guess = Guess::last(Snapshot::of(rt.alloc(), state)?);
-    // That it is a state, of the same shape.
-    let _ = guess.shape();
-    tracer.start(guess);
-    let traced = trace(&mut tracer, &stop, &mut Never);
-    if traced.steps == 0 {
-        return Ok(None);
-    }
-    Ok(Some(Entry::of(rt.alloc(), &mut tracer, traced.steps)?))
 }
 
 /// Prints an entry to standard error: how many steps it has, and each place that they read first, and each that they

@@ -7,7 +7,7 @@ use Rattle.asc_model.specs.Step.{At}
 use Rattle.asc_model.specs.Plain.{plain}
 use Rattle.asc_model.proofs.Entries.{entry_of-is, made}
 use Rattle.asc_traj.specs.Trace.{origin_of}
-use Rattle.asc_example.proofs.entry_from.Goals as goal
+use Rattle.asc_embed.proofs.entries.entry_from.Goals as goal
 
 -- the entry of n steps has n steps
 steps-are : (n : ℕ) (s after : State) (e : Entry) → plain n s ≡ At after → entry_of n s ≡ Some e → e.steps ≡ n

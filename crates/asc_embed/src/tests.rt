@@ -1,13 +1,17 @@
-//! The calls of the example, with values worked out by hand.
-ghost use Rattle.std.specs.Prelude.{◌≡◌, ◌<◌};
+//! Steps, entries, jumps and a state of its own kind, with values worked out by hand.
+ghost use Rattle.std.specs.Prelude.{◌≡◌, ◌<◌, Some, IfSome, length, slice_get};
+ghost use Rattle.std.specs.Arc.{arc_value};
+ghost use Rattle.asc_model.specs.Entry.{IsTrueEntry};
 
-use crate::{Counted, entry_from, jump, tells, walk};
+use crate::counted::Counted;
+use crate::entries::{entry_from, jump};
 use asc_shape::{Shape, State, Steps};
-use asc_step::{Stepped, try_step};
-use asc_traj::{Stop, cells_of};
+use asc_step::{Stepped, step_many, try_step};
+use asc_traj::{Entry, Stop, cells_of};
 use std::alloc::Global;
 use std::marker::Brand;
 use std::process::Abort;
+use std::sync::Arc;
 use std::sync::ledger::{Blank, Ledger};
 use std::test::Fail;
 
@@ -53,13 +57,21 @@ fn looping<R: Abort>(rt: &R, alloc: Global) -> State {
     state
 }
 
+/// It does nothing. A caller's proof learns from it what holds of an entry of a list.
+fn tells(entries: &[Arc<Entry>], i: usize)
+    requires { i < length entries.now }
+    ensures { IfSome (slice_get entries.now i) (λ entry. IsTrueEntry (arc_value entry)) }
+{
+    entries[i].truth();
+}
+
 /// Walks with a counter of its own.
 fn walk_counted<L: Ledger>(state: &mut State, most: u64, blank: Blank) -> (u64, Stepped)
     requires name { blank.name ≡ L.name }
     requires parts { blank.parts ≡ L.parts }
     requires some { 0 < L.parts }
 {
-    walk(state, most, &mut Steps::<L>::new(blank))
+    step_many(state, most, &mut Steps::<L>::new(blank))
 }
 
 /// Walks so far, and looks at the answer.

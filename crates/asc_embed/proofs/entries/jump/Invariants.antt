@@ -2,7 +2,7 @@
 use Rattle.std.proofs.Common.{◌≡◌, All, take}
 use Rattle.std.specs.Arc.{arc_value}
 use Rattle.asc_model.specs.Entry.{Matches}
-use Rattle.asc_example.proofs.jump.Given as goal
+use Rattle.asc_embed.proofs.entries.jump.Given as goal
 
 abbrev pub invariant-loop-entry : goal.invariant-loop-entry
 invariant-loop-entry l = record {

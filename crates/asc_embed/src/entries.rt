@@ -1,0 +1,46 @@
+//! Entries: one is traced, and a state jumps by a list of them.
+ghost use Rattle.std.specs.Prelude.{◌≡◌, ◌≤◌, All, Some, IfOk, IfSome, IsNone};
+ghost use Rattle.std.specs.Arc.{arc_value};
+ghost use Rattle.asc_model.specs.Entry.{Matches, entry_of};
+ghost use Rattle.asc_model.specs.Plain.{plain};
+ghost use Rattle.asc_model.specs.Step.{At};
+
+use asc_depvec::Tracer;
+use asc_shape::{Guess, Memory, Snapshot, State};
+use asc_traj::{Entry, Never, Stop, trace};
+use std::alloc::Global;
+use std::sync::Arc;
+
+/// The entry of the steps from a state to where `stop` ends them, or none where no step goes on.
+pub fn entry_from(alloc: Global, state: &State, stop: &Stop) -> Result<Option<Arc<Entry>>, Memory>
+    requires laps { 1 ≤ stop.now.laps }
+    requires span { 1 ≤ stop.now.span }
+    ensures { IfOk result (λ found. IfSome found
+        (λ entry. entry_of (arc_value entry).steps state.now ≡ Some (arc_value entry))) }
+{
+    let mut tracer = Tracer::new(alloc, state.shape(), 4096)?;
+    let guess = Guess::last(Snapshot::of(alloc, state)?);
+    // That it is a state, of the same shape.
+    let _ = guess.shape();
+    tracer.start(guess);
+    let traced = trace(&mut tracer, stop, &mut Never);
+    if traced.steps == 0 {
+        return Ok(None);
+    }
+    Ok(Some(Entry::of(alloc, &mut tracer, traced.steps)?))
+}
+
+/// Puts the first of these entries that matches a state, and answers how many steps it stands for.
+pub fn jump(entries: &[Arc<Entry>], state: &mut State) -> Option<u64>
+    ensures some { IfSome result (λ n. plain n state.old ≡ At state.new) }
+    ensures none { IsNone result → state.new ≡ state.old }
+    ensures unmatched { IsNone result → All (λ entry. Matches (arc_value entry) state.old → ⊥) entries.now }
+{
+    for entry in entries {
+        if entry.matches(state) {
+            entry.put(state);
+            return Some(entry.steps());
+        }
+    }
+    None
+}
