@@ -36,7 +36,8 @@ def counted(program, options, image, text):
     return int(next(line for line in done.stderr.splitlines() if "Collected" in line).split(":")[1]), done.stderr
 
 def numbers_of(program, text, address, memory, image):
-    """A plain lap and a job with its visit in instructions, how many visits there were, and the laps outside of these."""
+    """A plain lap and a job with its visit in instructions, how many visits there were, the laps outside of these, and the
+    steps of a lap."""
     room = ["--memory", memory]
     none, _ = counted(program, room + ["--steps", "0"], image, text)
     plain, _ = counted(program, room, image, text)
@@ -44,14 +45,15 @@ def numbers_of(program, text, address, memory, image):
     executed, skipped, asked, hits, made = map(int, NUMBERS.search(report).groups())
     price = (plain - none) / (executed + skipped)
     lap = price * skipped / hits
-    return lap, (guessed - none - price * executed) / made, asked, (executed + skipped) * hits / skipped - asked
+    return lap, (guessed - none - price * executed) / made, asked, (executed + skipped) * hits / skipped - asked, \
+        skipped / hits
 
 
 def main():
     program = sys.argv[1] if len(sys.argv) > 1 else str(ROOT / "crates/asc_cli/out/asc_cli")
     print(f"{'':16}{'plain lap':>12}{'job and visit':>16}{'r':>8}")
     for name, (text, address, memory) in CASES.items():
-        lap, job, _, _ = numbers_of(program, text, address, memory, ROOT / "examples/images" / name)
+        lap, job, *_ = numbers_of(program, text, address, memory, ROOT / "examples/images" / name)
         print(f"{name:16}{lap:12.0f}{job:16.0f}{job / lap:8.2f}")
 
 if __name__ == "__main__":

@@ -13,11 +13,11 @@ asc_live says:
     the gain over a plain run, and its part of 1 + W * SHARE / R
     how many jobs were pushed, and how many visits the walk jumped from
 
-What a visit, a wake and a busy machine cost is left out. So what is printed is more than what can be measured.
+What visits cost the run, a wake and a busy machine cost is left out. So what is printed is more than what can be measured.
 
-With --counted R, the visits and the laps outside of them are those of three examples, as bench/jobs.py counts them with the
-built PROGRAM. So a gain is reckoned that no clock of a busy machine has part in; R has the cost of a visit in it. Where N is
-given, the laps outside of the visits are in proportion.
+With --counted, three examples have a row: R, the steps of a lap, the visits, and the laps outside of these. bench/jobs.py
+counts them with the built PROGRAM, so that no clock has part in the gains. The budget for visits is in them. R is that of a
+job with its visit. Where N is given, there are so many visits, and laps outside of them in proportion.
 """
 
 import argparse
@@ -74,41 +74,66 @@ class Crew:
         return True
 
 
-def walk(crew, offers, visits, ahead):
-    """How long a walk takes, and from how many visits it jumps."""
-    now, jumps, issued = 0.0, 0, 0
+class Budget:
+    """What visits may cost, in steps of the guest: crates/asc_live/specs/Budget.antt. Where the steps of a lap are not
+    known, each visit is paid for."""
+
+    def __init__(self, workers, lap):
+        self.cost, self.lap, self.passing = (5000 + 1000 * workers if lap else 0), lap, False
+        self.steps = 32 * self.cost
+
+    def passes(self, filled):
+        """Whether a visit is passed over; it is charged where it is paid for."""
+        pays = self.steps >= (32 * self.cost if self.passing else self.cost)
+        self.passing = filled and not pays
+        self.steps -= self.cost if pays else 0
+        return self.passing
+
+    def look_up(self, jumped):
+        self.steps = min(self.steps + self.lap * (4 if jumped else 1), 32 * self.cost)
+
+
+def walk(crew, offers, visits, ahead, lap=0):
+    """How long a walk with laps of so many steps takes, and from how many visits it jumps."""
+    now, jumps, issued, kept = 0.0, 0, 0, False
+    budget = Budget(len(crew.free), lap)
     for visit in range(1, visits + 1):
         crew.work(now)
-        if visit > 1:
-            filled = crew.pushed >= crew.room
+        filled = crew.pushed >= crew.room
+        passed = budget.passes(filled)
+        if passed:
+            issued = visit + ahead
+        elif kept:
             for later in range(max(issued, visit) + 1, visit + ahead + 1):
                 if not filled or offers(len(crew.free), later):
                     crew.push(later, now)
             issued = visit + ahead
-        if crew.entries.get(visit, now + 1) <= now:
-            jumps += 1
-        else:
-            now += 1
+        kept = not passed
+        jumped = not passed and crew.entries.get(visit, now + 1) <= now
+        jumps += jumped
+        now += not jumped
+        budget.look_up(jumped)
     return now, jumps
 
 
-def gain_of(asked, workers, offers, visits, job, outside=0):
+def gain_of(asked, workers, offers, visits, job, outside=0, lap=0):
     """The gain of a walk with so many visits, where so many laps more are outside of them, and its crew and jumps."""
     crew = Crew(workers, asked.queue or 2 * workers, job, asked.right, random.Random(1))
-    time, jumps = walk(crew, offers, visits, asked.ahead)
+    time, jumps = walk(crew, offers, visits, asked.ahead, lap)
     return (visits + outside) / (time + outside), crew, jumps
 
 
 def counted(asked):
     """A row of gains for each example."""
-    print(f"{'':16}{'R':>6}{'visits':>8}{'outside':>9}  gains with 1 to {asked.most} workers")
+    print(f"{'':16}{'R':>6}{'steps':>9}{'visits':>8}{'outside':>9}  gains with 1 to {asked.most} workers")
     for name, (text, address, memory) in CASES.items():
         image, text = ROOT / "examples/images" / name, LONGER.get(name, text)
-        lap, job, visits, outside = numbers_of(asked.counted, text, address, memory, image)
+        lap, job, visits, outside, steps = numbers_of(asked.counted, text, address, memory, image)
         if asked.visits:
             visits, outside = asked.visits, outside * asked.visits / visits
-        gains = [gain_of(asked, workers, share, visits, job / lap, outside)[0] for workers in range(1, asked.most + 1)]
-        print(f"{name:16}{job / lap:6.2f}{visits:8}{outside:9.1f} ", *(f"{gain:5.2f}" for gain in gains))
+        gains = [gain_of(asked, workers, share, visits, job / lap, outside, steps)[0]
+                 for workers in range(1, asked.most + 1)]
+        print(f"{name:16}{job / lap:6.2f}{steps:9.0f}{visits:8}{outside:9.1f} ", *(f"{gain:5.2f}" for gain in gains))
 
 
 def main():
