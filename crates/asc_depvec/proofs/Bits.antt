@@ -23,7 +23,7 @@ use Rattle.asc_model.specs.declared.status.Status.TheVariants.{Untouched}
 use Rattle.asc_shape.specs.Face.{status_at, is_untouched}
 use Rattle.asc_depvec.specs.Bits.{AreListed, AreNoted, block_at, has_bit, has_word, live, words_in, words_of_blocks}
 use Rattle.asc_depvec.specs.declared.bitmap.Block.{Block}
-use Rattle.asc_depvec.specs.Inside.{is_due, noted}
+use Rattle.asc_depvec.specs.Inside.{is_bit_of, noted}
 use Rattle.asc_depvec.specs.Tracer.{is_touched_word, places_of_item}
 use Rattle.asc_depvec.proofs.Items.{item_word}
 use Rattle.asc_depvec.proofs.Marking.{Fits, times}
@@ -93,7 +93,7 @@ max_one (suc (suc b)) lt = absurd (omega (arith, lt))
 
 -- bits of a block are set in it
 pub has-merged : (blocks : List ℕ) (block bits other : ℕ) → block < length blocks
-    → has_word (slice_set blocks block (bit_or (slice_index blocks block) bits)) other ≡ (has_word blocks other || is_due block bits other)
+    → has_word (slice_set blocks block (bit_or (slice_index blocks block) bits)) other ≡ (has_word blocks other || is_bit_of block bits other)
 has-merged blocks block bits other within =
     let old = slice_index blocks block in
     let new = bit_or old bits in
@@ -118,16 +118,16 @@ has-merged blocks block bits other within =
     max_either a (suc (suc b)) x y = absurd (omega (arith, y))
 
 -- of no bits none is to be set
-pub due-none : (block bits other : ℕ) → bits ≡ 0 → is_due block bits other ≡ false
-due-none block bits other none = ap (λ (n : ℕ). (other / 64 == block) && (bit_at n (other % 64) == 1)) none ∙ ap (λ (n : ℕ). (other / 64 == block) && (n == 1)) (bit_at-zero (other % 64)) ∙ and_false (other / 64 == block)
+pub bit_of-none : (block bits other : ℕ) → bits ≡ 0 → is_bit_of block bits other ≡ false
+bit_of-none block bits other none = ap (λ (n : ℕ). (other / 64 == block) && (bit_at n (other % 64) == 1)) none ∙ ap (λ (n : ℕ). (other / 64 == block) && (n == 1)) (bit_at-zero (other % 64)) ∙ and_false (other / 64 == block)
   where
     and_false : (b : Bool) → (b && false) ≡ false
     and_false true = refl
     and_false false = refl
 
 -- and of one more the word of that bit
-pub due-more : (block bits k power other : ℕ) → k < 64 → power ≡ 2 ^ k → is_due block (bit_or bits power) other ≡ (is_due block bits other || 64 * block + k == other)
-due-more block bits k power other low is =
+pub bit_of-more : (block bits k power other : ℕ) → k < 64 → power ≡ 2 ^ k → is_bit_of block (bit_or bits power) other ≡ (is_bit_of block bits other || 64 * block + k == other)
+bit_of-more block bits k power other low is =
     let j = other % 64 in
     let set : (bit_at (bit_or bits power) j == 1) ≡ (max (bit_at bits j) (bit_at (2 ^ k) j) == 1) =
     ap (λ (n : ℕ). bit_at (bit_or bits n) j == 1) is ∙ ap (λ (b : ℕ). b == 1) (bit_at_or bits (2 ^ k) j) in
@@ -137,23 +137,23 @@ due-more block bits k power other low is =
           let bit : j ≡ k = omega (arith, here, low) in
           ap (λ (b : Bool). (other / 64 == block) && b) (set ∙ ap (λ (n : ℕ). max (bit_at bits j) n == 1) (ap (bit_at (2 ^ k)) bit ∙ bit_at-pow_same k) ∙ ap (λ (n : ℕ). n == 1) (max_one (bit_at bits j) (bit_at-lt bits j)))
           ∙ ap (λ (b : Bool). b && true) (eq-eqb (other / 64) block there)
-          ∙ sym (ap (λ (b : Bool). is_due block bits other || b) (eq-eqb (64 * block + k) other here) ∙ or-true (is_due block bits other))
+          ∙ sym (ap (λ (b : Bool). is_bit_of block bits other || b) (eq-eqb (64 * block + k) other here) ∙ or-true (is_bit_of block bits other))
       | inr apart ↦
           elim (cases_eq (other / 64) block) [
             | inl there ↦
                 let bit : j ≡ k → ⊥ = λ e. apart (omega (arith, there, e)) in
                 ap (λ (b : Bool). (other / 64 == block) && b) (set ∙ ap (λ (n : ℕ). max (bit_at bits j) n == 1) (bit_at-pow_other k j bit) ∙ ap (λ (n : ℕ). n == 1) (max-zero (bit_at bits j)))
-                ∙ sym (ap (λ (b : Bool). is_due block bits other || b) (ne_eqb (64 * block + k) other apart) ∙ or-false (is_due block bits other))
+                ∙ sym (ap (λ (b : Bool). is_bit_of block bits other || b) (ne_eqb (64 * block + k) other apart) ∙ or-false (is_bit_of block bits other))
             | inr other_block ↦
                 ap (λ (b : Bool). b && bit_at (bit_or bits power) j == 1) (ne_eqb (other / 64) block other_block)
-                ∙ sym (ap (λ (b : Bool). is_due block bits other || b) (ne_eqb (64 * block + k) other apart) ∙ or-false (is_due block bits other)
+                ∙ sym (ap (λ (b : Bool). is_bit_of block bits other || b) (ne_eqb (64 * block + k) other apart) ∙ or-false (is_bit_of block bits other)
                 ∙ ap (λ (b : Bool). b && bit_at bits j == 1) (ne_eqb (other / 64) block other_block))
           ]
     ]
 
-pub due-one : (block k power other : ℕ) → k < 64 → power ≡ 2 ^ k → is_due block power other ≡ (64 * block + k == other)
-due-one block k power other low is =
-    ap (λ (n : ℕ). is_due block n other) (sym (or_zero_l power)) ∙ due-more block 0 k power other low is ∙ ap (λ (b : Bool). b || 64 * block + k == other) (due-none block 0 other refl)
+pub bit_of-one : (block k power other : ℕ) → k < 64 → power ≡ 2 ^ k → is_bit_of block power other ≡ (64 * block + k == other)
+bit_of-one block k power other low is =
+    ap (λ (n : ℕ). is_bit_of block n other) (sym (or_zero_l power)) ∙ bit_of-more block 0 k power other low is ∙ ap (λ (b : Bool). b || 64 * block + k == other) (bit_of-none block 0 other refl)
 
 -- one bit more is set in a block
 pub has-added : (blocks : List ℕ) (word power other : ℕ) → word / 64 < length blocks → power ≡ 2 ^ (word % 64)
@@ -161,7 +161,7 @@ pub has-added : (blocks : List ℕ) (word power other : ℕ) → word / 64 < len
 has-added blocks word power other within is =
     let same : 64 * (word / 64) + word % 64 ≡ word = omega arith in
     has-merged blocks (word / 64) power other within
-    ∙ ap (λ (b : Bool). has_word blocks other || b) (due-one (word / 64) (word % 64) power other (omega arith) is ∙ ap (λ (n : ℕ). n == other) same)
+    ∙ ap (λ (b : Bool). has_word blocks other || b) (bit_of-one (word / 64) (word % 64) power other (omega arith) is ∙ ap (λ (n : ℕ). n == other) same)
 
 -- a number rotated by three bits is small where it is a small multiple of 8
 pub rotated : (n k : ℕ) → n < 2 ^ 32 → k ≡ rotate_right w32 n 3 → k < 64 → (n % 8 ≡ 0) × (k ≡ n / 8)
@@ -173,8 +173,8 @@ rotated n k low is small =
     (none, omega (arith, is, sum, none))
 
 -- the word of an item for a whole word
-pub item_due : (item word : ℕ) → item % 8 ≡ 1 → list_any (λ p. p / 4 == word) (places_of_item item) ≡ (item / 8 == word)
-item_due item word whole =
+pub item_bit : (item word : ℕ) → item % 8 ≡ 1 → list_any (λ p. p / 4 == word) (places_of_item item) ≡ (item / 8 == word)
+item_bit item word whole =
     let p = item / 2 in
     let b = item / 8 == word in
     let is = λ (n : ℕ) (e : n ≡ item / 8). ap (λ (k : ℕ). k == word) e in

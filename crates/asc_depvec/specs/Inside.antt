@@ -31,8 +31,8 @@ mixed (first ∷ start) (byte ∷ bytes) (status ∷ statuses) =
 mixed start bytes statuses = []
 
 -- whether a word's bit is among bits of a block that are still to be set
-abbrev pub is_due : (block bits word : ℕ) → Bool
-is_due block bits word = (word / 64 == block) && (bit_at bits (word % 64) == 1)
+abbrev pub is_bit_of : (block bits word : ℕ) → Bool
+is_bit_of block bits word = (word / 64 == block) && (bit_at bits (word % 64) == 1)
 
 -- places, each with its byte
 abbrev pub noted : List ℕ → List ℕ → List (ℕ × ℕ)

@@ -5,7 +5,7 @@ ghost use Rattle.std.specs.List.Sorted.{IsNonDecreasingBy};
 ghost use Rattle.asc_model.specs.Places.{places_from};
 ghost use Rattle.asc_depvec.specs.Tracer.{places_of, places_of_item};
 ghost use Rattle.asc_depvec.specs.Bits.{AreListed, AreNoted, block_at, has_bit, has_word, live};
-ghost use Rattle.asc_depvec.specs.Inside.{is_due};
+ghost use Rattle.asc_depvec.specs.Inside.{is_bit_of};
 
 use std::alloc::{AllocError, Global};
 
@@ -53,12 +53,12 @@ fn bits_of(items: &[u32], from: usize, first: u32) -> (u64, usize)
     ensures least { from ≤ result.1 }
     ensures most { result.1 ≤ length items.now }
     ensures bits { (word : ℕ) → list_any (λ place. place / 4 == word) (places_of (take result.1 items.now))
-        ≡ (list_any (λ place. place / 4 == word) (places_of (take from items.now)) || is_due (first / 512) result.0 word) }
+        ≡ (list_any (λ place. place / 4 == word) (places_of (take from items.now)) || is_bit_of (first / 512) result.0 word) }
 {
     let mut bits = 0;
     let mut at = from;
     while at < items.len() {
-        // Of the item of a word of that block this is the word's number in it, and of any other it is greater.
+        // Of the item of a word of that block this is the word's number in it, and of any other it is 64 or more.
         let word = items[at].wrapping_sub(first).rotate_right(3);
         if word >= 64 {
             break;
@@ -76,7 +76,7 @@ fn set_bits(blocks: &mut [u64], groups: &mut [u64], used: &mut Vec<u32>, block: 
     requires groups { length blocks.old ≤ 64 * length groups.old }
     requires noted { AreNoted blocks.old groups.old used.old.items }
     requires room { length groups.old ≤ vec_capacity used.old }
-    ensures bits { (word : ℕ) → has_word blocks.new word ≡ (has_word blocks.old word || is_due block bits word) }
+    ensures bits { (word : ℕ) → has_word blocks.new word ≡ (has_word blocks.old word || is_bit_of block bits word) }
     ensures noted { AreNoted blocks.new groups.new used.new.items }
     ensures capacity { vec_capacity used.new ≡ vec_capacity used.old }
 {

@@ -281,7 +281,7 @@ impl Tracer {
 
     /// Makes the places that were first touched since a mark untouched again, with the bytes that they had. Where they
     /// were only read, and nothing was put since, all is as it was at the mark. It costs what was touched since the start,
-    /// and not since the mark alone: no word of code is settled any more, whose registers may be untouched again.
+    /// and not since the mark alone. Registers of a word may be untouched again, so no word is settled any more.
     pub fn undo(&mut self, mark: usize)
         requires { mark ≤ length self.old.touched }
         ensures { self.new ≡ undone self.old mark }

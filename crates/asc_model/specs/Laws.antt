@@ -106,8 +106,8 @@ pub record GoesOnAfter (k : ℕ) (s now : State) : Type 0 where
   pub after : State
   pub goes : next now ≡ At after
 
--- Of the pc and the registers the step after n steps of a state reads what these read first or write, and writes what they
--- write.
+-- Of the pc and the registers the step after n steps of a state reads only what these read first or write. It writes only
+-- what they write.
 pub record TouchesNoNewRegister (n : ℕ) (s now : State) : Type 0 where
   pub read : (place : ℕ) → place < 128 → is_among place (places_read now) ≡ true
       → (is_among place (first_reads n s) || is_among place (written_in n s)) ≡ true

@@ -52,14 +52,14 @@ pub fn decode_is_the_table()
     ensures { DecodeIsTheTable }
 {}
 
-/// Which registers a step reads and writes depends on its fetched word alone, where it goes on: steps of two states of one
+/// Which registers a step reads and writes depends on its fetched word alone, where it goes on. Steps of two states of one
 /// version that fetch the same word read and write the same places of registers and of the pc.
 pub fn registers_follow_words()
     ensures { RegistersFollowWords }
 {}
 
-/// A step carried out before in a trace, on the same word, touches no new register place: of the registers and the pc it
-/// reads what the steps before it read first or write, and writes what they write.
+/// A step carried out before in a trace, on the same word, touches no new register place. Of the registers and the pc it
+/// reads only what the steps before it read first or write. It writes only what they write.
 pub fn repeated_words_touch_no_new_register()
     ensures { RepeatedWordsTouchNoNewRegister }
 {}

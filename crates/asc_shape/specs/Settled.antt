@@ -1,5 +1,5 @@
--- Words of code that change no status of a register or of the pc when they are carried out: their registers and the pc were
--- touched before.
+-- Words of code that change no status of a register or of the pc when they are carried out, since these were touched
+-- before.
 use Rattle.std.specs.Prelude.{◌≡◌, ℕ, ◌+◌, ◌<◌, ◌≤◌, Bool, true, false, List, Some, count_by}
 use Rattle.asc_model.specs.declared.status.Status.{Status}
 use Rattle.asc_model.specs.declared.status.Status.TheVariants.{Untouched, Read, Written, ReadWritten}

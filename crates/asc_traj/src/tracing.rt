@@ -131,8 +131,8 @@ fn count_lap(laps: &mut u64)
     *laps = laps.wrapping_add(1);
 }
 
-/// Tells whether neither the bound of steps nor that of places is met after so many steps, and else which is, where too
-/// few laps are made. The first `sure` steps meet none, whatever they touch: so a step costs one test for both.
+/// Tells whether neither the bound of steps nor that of places is met after so many steps and too few laps, and else
+/// which is. The first `sure` steps meet none, whatever they touch: so a step costs one test for both.
 #[inline]
 fn is_within(tracer: &Tracer, stop: &Stop, steps: u64, sure: &mut u64, why: &mut Why) -> bool
     requires own { tracer.now.state.shape ≡ tracer.now.shape }

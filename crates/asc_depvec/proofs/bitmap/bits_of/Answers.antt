@@ -3,9 +3,9 @@ use Rattle.std.specs.List.{list_any}
 use Rattle.std.proofs.Math.Bool.{or_assoc, or-false}
 use Rattle.std.proofs.lemmas.List.Folds.{list_any-append}
 use Rattle.std.proofs.lemmas.Nat.{one_shl}
-use Rattle.asc_depvec.specs.Inside.{is_due}
+use Rattle.asc_depvec.specs.Inside.{is_bit_of}
 use Rattle.asc_depvec.specs.Tracer.{places_of, places_of_item}
-use Rattle.asc_depvec.proofs.Bits.{due-more, due-none, item_due, rotated}
+use Rattle.asc_depvec.proofs.Bits.{bit_of-more, bit_of-none, item_bit, rotated}
 use Rattle.asc_depvec.proofs.Items.{places_of-take}
 use Rattle.asc_depvec.proofs.bitmap.bits_of.Goals as goal
 
@@ -15,7 +15,7 @@ loop-at-init c = record {
   most = c.requires.from;
   bits = λ word.
       let any = list_any (λ place. place / 4 == word) (places_of (take c.args.from c.args.items.now)) in
-      sym (ap (λ (b : Bool). any || b) (due-none (c.args.first / 512) 0 word refl) ∙ or-false any);
+      sym (ap (λ (b : Bool). any || b) (bit_of-none (c.args.first / 512) 0 word refl) ∙ or-false any);
 }
 
 pub loop-at-preserved : goal.loop-at-preserved
@@ -40,9 +40,9 @@ loop-at-preserved c =
           let before = list_any test (places_of (take c.args.from items)) in
           ap (list_any test) (places_of-take items at 0 c.loop-at-test.true) ∙ list_any-append test (places_of (take at items)) (places_of_item item)
           ∙ ap (λ (b : Bool). b || list_any test (places_of_item item)) (c.loop-at.invariant.bits word)
-          ∙ ap (λ (b : Bool). (before || is_due (first / 512) bits word) || b) (item_due item word whole)
-          ∙ or_assoc before (is_due (first / 512) bits word) (item / 8 == word)
+          ∙ ap (λ (b : Bool). (before || is_bit_of (first / 512) bits word) || b) (item_bit item word whole)
+          ∙ or_assoc before (is_bit_of (first / 512) bits word) (item / 8 == word)
           ∙ ap (λ (b : Bool). before || b)
-          (ap (λ (n : ℕ). is_due (first / 512) bits word || n == word) (sym here)
-          ∙ sym (due-more (first / 512) bits bit (1 * 2 ^ bit % 2 ^ 64) word (omega (arith, low)) (one_shl bit 64 (omega (arith, low)))));
+          (ap (λ (n : ℕ). is_bit_of (first / 512) bits word || n == word) (sym here)
+          ∙ sym (bit_of-more (first / 512) bits bit (1 * 2 ^ bit % 2 ^ 64) word (omega (arith, low)) (one_shl bit 64 (omega (arith, low)))));
     }

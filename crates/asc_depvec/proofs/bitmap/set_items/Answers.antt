@@ -2,7 +2,7 @@ use Rattle.std.proofs.Common.{◌≡◌, ℕ, ◌+◌, ◌*◌, ◌/◌, ◌<◌
 use Rattle.std.specs.Prelude.{All}
 use Rattle.std.specs.List.{list_any}
 use Rattle.std.proofs.lemmas.List.Folds.{list_any-append}
-use Rattle.asc_depvec.specs.Inside.{is_due}
+use Rattle.asc_depvec.specs.Inside.{is_bit_of}
 use Rattle.asc_depvec.specs.Tracer.{places_of, places_of_item}
 use Rattle.asc_depvec.proofs.Items.{All-item, places_of-take}
 use Rattle.asc_depvec.proofs.Listed.{first_low}
@@ -35,9 +35,9 @@ loop-at-preserved c =
           let longer : (list_any test (places_of (take at items)) || list_any test (places_of_item item)) ≡ list_any test (places_of (take (at + 1) items)) =
           sym (list_any-append test (places_of (take at items)) (places_of_item item)) ∙ ap (list_any test) (sym (places_of-take items at 0 c.loop-at-test.true)) in
           c.set_bits.ensures.bits word
-          ∙ ap (λ (b : Bool). b || is_due (item / 512) c.bits_of-bits.result.0 word)
+          ∙ ap (λ (b : Bool). b || is_bit_of (item / 512) c.bits_of-bits.result.0 word)
           (c.set_item.ensures.bits word ∙ ap (λ (b : Bool). b || list_any test (places_of_item item)) (c.loop-at.invariant.bits word) ∙ longer)
-          ∙ ap (λ (n : ℕ). list_any test (places_of (take (at + 1) items)) || is_due n c.bits_of-bits.result.0 word) (sym block)
+          ∙ ap (λ (n : ℕ). list_any test (places_of (take (at + 1) items)) || is_bit_of n c.bits_of-bits.result.0 word) (sym block)
           ∙ sym (c.bits_of-bits.ensures.bits word);
       noted = c.set_bits.ensures.noted;
       capacity = c.set_bits.ensures.capacity ∙ c.set_item.ensures.capacity ∙ c.loop-at.invariant.capacity;
