@@ -9,3 +9,4 @@ pub mod HaltSteps
 pub mod HaltShared
 pub mod Splits
 pub mod Parts
+pub mod Reaching

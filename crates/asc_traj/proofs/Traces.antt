@@ -115,6 +115,13 @@ met-bound bounds start n laps t on is fits few =
     ∙ ap (λ (b : Bool). if laps_in bounds.pc n start == bounds.laps then Some whys.Lap else (if n == bounds.span then Some whys.Span else (if b then Some whys.Room else None)))
     (few_left bounds start n laps t on is fits)
 
+-- A turn of the loop, after some steps: it counted so many laps, which are too few. So the bound that its test meets is
+-- the trace's.
+pub turn : {bounds : Bounds} {start : State} {n laps counts : ℕ} {t : Tracing} {all : Bool} → IsOnWay bounds start n counts t → laps ≡ counts → all ≡ (laps == bounds.laps) → all ≡ false
+    → IsTracing t → FitPlaces (length t.state.bytes) (face_of t).marks → bound_met bounds n start ≡ met (bounds.span - n) t
+turn {bounds} {start} {n} {counts} {t} way same tests few is fits =
+    sym (met-bound bounds start n counts t way is fits (ap (λ l. l == bounds.laps) (sym same) ∙ sym tests ∙ few))
+
 -- where a step is sure no bound is met
 pub met-none : (left : ℕ) (t : Tracing) → 0 < left → step_room ≤ room_of (face_of t).marks → met left t ≡ None
 met-none left t some room =

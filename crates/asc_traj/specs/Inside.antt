@@ -4,13 +4,14 @@ use Rattle.asc_model.specs.declared.why.Why.{Why}
 use Rattle.asc_model.specs.declared.why.Why.TheVariants as whys
 use Rattle.asc_model.specs.declared.status.Status.{Status}
 use Rattle.asc_model.specs.declared.status.Status.TheVariants.{Untouched, Read, Written, ReadWritten}
-use Rattle.asc_model.specs.Reach.{step_room}
+use Rattle.asc_model.specs.State.{State}
+use Rattle.asc_model.specs.Reach.{Bounds, IsReach, step_room}
 use Rattle.asc_shape.specs.Face.{room_of, status_at}
 use Rattle.asc_depvec.specs.Tracer.{Tracing, face_of}
 use Rattle.asc_model.specs.Places.{places_from}
 use Rattle.asc_traj.specs.Parts.{IsPart, all_cells}
 use Rattle.asc_traj.specs.declared.entry.Halves.{Halves}
-use Rattle.asc_traj.specs.Trace.{origin_of}
+use Rattle.asc_traj.specs.Trace.{CountsAnswer, MayStop, StandsFor, is_stopped, origin_of}
 use Rattle.asc_step.specs.declared.stepped.Stepped.{Stepped}
 use Rattle.asc_step.specs.declared.stepped.Stepped.TheVariants.{Went, Call, Fault}
 
@@ -19,6 +20,16 @@ abbrev pub why_of : Stepped → Option Why
 why_of Went = None
 why_of Call = Some whys.Call
 why_of (Fault fault) = Some (whys.Fault fault)
+
+-- A trace of a guess within bounds took n steps of a tracer, and ended for this reason. The count of yes answers of its halt
+-- was so many before, and is so many now.
+pub record HasTraced (bounds : Bounds) (guess : State) (n : ℕ) (why : Why) (before now : ℕ) (t : Tracing) : Type 0 where
+  pub stands : StandsFor n t
+  pub start : origin_of t ≡ guess
+  pub reach : is_stopped why ≡ false → IsReach bounds guess n why
+  pub stopped : is_stopped why ≡ true → MayStop bounds guess n
+  pub halt : CountsAnswer before now (is_stopped why)
+  pub cap : t.cap ≡ bounds.cap
 
 -- the bound of steps or places that is met first where so many steps are left
 abbrev pub met : (left : ℕ) → Tracing → Option Why

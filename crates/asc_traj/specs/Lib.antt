@@ -6,3 +6,4 @@ pub mod Finder
 pub mod Serial
 pub mod Finders
 pub mod Halting
+pub mod Made

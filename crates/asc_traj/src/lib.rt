@@ -10,6 +10,7 @@ mod guessing;
 mod halt;
 mod halter;
 mod longest;
+mod made;
 mod noted;
 mod part;
 #[cfg(test)]
@@ -24,6 +25,7 @@ pub use guessing::Guessing;
 pub use halt::{Halt, Never};
 pub use halter::{Flag, Halter};
 pub use longest::{is_longer, jump_by, jump_longest, longest_match};
+pub use made::Made;
 pub use noted::Noted;
 pub use part::Part;
 pub use tracing::{Stop, Traced, trace};

@@ -2,8 +2,8 @@ ghost use Rattle.std.specs.Prelude.{◌≡◌};
 ghost use Rattle.asc_traj.specs.Trace.{StandsFor};
 
 use crate::{
-    Entry, Finder, Halt, ListFinder, Never, Noted, Nothing, Part, Stop, Traced, Why, cells_of,
-    trace,
+    Entry, Finder, Halt, ListFinder, Made, Never, Noted, Nothing, Part, Stop, Traced, Why,
+    cells_of, trace,
 };
 use asc_depvec::Tracer;
 use asc_shape::{Guess, Shape, Snapshot, State, Status};
@@ -533,6 +533,44 @@ fn asked(rt: HostRuntime) {
         let mut halt = halt_after(noes);
         let (traced, _) = traced(&rt, alloc, state, cap, stop, &mut halt);
         assert_eq!(rt; (traced, halt.stops, halt.asks), (ended, stops, Some(asks)));
+    }
+}
+
+/// What becomes of a state that is a guess, by name, and how many steps its entry has.
+fn made<H: Halt, R: Abort>(
+    rt: &R,
+    alloc: Global,
+    from: &State,
+    stop: Stop,
+    halt: &mut H,
+) -> (&'static str, u64) {
+    assert!(rt; stop.laps >= 1 && stop.span >= 1);
+    let mut tracer = Tracer::new(alloc, from.shape(), 96).expect(rt, "memory");
+    let guess = Guess::last(Snapshot::of(alloc, from).expect(rt, "memory"));
+    match Entry::traced(alloc, &mut tracer, guess, &stop, halt) {
+        Made::One(entry) => ("one", entry.steps()),
+        Made::Empty => ("empty", 0),
+        Made::Stopped => ("stopped", 0),
+        Made::Refused => ("refused", 0),
+    }
+}
+
+// What becomes of the counting loop and of its guest call where the halt says no so often, and how often it said yes.
+#[test]
+fn guesses(rt: HostRuntime) {
+    let alloc = rt.alloc();
+    let loops = counting(&rt, alloc, 0x10008, 4);
+    let calls = counting(&rt, alloc, 0x10018, 4);
+    for (state, noes, became, stops) in [
+        (&loops, 9, ("one", 4), 0),
+        (&calls, 9, ("empty", 0), 0),
+        (&loops, 0, ("stopped", 0), 1),
+        (&calls, 0, ("empty", 0), 1),
+        (&loops, 3, ("stopped", 0), 1),
+    ] {
+        let mut halt = halt_after(noes);
+        let found = made(&rt, alloc, state, stop_at(2, 9), &mut halt);
+        assert_eq!(rt; (found, halt.stops), (became, stops));
     }
 }
 

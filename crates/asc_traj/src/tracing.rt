@@ -202,7 +202,7 @@ fn attempt<H: Halt>(tracer: &mut Tracer, shape: Shape, rare: &mut Stepped, why: 
 /// settled words alone.
 #[cold]
 #[inline(never)]
-fn attempt_anew(tracer: &mut Tracer, why: &mut Why) -> bool
+pub(crate) fn attempt_anew(tracer: &mut Tracer, why: &mut Why) -> bool
     requires room { step_room ≤ room_of (face_of tracer.old).marks }
     ensures ends { (if result then None else Some why.new) ≡ why_no_step (next tracer.old.state) }
     ensures goes { result ≡ true → face_of tracer.new ≡ face_after (face_of tracer.old) }

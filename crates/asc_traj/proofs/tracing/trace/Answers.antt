@@ -7,7 +7,7 @@ use Rattle.asc_model.specs.Machine.{view_of}
 use Rattle.asc_traj.specs.Inside.{counted}
 use Rattle.asc_traj.specs.Trace.{LosesPatience, bounds_of}
 use Rattle.asc_traj.proofs.Attempts.{ended, went_on}
-use Rattle.asc_traj.proofs.Traces.{IsOnWay, begins, lapped, met-bound, room_for_step, some_left, ends-bound, ends-step, ends-stopped, counted-start, few-start, counted-more, goes_on, sure-next, left-first, left-next, left-most, asked-none, asked-next, asked-bound, asked-step}
+use Rattle.asc_traj.proofs.Traces.{IsOnWay, begins, lapped, turn, room_for_step, some_left, ends-bound, ends-step, ends-stopped, counted-start, few-start, counted-more, goes_on, sure-next, left-first, left-next, left-most, asked-none, asked-next, asked-bound, asked-step}
 use Rattle.asc_traj.proofs.tracing.trace.Goals as goal
 
 pub loop-shape-init : goal.loop-shape-init
@@ -38,68 +38,47 @@ attempt-requires-clause-room g c = room_for_step _ c.loop-shape.tracer (sym (wen
 
 pub returns-then-has_all_laps-clause-reach : goal.returns-then-has_all_laps-clause-reach
 returns-then-has_all_laps-clause-reach g c =
-    let bounds = bounds_of c.args.stop.now c.args.tracer.now.cap in
-    let start = c.args.tracer.now.state in
-    let n = c.loop-shape.steps in
     let laps = c.has_all_laps.new.laps in
-    let t = c.loop-shape.tracer in
-    let way = subst (λ (k : ℕ). IsOnWay bounds start n k t) (sym c.has_all_laps.ensures.counts) c.loop-shape.invariant.way in
-    λ _. ends-bound bounds start n laps t whys.Lap way
-    (lapped bounds start n laps t way (eqb-true laps c.args.stop.now.laps (sym c.has_all_laps.ensures.all ∙ c.if-has_all_laps.true)))
+    let way = c.loop-shape.invariant.way in
+    λ _. ends-bound _ _ _ _ _ whys.Lap way
+    (lapped _ _ _ _ _ way (sym c.has_all_laps.ensures.counts ∙ eqb-true laps c.args.stop.now.laps (sym c.has_all_laps.ensures.all ∙ c.if-has_all_laps.true)))
 
 pub returns-then-not-is_within-clause-reach : goal.returns-then-not-is_within-clause-reach
 returns-then-not-is_within-clause-reach g c =
-    let bounds = bounds_of c.args.stop.now c.args.tracer.now.cap in
-    let start = c.args.tracer.now.state in
-    let n = c.loop-shape.steps in
-    let laps = c.has_all_laps.new.laps in
-    let t = c.loop-shape.tracer in
-    let way = subst (λ (k : ℕ). IsOnWay bounds start n k t) (sym c.has_all_laps.ensures.counts) c.loop-shape.invariant.way in
-    let bound = met-bound bounds start n laps t way c.known-in-loop-shape.ensures.tracer c.known-in-loop-shape.ensures.marks (sym c.has_all_laps.ensures.all ∙ c.if-has_all_laps.false) in
-    λ _. ends-bound bounds start n laps t c.is_within.new.why way (sym bound ∙ sym (ended _ _ _ c.is_within.ensures.met c.if-not-is_within.true))
+    let way = c.loop-shape.invariant.way in
+    let bound = turn way c.has_all_laps.ensures.counts c.has_all_laps.ensures.all c.if-has_all_laps.false c.known-in-loop-shape.ensures.tracer c.known-in-loop-shape.ensures.marks in
+    λ _. ends-bound _ _ _ _ _ c.is_within.new.why way (bound ∙ sym (ended _ _ _ c.is_within.ensures.met c.if-not-is_within.true))
 
 pub returns-then-asked-clause-stopped : goal.returns-then-asked-clause-stopped
 returns-then-asked-clause-stopped g c =
-    let bounds = bounds_of c.args.stop.now c.args.tracer.now.cap in
-    let start = c.args.tracer.now.state in
-    let n = c.loop-shape.steps in
-    let laps = c.has_all_laps.new.laps in
-    let t = c.loop-shape.tracer in
-    let way = subst (λ (k : ℕ). IsOnWay bounds start n k t) (sym c.has_all_laps.ensures.counts) c.loop-shape.invariant.way in
-    let bound = met-bound bounds start n laps t way c.known-in-loop-shape.ensures.tracer c.known-in-loop-shape.ensures.marks (sym c.has_all_laps.ensures.all ∙ c.if-has_all_laps.false) in
-    let unmet = sym (went_on _ _ _ c.is_within.ensures.met c.if-not-is_within.false) in
-    λ _. ends-stopped bounds start n laps t way (sym bound ∙ unmet)
+    let way = c.loop-shape.invariant.way in
+    let bound = turn way c.has_all_laps.ensures.counts c.has_all_laps.ensures.all c.if-has_all_laps.false c.known-in-loop-shape.ensures.tracer c.known-in-loop-shape.ensures.marks in
+    λ _. ends-stopped _ _ _ _ _ way (bound ∙ sym (went_on _ _ _ c.is_within.ensures.met c.if-not-is_within.false))
 
 pub returns-then-not-attempt-clause-reach : goal.returns-then-not-attempt-clause-reach
 returns-then-not-attempt-clause-reach g c =
-    let bounds = bounds_of c.args.stop.now c.args.tracer.now.cap in
-    let start = c.args.tracer.now.state in
-    let n = c.loop-shape.steps in
-    let laps = c.has_all_laps.new.laps in
-    let t = c.loop-shape.tracer in
-    let way = subst (λ (k : ℕ). IsOnWay bounds start n k t) (sym c.has_all_laps.ensures.counts) c.loop-shape.invariant.way in
-    let bound = met-bound bounds start n laps t way c.known-in-loop-shape.ensures.tracer c.known-in-loop-shape.ensures.marks (sym c.has_all_laps.ensures.all ∙ c.if-has_all_laps.false) in
-    let unmet = sym (went_on _ _ _ c.is_within.ensures.met c.if-not-is_within.false) in
-    λ _. ends-step bounds start n laps t c.attempt.new.why way (sym bound ∙ unmet) (sym (ended _ _ _ c.attempt.ensures.ends c.if-not-attempt.true))
+    let way = c.loop-shape.invariant.way in
+    let bound = turn way c.has_all_laps.ensures.counts c.has_all_laps.ensures.all c.if-has_all_laps.false c.known-in-loop-shape.ensures.tracer c.known-in-loop-shape.ensures.marks in
+    λ _. ends-step _ _ _ _ _ c.attempt.new.why way (bound ∙ sym (went_on _ _ _ c.is_within.ensures.met c.if-not-is_within.false))
+    (sym (ended _ _ _ c.attempt.ensures.ends c.if-not-attempt.true))
 
 pub loop-shape-preserved : goal.loop-shape-preserved
 loop-shape-preserved g c =
     let bounds = bounds_of c.args.stop.now c.args.tracer.now.cap in
-    let start = c.args.tracer.now.state in
     let n = c.loop-shape.steps in
     let laps = c.has_all_laps.new.laps in
     let t = c.loop-shape.tracer in
-    let way = subst (λ (k : ℕ). IsOnWay bounds start n k t) (sym c.has_all_laps.ensures.counts) c.loop-shape.invariant.way in
-    let bound = met-bound bounds start n laps t way c.known-in-loop-shape.ensures.tracer c.known-in-loop-shape.ensures.marks (sym c.has_all_laps.ensures.all ∙ c.if-has_all_laps.false) in
-    let unmet = sym (went_on _ _ _ c.is_within.ensures.met c.if-not-is_within.false) in
     let inv = c.loop-shape.invariant in
-    let later = c.attempt.new.tracer in
     let known = c.known-in-loop-shape.ensures in
+    let way = subst (λ (k : ℕ). IsOnWay bounds c.args.tracer.now.state n k t) (sym c.has_all_laps.ensures.counts) inv.way in
+    let bound = turn inv.way c.has_all_laps.ensures.counts c.has_all_laps.ensures.all c.if-has_all_laps.false known.tracer known.marks in
+    let unmet = sym (went_on _ _ _ c.is_within.ensures.met c.if-not-is_within.false) in
+    let later = c.attempt.new.tracer in
     let there = (view_of later.state).pc == c.args.stop.now.pc in
     let face = c.attempt.ensures.goes c.if-not-attempt.false in
     let some = some_left (bounds.span - n) t unmet in
     record {
-      way = goes_on bounds start n laps t later way known.state known.marks (sym bound ∙ unmet) (sym (went_on _ _ _ c.attempt.ensures.ends c.if-not-attempt.false)) face
+      way = goes_on bounds _ n laps t later way known.state known.marks (bound ∙ unmet) (sym (went_on _ _ _ c.attempt.ensures.ends c.if-not-attempt.false)) face
           c.attempt.ensures.shape c.attempt.ensures.cap (counted laps there) (counted-more laps there (omega (arith, way.most, some)));
       few = λ _. sym c.has_all_laps.ensures.all ∙ c.if-has_all_laps.false;
       sure = sure-next bounds.span n c.is_within.new.sure t later (c.is_within.ensures.sure c.if-not-is_within.false) (c.is_within.ensures.more c.if-not-is_within.false) known.state known.marks face;
