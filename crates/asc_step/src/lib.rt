@@ -18,4 +18,4 @@ mod version;
 pub use asc_model::{Fault, FaultKind};
 pub use many::{step_many, step_until};
 pub use stepped::Stepped;
-pub use stepping::{step, step_anew, step_settled, try_step, try_step_of};
+pub use stepping::{step, step_anew, step_settled, try_step};

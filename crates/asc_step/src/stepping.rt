@@ -21,23 +21,21 @@ use asc_isa::{decode, decode_likely};
 use asc_shape::{Shape, Steps, Words};
 use std::sync::ledger::Ledger;
 
-/// Takes one step, where the program goes on: the instruction at the pc is fetched, decoded and carried out. The caller
-/// tells the shape, which a loop then need not read again.
+/// Takes one step, where the program goes on: the instruction at the pc is fetched, decoded and carried out.
 ///
 /// All that the step reads is read before anything is put. A step that calls or faults puts nothing.
-///
-/// `K` and `rare` are as in `step_settled`.
 #[inline(always)]
-pub fn try_step_of<B: Words, K>(bytes: &mut B, shape: Shape, rare: &mut Stepped) -> Stepped
-    requires shape { shape ≡ (B.face bytes.old).state.shape }
+pub fn try_step<B: Words>(bytes: &mut B) -> Stepped
     requires room { step_room ≤ room_of (B.face bytes.old).marks }
     ensures { Attempts (B.face bytes.old) (B.face bytes.new) result }
 {
-    if step_settled::<B, K>(bytes, shape, rare) {
+    let shape = bytes.shape();
+    let mut stepped = Stepped::Went;
+    if step_settled::<B, ()>(bytes, shape, &mut stepped) {
         return Stepped::Went;
     }
-    step_apart(bytes, rare);
-    *rare
+    step_anew(bytes, &mut stepped);
+    stepped
 }
 
 /// Takes one step where the word at the pc is known to be settled and the program goes on, and tells whether it did.
@@ -72,16 +70,6 @@ pub fn step_settled<B: Words, K>(bytes: &mut B, shape: Shape, rare: &mut Stepped
         Stepped::Went => true,
         _ => false,
     }
-}
-
-/// Takes one step as `step_anew` does, out of line, so that a loop has the steps of settled words alone.
-#[cold]
-#[inline(never)]
-fn step_apart<B: Words>(bytes: &mut B, rare: &mut Stepped)
-    requires room { step_room ≤ room_of (B.face bytes.old).marks }
-    ensures { Attempts (B.face bytes.old) (B.face bytes.new) rare.new }
-{
-    step_anew(bytes, rare);
 }
 
 /// Takes one step, touches all its places, and lets its word be remembered as settled where the program goes on. What it
@@ -161,18 +149,8 @@ fn execute_word<B: Words>(bytes: &mut B, pc: u32, word: u32, rare: &mut Stepped)
     };
 }
 
-/// Takes one step as `try_step_of` does.
-#[inline(always)]
-pub fn try_step<B: Words>(bytes: &mut B) -> Stepped
-    requires room { step_room ≤ room_of (B.face bytes.old).marks }
-    ensures { Attempts (B.face bytes.old) (B.face bytes.new) result }
-{
-    let shape = bytes.shape();
-    try_step_of::<B, ()>(bytes, shape, &mut Stepped::Went)
-}
-
-/// Takes one step as `try_step_of` does, and counts it where the program went on. `UNTIL` tells the two loops of steps
-/// apart, as in `step_specialized`.
+/// Takes one step of a state of this shape as `try_step` does, and counts it where the program went on. `UNTIL` tells the
+/// two loops of steps apart, as in `step_specialized`.
 #[inline]
 pub(crate) fn step_of<B: Words, L: Ledger, const UNTIL: bool>(
     bytes: &mut B,
