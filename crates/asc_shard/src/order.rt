@@ -9,7 +9,7 @@ ghost use Rattle.asc_shard.specs.Inside.{bytes_at, bytes_of, compare_with, mark_
 
 use asc_model::Version;
 use asc_shape::{Shape, State};
-use asc_traj::{Entry, Part, next_cell};
+use asc_traj::{Entry, Part, has_parts, next_cell};
 use std::cmp::Ordering;
 
 /// Which of two entries of one mark is first in the index.
@@ -169,21 +169,5 @@ pub fn has_reads(entry: &Entry, state: &State, from: usize) -> bool
     entry.truth();
     let parts = entry.reads();
     let middle = if from < parts.len() { from } else { 0 };
-    has_parts(&parts[middle..], state) && has_parts(&parts[..middle], state)
-}
-
-/// Whether a state has each of these parts.
-#[inline]
-fn has_parts(parts: &[Part], state: &State) -> bool
-    requires parts { All IsPart parts.now }
-    requires within { All (λ part. word_place part + 4 ≤ length_of state.now.shape) parts.now }
-    ensures { result ≡ list_all (λ part. list_all (λ cell. slice_index state.now.bytes cell.0 == cell.1)
-        (part_cells part)) parts.now }
-{
-    for part in parts {
-        if !part.is_in(state) {
-            return false;
-        }
-    }
-    true
+    has_parts(state, &parts[middle..]) && has_parts(state, &parts[..middle])
 }

@@ -1,12 +1,13 @@
 -- Parts of words: their cells, and what their bytes are in a state.
-use Rattle.std.proofs.Common.{◌≡◌, ℕ, zero, suc, ◌+◌, ◌-◌, ◌*◌, ◌/◌, ◌%◌, ◌^◌, ◌<◌, ◌≤◌, ◌==◌, ◌&&◌, Bool, true, false, List, [], ◌∷◌, ◌++◌, length, drop, get_or, slice_index, if◌then◌else◌, refl, sym, ap, subst, ◌∙◌, inl, inr, arith, append_assoc, append-nil}
+use Rattle.std.proofs.Common.{◌≡◌, ℕ, zero, suc, ◌+◌, ◌-◌, ◌*◌, ◌/◌, ◌%◌, ◌^◌, ◌<◌, ◌≤◌, ◌==◌, ◌&&◌, Bool, true, false, List, [], ◌∷◌, ◌++◌, length, take, drop, get_or, slice_index, if◌then◌else◌, refl, sym, ap, subst, ◌∙◌, inl, inr, arith, append_assoc, append-nil}
 use Rattle.std.specs.Prelude.{All, bit_and}
 use Rattle.std.specs.List.{list_all}
 use Rattle.std.proofs.Math.Nat.{div-div-eq-div-mul, pow-suc}
 use Rattle.std.proofs.lemmas.Bool.{cases_eq, eq-eqb, ne_eqb, and_from}
 use Rattle.std.proofs.lemmas.List.Elements.{All-cons, All-head, All-nil, All-tail}
 use Rattle.std.proofs.lemmas.List.Concat.{flat_map-append}
-use Rattle.std.proofs.lemmas.List.{drop_all, drop_more}
+use Rattle.std.proofs.lemmas.List.{drop_all, drop_more, take-append-drop}
+use Rattle.std.proofs.lemmas.List.Folds.{list_all-append}
 use Rattle.std.proofs.lemmas.Nat.{and_block, and_comm, and_mask}
 use Rattle.asc_model.specs.Number.{AreBytes, bytes_of, number_at, word_at}
 use Rattle.asc_model.specs.Places.{bytes_after, cells}
@@ -212,13 +213,9 @@ and-spread (suc n) mask word =
 
 -- ---- lists of parts
 
-pub list_all-append : (f : ℕ × ℕ → Bool) (a b : List (ℕ × ℕ)) → list_all f (a ++ b) ≡ (list_all f a && list_all f b)
-list_all-append f [] b = refl
-list_all-append f (cell ∷ a) b = ap (λ (t : Bool). f cell && t) (list_all-append f a b) ∙ assoc (f cell) (list_all f a) (list_all f b)
-  where
-    assoc : (x y z : Bool) → (x && (y && z)) ≡ ((x && y) && z)
-    assoc true y z = refl
-    assoc false y z = refl
+-- Where the first n of a list pass a test, the list passes it if the others do.
+pub list_all-drop : {X : Type 0} (f : X → Bool) (n : ℕ) (xs : List X) → list_all f (take n xs) ≡ true → list_all f xs ≡ list_all f (drop n xs)
+list_all-drop f n xs h = ap (list_all f) (sym (take-append-drop n xs)) ∙ list_all-append f (take n xs) (drop n xs) ∙ ap (λ (t : Bool). t && list_all f (drop n xs)) h
 
 pub list_all-cells : (f : ℕ × ℕ → Bool) (parts : List Part) → list_all (λ part. list_all f (part_cells part)) parts ≡ list_all f (all_cells parts)
 list_all-cells f [] = refl

@@ -17,7 +17,7 @@ ghost use Rattle.asc_traj.specs.Parts.{IsPart, all_cells, part_cells, word_place
 ghost use Rattle.asc_traj.specs.Trace.{StandsFor, origin_of};
 ghost use Rattle.asc_traj.specs.Inside.{AreHalves, HasGrown, HasSplit, is_read_first, is_written, mask_at, mask_of, now_at, places_of_words, read_first, started, written};
 
-use crate::part::{Part, push};
+use crate::part::{Part, has_parts, push};
 use crate::tracing::known;
 use asc_depvec::{Block, Tracer};
 use asc_shape::{Bytes, Memory, Shape, State, Status};
@@ -147,22 +147,6 @@ impl Entry {
         let _ = state.shape();
         put_parts(state, &self.halves.writes);
     }
-}
-
-/// Whether a state has each of these parts.
-#[inline]
-fn has_parts(state: &State, parts: &[Part]) -> bool
-    requires parts { All IsPart parts.now }
-    requires within { All (λ part. word_place part + 4 ≤ length_of state.now.shape) parts.now }
-    ensures { result ≡ list_all (λ part. list_all (λ cell. slice_index state.now.bytes cell.0 == cell.1)
-        (part_cells part)) parts.now }
-{
-    for part in parts {
-        if !part.is_in(state) {
-            return false;
-        }
-    }
-    true
 }
 
 /// Puts parts into a state.

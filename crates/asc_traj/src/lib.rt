@@ -27,5 +27,5 @@ pub use halter::{Flag, Halter};
 pub use longest::{is_longer, jump_by, jump_longest, longest_match};
 pub use made::Made;
 pub use noted::Noted;
-pub use part::Part;
+pub use part::{Part, has_parts};
 pub use tracing::{Stop, Traced, trace};

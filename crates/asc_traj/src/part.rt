@@ -1,4 +1,4 @@
-ghost use Rattle.std.specs.Prelude.{◌≡◌, ◌==◌, ◌+◌, ◌*◌, ◌%◌, ◌^◌, ◌<◌, ◌≤◌, ◌++◌, All, slice_index, vec_capacity, vec_len};
+ghost use Rattle.std.specs.Prelude.{◌≡◌, ◌==◌, ◌+◌, ◌*◌, ◌%◌, ◌^◌, ◌<◌, ◌≤◌, ◌++◌, All, true, slice_index, vec_capacity, vec_len};
 ghost use Rattle.std.specs.List.{list_all};
 ghost use Rattle.asc_model.specs.Shape.{length_of};
 ghost use Rattle.asc_model.specs.Number.{word_at};
@@ -64,8 +64,20 @@ impl Part {
     {
         // That its bytes are bytes.
         let _ = state.shape();
-        // Where the whole word is the same, no mask is needed.
-        state.word(self.at / 16 * 4) == self.word || self.of(state) == self.word
+        self.of(state) == self.word
+    }
+
+    // Whether the whole word is the same. If so the state has its bytes, and no mask is needed to see it.
+    #[inline(always)]
+    fn is_word_of(&self, state: &State) -> bool
+        requires part { IsPart self.now }
+        requires within { word_place self.now + 4 ≤ length_of state.now.shape }
+        ensures { result ≡ true
+            → list_all (λ cell. slice_index state.now.bytes cell.0 == cell.1) (part_cells self.now) ≡ true }
+    {
+        // That its bytes are bytes.
+        let _ = state.shape();
+        state.word(self.at / 16 * 4) == self.word
     }
 
     /// Puts its bytes into a state.
@@ -82,6 +94,54 @@ impl Part {
             put_bytes(state, self.at / 16 * 4, self.at % 16, self.word);
         }
     }
+}
+
+/// Whether a state has each of these parts. Four are compared at once, mostly by their whole words.
+#[inline]
+pub fn has_parts(state: &State, parts: &[Part]) -> bool
+    requires parts { All IsPart parts.now }
+    requires within { All (λ part. word_place part + 4 ≤ length_of state.now.shape) parts.now }
+    ensures { result ≡ list_all (λ part. list_all (λ cell. slice_index state.now.bytes cell.0 == cell.1)
+        (part_cells part)) parts.now }
+{
+    let mut rest = parts;
+    while let Some((four, behind)) = rest.split_first_chunk::<4>() {
+        if !has_four(state, four) {
+            return false;
+        }
+        rest = behind;
+    }
+    has_each(state, rest)
+}
+
+// Whether a state has each of four parts.
+#[inline(always)]
+fn has_four(state: &State, four: &[Part; 4]) -> bool
+    requires parts { All IsPart four.now }
+    requires within { All (λ part. word_place part + 4 ≤ length_of state.now.shape) four.now }
+    ensures { result ≡ list_all (λ part. list_all (λ cell. slice_index state.now.bytes cell.0 == cell.1)
+        (part_cells part)) four.now }
+{
+    let [a, b, c, d] = four;
+    a.is_word_of(state) & b.is_word_of(state) & c.is_word_of(state) & d.is_word_of(state)
+        || has_each(state, four)
+}
+
+// Whether a state has each of these parts, one by one.
+#[cold]
+#[inline(never)]
+fn has_each(state: &State, parts: &[Part]) -> bool
+    requires parts { All IsPart parts.now }
+    requires within { All (λ part. word_place part + 4 ≤ length_of state.now.shape) parts.now }
+    ensures { result ≡ list_all (λ part. list_all (λ cell. slice_index state.now.bytes cell.0 == cell.1)
+        (part_cells part)) parts.now }
+{
+    for part in parts {
+        if !part.is_in(state) {
+            return false;
+        }
+    }
+    true
 }
 
 // Puts those of the four bytes of a word that a mask has.

@@ -2,7 +2,7 @@
 use Rattle.std.proofs.Common.{◌≡◌, ◌==◌, slice_index, drop}
 use Rattle.std.specs.List.{list_all}
 use Rattle.asc_traj.specs.Parts.{part_cells}
-use Rattle.asc_shard.proofs.order.has_parts.Given as goal
+use Rattle.asc_traj.proofs.part.has_each.Given as goal
 
 abbrev pub invariant-loop-part : goal.invariant-loop-part
 invariant-loop-part l =
