@@ -3,7 +3,17 @@ use Rattle.std.proofs.Common.{◌≡◌, ◌≢◌, ◌⊎◌, inl, inr, cond, s
 use Rattle.std.proofs.lemmas.List.{get_or-take, get_or-drop, get_or-replicate, length-replicate, get_or-set_same, get_or-set_other, length-set, ext_get_or, get_or_append_left, get_or-append_right}
 use borrow.Rule.Slice.PartMut.{put_mid}
 use Rattle.std.proofs.lemmas.Bool.{cases_eq, cases_lt}
-use Rattle.asc_pages.specs.Marks.{AreMarks, IsUnlisted, IsUnmarked}
+use Rattle.std.proofs.lemmas.List.Sums.{sum_by-set}
+use Rattle.asc_pages.specs.Marks.{AreMarks, IsUnlisted, IsUnmarked, marked_in}
+
+-- ---- how many are marked
+
+-- where page p is marked, which was not
+pub one_marked : (pages : List Bool) (p : ℕ) → p < length pages → slice_index_or pages p true ≡ false → marked_in (slice_set pages p true) ≡ marked_in pages + 1
+one_marked pages p within unmarked =
+    let f : Bool → ℕ = λ mark. cond mark 1 0 in
+    let none : f (slice_index_or pages p true) ≡ 0 = ap f unmarked in
+    omega (arith, sum_by-set f pages p true true within, none)
 
 -- ---- listed groups
 

@@ -1,5 +1,10 @@
 -- Marks of pages, 32 to a group.
 use Rattle.std.specs.Prelude.{◌≡◌, ◌≢◌, ℕ, ◌+◌, ◌*◌, ◌/◌, ◌%◌, ◌<◌, ◌≤◌, Bool, true, false, List, length, slice_index, slice_index_or}
+use Rattle.std.specs.List.{count_by}
+
+-- how many are marked
+abbrev pub marked_in : List Bool → ℕ
+marked_in marks = count_by (λ mark. mark) marks
 
 -- none of so many, from one on, is marked
 abbrev pub IsUnmarked : List Bool → ℕ → ℕ → Type 0

@@ -1,5 +1,5 @@
 ghost use Rattle.std.specs.Prelude.{◌≡◌, ◌⊎◌, ◌+◌, ◌*◌, ◌-◌, ◌^◌, ◌<◌, ◌≤◌, [], ◌∷◌, ◌++◌, true, false, if◌then◌else◌, IfOk, length, replicate, slice_index_or, slice_set};
-ghost use Rattle.asc_pages.specs.Marks.{AreMarks, IsUnmarked};
+ghost use Rattle.asc_pages.specs.Marks.{AreMarks, IsUnmarked, marked_in};
 
 use crate::pages::GROUP;
 use asc_outside::Memory;
@@ -17,17 +17,20 @@ pub struct Marks {
     // The groups that have marks, as they got the first one, and whether there are more.
     listed: Vec<usize>,
     more: bool,
+    // How many pages are marked.
+    marked: usize,
 }
 
 impl Model for Marks {
-    ghost use Rattle.asc_pages.specs.Marks.{AreMarks};
-    ghost use Rattle.std.specs.Prelude.{List, Bool};
+    ghost use Rattle.asc_pages.specs.Marks.{AreMarks, marked_in};
+    ghost use Rattle.std.specs.Prelude.{◌≡◌, List, Bool};
 
     ghost Value = { List Bool };
 
     ghost view = { λ m. m.pages.items };
 
-    ghost invariant = { λ m. AreMarks m.more m.listed.items m.groups.items m.pages.items };
+    ghost invariant = { λ m. AreMarks m.more m.listed.items m.groups.items m.pages.items
+        × (m.marked ≡ marked_in m.pages.items) };
 }
 
 impl Marks {
@@ -42,6 +45,7 @@ impl Marks {
             groups: vec![in alloc; 0; groups]?,
             listed: Vec::with_capacity(alloc, groups)?,
             more: false,
+            marked: 0,
         })
     }
 
@@ -51,6 +55,14 @@ impl Marks {
         ensures { result ≡ length self.now }
     {
         self.pages.len()
+    }
+
+    /// How many pages are marked.
+    #[inline]
+    pub fn count(&self) -> usize
+        ensures { result ≡ marked_in self.now }
+    {
+        self.marked
     }
 
     /// Whether page p is marked.
@@ -113,11 +125,13 @@ impl Marks {
     #[cold]
     #[inline(never)]
     fn mark_new(&mut self, p: usize)
-        requires { p < length self.old }
+        requires page { p < length self.old }
+        requires unmarked { slice_index_or self.old p true ≡ false }
         ensures { self.new ≡ slice_set self.old p true }
     {
         let g = p / GROUP;
         self.pages[p] = true;
+        self.marked += 1;
         let pages = self.groups[g];
         self.groups[g] = pages.max(p % GROUP + 1);
         list_group(&mut self.listed, &mut self.more, g, pages == 0);
@@ -130,6 +144,7 @@ impl Marks {
         self.pages.fill(true);
         self.groups.fill(GROUP);
         self.more = true;
+        self.marked = self.pages.len();
     }
 
     /// Takes all marks away.
@@ -140,6 +155,7 @@ impl Marks {
         unmark(&mut self.pages, &mut self.groups, &self.listed, self.more);
         self.listed.clear();
         self.more = false;
+        self.marked = 0;
     }
 }
 

@@ -123,15 +123,17 @@ fn no_pages(rt: HostRuntime) {
 fn marks_of_pages(rt: HostRuntime) {
     let mut marks = Marks::new(rt.alloc(), 70).expect(&rt, "memory");
     assert!(rt; marks.is_clear());
-    for p in [69, 0, 32, 31] {
+    for (p, count) in [(69, 1), (0, 2), (69, 2), (32, 3), (31, 4)] {
         mark(&mut marks, p);
         assert!(rt; is_marked(&marks, p) && !is_marked(&marks, 33) && !marks.is_clear());
+        assert_eq!(rt; marks.count(), count);
     }
     clear(&mut marks);
-    assert!(rt; marks.is_clear());
+    assert!(rt; marks.is_clear() && marks.count() == 0);
     marks.mark_all();
-    assert!(rt; is_marked(&marks, 33));
+    assert!(rt; is_marked(&marks, 33) && marks.count() == 70);
     clear(&mut marks);
+    assert_eq!(rt; marks.count(), 0);
     for p in 0..70 {
         assert!(rt; !is_marked(&marks, p), "page {p}");
     }
