@@ -340,6 +340,17 @@ impl State {
         Ok(snapshot)
     }
 
+    /// How many pages of 1,024 places a freeze would copy: those that were written since the last freeze. After `new` and
+    /// `fill` these are the pages that were written since, and after `copy_from` all.
+    ///
+    /// No clause says more than how many there are at most. Right after a freeze it is 0.
+    #[inline]
+    pub fn changed_pages(&self) -> usize
+        ensures { result ≤ length_of self.now.shape / 1024 + 1 }
+    {
+        self.changed.count()
+    }
+
     // The place of an address from the base of memory to its end, as an index.
     #[inline]
     fn place(&self, at: u32) -> usize

@@ -366,6 +366,34 @@ fn is_as(state: &State, plain: &[u8]) -> bool {
         && plain.get(start as usize..) == Some(state.mem(shape.base(), shape.size()))
 }
 
+// How many pages are changed, where a byte is put into each of these places in turn, or all is made 0.
+#[test]
+fn changed_pages(rt: HostRuntime) {
+    let shape = Shape::new(0x10000, 65_536).expect(&rt, "a shape");
+    let mut state = State::new(rt.alloc(), shape).expect(&rt, "memory");
+    assert_eq!(rt; state.changed_pages(), 0);
+    for _ in 0..2 {
+        for (place, count) in [(1023, 1), (136, 1), (1024, 2), (65_535, 3), (1025, 3)] {
+            put_byte(&mut state, place, 7);
+            assert_eq!(rt; state.changed_pages(), count);
+        }
+        let _snapshot = state.freeze(rt.alloc()).expect(&rt, "memory");
+        assert_eq!(rt; state.changed_pages(), 0);
+    }
+    let _snapshot = state.freeze(rt.alloc()).expect(&rt, "memory");
+    let other = State::new(rt.alloc(), shape).expect(&rt, "memory");
+    copy(&mut state, &other);
+    assert_eq!(rt; state.changed_pages(), 65);
+    state.fill();
+    assert_eq!(rt; state.changed_pages(), 0);
+}
+
+fn copy(state: &mut State, from: &State) {
+    if state.shape() == from.shape() {
+        state.copy_from(from);
+    }
+}
+
 // The greatest memory: what is put into its first and its last word comes back.
 #[test]
 fn largest_memory(rt: HostRuntime) {
