@@ -7,6 +7,7 @@ mod laws;
 mod tests;
 mod touched;
 mod tracer;
+mod unfilled;
 
 pub use asc_shape::Status;
 pub use bitmap::Block;
@@ -14,3 +15,4 @@ pub use laws::{
     limits_stay, no_statuses, reads_are_undone, starts_are_told, starts_stay, statuses_follow,
 };
 pub use tracer::{LEAST_CAP, MOST_CAP, Tracer};
+pub use unfilled::{PIECE, Unfilled};

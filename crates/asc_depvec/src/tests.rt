@@ -3,7 +3,7 @@ ghost use Rattle.asc_model.specs.Shape.{length_of};
 
 use crate::Status::{Read, ReadWritten, Untouched, Written};
 use crate::tests::Call::{Get, GetWord, Put, PutWord, Reset, Undo};
-use crate::{Block, LEAST_CAP, Tracer};
+use crate::{Block, LEAST_CAP, Tracer, Unfilled};
 use asc_shape::{Bytes, Guess, Shape, Snapshot, State, Status, Words};
 use std::alloc::Global;
 use std::process::Abort;
@@ -431,5 +431,64 @@ fn strides(rt: HostRuntime) {
         assert_eq!(rt; tracer.pc(), 5);
         assert_eq!(rt; make(&rt, &mut tracer, Reset), 0);
         assert_eq!(rt; tracer.pc(), pc);
+    }
+}
+
+// The size of memory; how often a piece is filled before the tracer is made; and whether all was filled then. Memory for
+// the bytes before those of a program's memory is filled too, so that 64 KiB take two pieces.
+#[test]
+fn pieces(rt: HostRuntime) {
+    let alloc = rt.alloc();
+    for (size, calls, all) in [
+        (0x1_0000, 0, false),
+        (0x1_0000, 1, false),
+        (0x1_0000, 2, true),
+        (0x1_0000, 3, true),
+        (0x10_0000, 0, false),
+        (0x10_0000, 5, false),
+        (0x10_0000, 16, false),
+        (0x10_0000, 17, true),
+    ] {
+        let shape = Shape::new(0x10000, size).expect(&rt, "a shape");
+        let mut memory = Unfilled::new(alloc, shape, LEAST_CAP).expect(&rt, "memory");
+        let mut filled = false;
+        for _ in 0..calls {
+            filled = memory.fill_some();
+        }
+        assert_eq!(rt; filled, all);
+        let mut tracer = memory.into_tracer();
+        look_untouched(&rt, &tracer);
+        use_ends(&rt, alloc, &mut tracer);
+    }
+}
+
+/// Checks that a tracer tells zeros, and no touch.
+fn look_untouched<R: Abort>(rt: &R, tracer: &Tracer) {
+    for place in 0..places(Bytes::shape(tracer)) {
+        assert_eq!(rt; (tracer.byte(place), tracer.status(place)), (0, Untouched));
+    }
+    assert_eq!(rt; (tracer.mark(), tracer.room()), (0, LEAST_CAP));
+}
+
+/// Starts a tracer of a state, and reads and puts its first word and its last one.
+fn use_ends<R: Abort>(rt: &R, alloc: Global, tracer: &mut Tracer) {
+    let shape = Bytes::shape(tracer);
+    let last = places(shape).wrapping_sub(4);
+    let mut state = State::new(alloc, shape).expect(rt, "memory");
+    state.set_pc(0x0102_0304);
+    start(rt, alloc, tracer, &state);
+    for (call, answer, place, status, touched) in [
+        (GetWord(0), 0x0102_0304, 0, Read, 4),
+        (PutWord(0, 0x0403_0201), 0, 3, ReadWritten, 4),
+        (PutWord(last, 0x0A0B_0C0D), 0, last, Written, 8),
+        (GetWord(last), 0x0A0B_0C0D, last, Written, 8),
+        (GetWord(0), 0x0403_0201, 0, ReadWritten, 8),
+    ] {
+        assert_eq!(rt; make(rt, tracer, call), answer);
+        assert_eq!(rt; (tracer.status(place), tracer.mark()), (status, touched));
+    }
+    let blocks = tracer.touched_blocks(alloc).expect(rt, "memory");
+    for (word, there) in [(0, true), (1, false), (last / 4, true)] {
+        assert_eq!(rt; blocks.iter().any(|block| has_word(block, word)), there);
     }
 }

@@ -14,7 +14,8 @@ ghost use Rattle.asc_depvec.specs.Inside.{AreWritten, HaveMark, TellAmong, TellN
 
 use crate::bitmap::{Block, set_items, take_blocks};
 use crate::touched::Touched;
-use asc_shape::{Bytes, Guess, Memory, Shape, Snapshot, Status, Words, get_by_bytes, put_by_bytes};
+use crate::unfilled::Unfilled;
+use asc_shape::{Bytes, Guess, Memory, Shape, Status, Words, get_by_bytes, put_by_bytes};
 use std::alloc::Global;
 use std::marker::Model;
 
@@ -35,18 +36,18 @@ pub const MOST_CAP: usize = 65_536;
 /// Only `new` and `touched_blocks` are handed an allocator. Contracts see a tracer as the `Tracing` of `specs/`.
 #[derive(Drop)]
 pub struct Tracer {
-    shape: Shape,
-    cap: usize,
-    start: Guess,
+    pub(crate) shape: Shape,
+    pub(crate) cap: usize,
+    pub(crate) start: Guess,
     // Those of the touched places, and of the pc. What stands at others is of no account.
-    bytes: Vec<u8>,
-    marks: Vec<u8>,
-    touched: Touched,
+    pub(crate) bytes: Vec<u8>,
+    pub(crate) marks: Vec<u8>,
+    pub(crate) touched: Touched,
     // A bit for each word, and one for each 64 words. They are set inside of `touched_blocks` alone.
-    blocks: Vec<u64>,
-    groups: Vec<u64>,
+    pub(crate) blocks: Vec<u64>,
+    pub(crate) groups: Vec<u64>,
     // Memory for a list of the groups that have a bit.
-    used: Vec<u32>,
+    pub(crate) used: Vec<u32>,
 }
 
 impl Model for Tracer {
@@ -69,21 +70,7 @@ impl Tracer {
         requires most { cap ≤ most_cap }
         ensures { IfOk result (λ t. t ≡ fresh shape cap (zero_state shape)) }
     {
-        let len = (shape.start() + shape.size()) as usize;
-        let start = Guess::last(Snapshot::zeros(alloc, shape)?);
-        // That it is a state.
-        let _ = start.shape();
-        Ok(Tracer {
-            shape,
-            cap,
-            start,
-            bytes: vec![in alloc; 0; len]?,
-            marks: vec![in alloc; UNTOUCHED; len]?,
-            touched: Touched::none(alloc, cap)?,
-            blocks: vec![in alloc; 0; 64 * (len / 0x4000 + 1)]?,
-            groups: vec![in alloc; 0; len / 0x4000 + 1]?,
-            used: Vec::with_capacity(alloc, len / 0x4000 + 1)?,
-        })
+        Ok(Unfilled::new(alloc, shape, cap)?.into_tracer())
     }
 
     /// Makes this a tracer of another state of its shape, nothing of it touched. It costs what was touched.
