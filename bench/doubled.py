@@ -30,9 +30,9 @@ ROOT = Path(__file__).resolve().parent.parent
 # ---------------------------------------------------------------------------------------------------------------------
 # The program
 
-NEEDED = "asc_model asc_outside asc_pages asc_shape asc_depvec asc_isa asc_step asc_traj asc_shard asc_cache"
+NEEDED = "asc_model asc_outside asc_pages asc_shape asc_depvec asc_isa asc_step asc_traj asc_find asc_shard asc_cache asc_guess asc_jobs asc_work"
 
-LINE = "asc_looks may_wait=9: asc_cache asc_shard asc_traj asc_depvec asc_shape asc_model\n"
+LINE = "asc_looks may_wait=9: asc_work asc_cache asc_shard asc_find asc_traj asc_depvec asc_shape asc_outside asc_model\n"
 
 MAIN = """\
 //! Look-ups and insertions, timed from outside.
@@ -43,9 +43,12 @@ ghost use Rattle.asc_traj.specs.Trace.{StandsFor};
 
 use asc_cache::{Cache, ShardReaders, ShardWriter};
 use asc_depvec::Tracer;
-use asc_shape::{Guess, Memory, Shape, Snapshot, State};
+use asc_find::Finder;
+use asc_outside::Memory;
+use asc_shape::{Guess, Shape, Snapshot, State};
 use asc_shard::Inserted;
-use asc_traj::{Entry, Finder, Flag, Halt, Halter, Never, Stop, trace};
+use asc_traj::{Entry, Halt, Never, Stop, trace};
+use asc_work::{Flag, Halter};
 use std::alloc::Global;
 use std::env;
 use std::process::ExitCode;

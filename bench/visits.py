@@ -23,10 +23,10 @@ ROOT = Path(__file__).resolve().parent.parent
 # ---------------------------------------------------------------------------------------------------------------------
 # The program
 
-NEEDED = ("asc_model asc_outside asc_pages asc_shape asc_depvec asc_elf asc_isa asc_step asc_traj asc_shard asc_guess asc_calls"
+NEEDED = ("asc_model asc_outside asc_pages asc_shape asc_depvec asc_elf asc_isa asc_step asc_traj asc_find asc_shard asc_guess asc_calls"
           " asc_run")
 
-LINE = "asc_visiting: asc_run asc_step asc_traj asc_shape\n"
+LINE = "asc_visiting: asc_run asc_step asc_find asc_shape\n"
 
 MAIN = """\
 //! What visits cost. It is timed from outside.
@@ -37,7 +37,7 @@ ghost use Rattle.std.specs.Prelude.{◌≡◌, ◌<◌};
 
 use asc_shape::{Shape, State, Steps};
 use asc_step::{Stepped, step_many};
-use asc_traj::Guessing;
+use asc_find::Guessing;
 use std::alloc::Global;
 use std::env;
 use std::marker::Brand;

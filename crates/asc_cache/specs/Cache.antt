@@ -6,8 +6,8 @@ use Rattle.logbook.specs.Pages.{Book}
 use Rattle.asc_model.specs.Entry.{Entry}
 use Rattle.asc_model.specs.State.{State}
 use Rattle.asc_traj.specs.Content.{longest}
-use Rattle.asc_traj.specs.Finder.{Tally, Plan}
-use Rattle.asc_traj.specs.Serial.{Serial}
+use Rattle.asc_find.specs.Finder.{Tally, Plan}
+use Rattle.asc_find.specs.Serial.{Serial}
 use Rattle.asc_shard.specs.Shard.{Shard}
 use Rattle.asc_shard.specs.Content.{content_of}
 use Rattle.asc_shard.specs.declared.shard.Inserted.{Inserted}

@@ -3,7 +3,7 @@ ghost use Rattle.asc_cache.specs.Cache.{AreOpened};
 
 use crate::readers::ShardReaders;
 use crate::writer::{ShardWriter, open_shard};
-use asc_shape::Memory;
+use asc_outside::Memory;
 use asc_shard::MOST_CAPACITY;
 use std::alloc::Global;
 use std::marker::Model;

@@ -11,7 +11,7 @@ use crate::instance::{Instance, Operation};
 use crate::log::{Front, Log, Note};
 use crate::reader::{ReadHandle, ShardReader, Told};
 use crate::sight::{Copies, Logged, Opens, Publishes, Sight};
-use asc_shape::Memory;
+use asc_outside::Memory;
 use asc_shard::Shard;
 use asc_traj::Entry;
 use core::mem::replace_with;

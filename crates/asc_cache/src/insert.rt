@@ -4,7 +4,7 @@ ghost use Rattle.asc_shard.specs.Shard.{Shard};
 ghost use Rattle.asc_cache.specs.Insert.{IsInserted};
 
 use crate::writer::ShardWriter;
-use asc_shape::Memory;
+use asc_outside::Memory;
 use asc_shard::{Inserted, Shard};
 use asc_traj::Entry;
 use std::alloc::Global;

@@ -2,7 +2,7 @@ ghost use Rattle.std.specs.Prelude.{◌≡◌, ◌<◌, ◌≤◌, [], length};
 ghost use mathlib.Core.List.{IsPrefix};
 ghost use Rattle.left_right.specs.Sides.{view};
 ghost use Rattle.asc_traj.specs.Content.{longest};
-ghost use Rattle.asc_traj.specs.Finder.{IsJump};
+ghost use Rattle.asc_traj.specs.Jump.{IsJump};
 ghost use Rattle.asc_shard.specs.Content.{content_of, IsContent};
 ghost use Rattle.asc_cache.specs.History.{stored_in, tried_in};
 ghost use Rattle.asc_cache.specs.ShardRule.{sight, HasLooked};

@@ -1,14 +1,15 @@
 ghost use Rattle.std.specs.Prelude.{◌≡◌, ◌<◌, ◌≤◌, ◌^◌, ℕ, [], ◌∷◌, length, slice_index_or, IfNone, IfSome, Some, None};
 ghost use mathlib.Core.List.{IsPrefix};
 ghost use Rattle.asc_model.specs.State.{State};
-ghost use Rattle.asc_traj.specs.Finder.{IsJump, Tells, tally_after};
+ghost use Rattle.asc_traj.specs.Jump.{IsJump};
+ghost use Rattle.asc_find.specs.Finder.{Tells, tally_after};
 ghost use Rattle.asc_shard.specs.Content.{IsContent};
 ghost use Rattle.asc_cache.specs.Cache.{ShardReader, AreLater, IsLater, IsOwnReader, content_seen, first_found, found_by};
 
 use crate::reader::{ShardReader, Told};
 use crate::writer::{Leaving, ShardWriter};
+use asc_find::Finder;
 use asc_shape::State;
-use asc_traj::Finder;
 use std::marker::Model;
 use std::sync::Wait;
 
@@ -158,7 +159,7 @@ impl<R: Wait + Drop> ShardReaders<R> {
 }
 
 impl<R: Wait + Drop> Finder for ShardReaders<R> {
-    ghost use Rattle.asc_traj.specs.Serial.{Serial, serial_reply};
+    ghost use Rattle.asc_find.specs.Serial.{Serial, serial_reply};
     ghost use Rattle.asc_cache.specs.Cache.{machine_of, plan_of, replies_of};
 
     ghost tally = { λ s. s.tally };

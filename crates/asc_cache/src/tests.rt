@@ -4,9 +4,11 @@ ghost use Rattle.asc_cache.specs.Cache.{ShardWriter as writer_model, AreLater, I
 
 use crate::{Cache, Insert, ListWriter, ShardReaders, ShardWriter};
 use asc_depvec::Tracer;
-use asc_shape::{Guess, Memory, Shape, Snapshot, State};
+use asc_find::Finder;
+use asc_outside::Memory;
+use asc_shape::{Guess, Shape, Snapshot, State};
 use asc_shard::{Inserted, Shard};
-use asc_traj::{Entry, Finder, Never, Stop, trace};
+use asc_traj::{Entry, Never, Stop, trace};
 use std::alloc::Global;
 use std::process::Abort;
 use std::sync::{Arc, Wait};

@@ -6,7 +6,7 @@ ghost use Rattle.asc_cache.specs.declared.writer.Refused.TheVariants.{Publicatio
 
 use crate::doubled::Doubled;
 use crate::reader::{ShardReader, Told};
-use asc_shape::Memory;
+use asc_outside::Memory;
 use asc_shard::Inserted;
 use asc_traj::Entry;
 use std::alloc::Global;

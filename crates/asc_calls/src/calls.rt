@@ -7,7 +7,8 @@ ghost use Rattle.asc_calls.specs.World.{CallState, Faults, BlamesOnly, faults, w
 ghost use Rattle.asc_calls.specs.Serving.{Serves, failed_in};
 
 use crate::devices::fill;
-use asc_shape::{Failed, Sink, Source, State, Steps, put_all};
+use asc_outside::{Failed, Sink, Source, put_all};
+use asc_shape::{State, Steps};
 use std::marker::Model;
 use std::sync::ledger::Ledger;
 

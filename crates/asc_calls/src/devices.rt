@@ -5,7 +5,8 @@ ghost use Rattle.asc_model.specs.Shape.{holds};
 ghost use Rattle.asc_outside.specs.Outside.{HasCause, IsAtEnd};
 ghost use Rattle.asc_calls.specs.Filling.{Fills, FillsPart};
 
-use asc_shape::{Failed, Source, State};
+use asc_outside::{Failed, Source};
+use asc_shape::State;
 
 /// Takes bytes of a source into memory, where a buffer of n bytes begins, until it is full, or the end of the input is
 /// found, and tells how many. Where n is 0 the source is not asked.

@@ -1,7 +1,8 @@
 ghost use Rattle.std.specs.Prelude.{◌≡◌, ◌<◌};
 
 use crate::{Calls, Served};
-use asc_shape::{CountSink, ListSink, ListSource, Shape, Sink, Source, State, Steps, SureSource};
+use asc_outside::{CountSink, ListSink, ListSource, Sink, Source, SureSource};
+use asc_shape::{Shape, State, Steps};
 use std::alloc::Global;
 use std::marker::Brand;
 use std::process::Abort;

@@ -11,7 +11,8 @@ ghost use Rattle.asc_top.specs.Answered.{devices};
 ghost use Rattle.asc_top.specs.Reported.{report_with};
 ghost use Rattle.asc_cli.specs.Status.{IsStatus, IsStatusFor, IsStatusOf, IsStatusOver};
 
-use asc_shape::{Gate, Open, Sink, Source, Steps, Store};
+use asc_outside::{Gate, Open, Sink, Source, Store};
+use asc_shape::Steps;
 use asc_streams::{FileStore, StreamSink, StreamSource};
 use asc_top::{Answer, Outcome, reported, top};
 use asc_words::{LineFault, given_words};

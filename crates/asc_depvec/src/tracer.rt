@@ -15,7 +15,8 @@ ghost use Rattle.asc_depvec.specs.Inside.{AreWritten, HaveMark, TellAmong, TellN
 use crate::bitmap::{Block, set_items, take_blocks};
 use crate::touched::Touched;
 use crate::unfilled::Unfilled;
-use asc_shape::{Bytes, Guess, Memory, Shape, Status, Words, get_by_bytes, put_by_bytes};
+use asc_outside::Memory;
+use asc_shape::{Bytes, Guess, Shape, Status, Words, get_by_bytes, put_by_bytes};
 use std::alloc::Global;
 use std::marker::Model;
 

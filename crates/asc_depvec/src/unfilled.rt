@@ -6,7 +6,8 @@ ghost use Rattle.asc_depvec.specs.Unfilled.{piece};
 
 use crate::touched::Touched;
 use crate::tracer::{Tracer, UNTOUCHED};
-use asc_shape::{Guess, Memory, Shape, Snapshot};
+use asc_outside::Memory;
+use asc_shape::{Guess, Shape, Snapshot};
 use std::alloc::Global;
 use std::marker::Model;
 

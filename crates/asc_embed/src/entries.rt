@@ -6,7 +6,8 @@ ghost use Rattle.asc_model.specs.Plain.{plain};
 ghost use Rattle.asc_model.specs.Step.{At};
 
 use asc_depvec::Tracer;
-use asc_shape::{Guess, Memory, Snapshot, State};
+use asc_outside::Memory;
+use asc_shape::{Guess, Snapshot, State};
 use asc_traj::{Entry, Never, Stop, trace};
 use std::alloc::Global;
 use std::sync::Arc;

@@ -4,7 +4,8 @@ ghost use Rattle.asc_jobs.specs.Jobs.{AreOpened, HasAllParts, after_push, after_
 
 use crate::hand::Hand;
 use crate::{Job, Kind};
-use asc_shape::{Memory, Snapshot};
+use asc_outside::Memory;
+use asc_shape::Snapshot;
 use crossbeam_queue::protocol::{Join, Lesson, Outcome, Protocol, Split};
 use crossbeam_queue::{Pass, RuledArrayQueue};
 use std::alloc::Global;

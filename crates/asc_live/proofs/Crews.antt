@@ -1,7 +1,7 @@
 -- What a walk beside workers comes to.
 use Rattle.std.proofs.Common.{◌≡◌, ℕ, ◌+◌, ◌<◌, List, [], All, get_or, subst, Option, Some, None, refl, sym, ap, ◌∙◌, arith, length}
-use Rattle.asc_traj.specs.declared.guessing.Guessing.{Guessing}
-use Rattle.asc_traj.specs.Finder.{Plan, Queue}
+use Rattle.asc_find.specs.declared.guessing.Guessing.{Guessing}
+use Rattle.asc_find.specs.Finder.{Plan, Queue}
 use Rattle.asc_jobs.specs.Jobs.{Giver}
 use Rattle.asc_calls.specs.World.{Outside}
 use Rattle.asc_run.specs.declared.walk.Ended.{Ended}

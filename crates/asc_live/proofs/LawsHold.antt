@@ -1,6 +1,6 @@
 -- The proofs of the laws.
 use Rattle.std.proofs.Common.{ap, sym, ◌∙◌, arith}
-use Rattle.asc_traj.specs.Finder.{Plan}
+use Rattle.asc_find.specs.Finder.{Plan}
 use Rattle.asc_live.specs.Laws.{GuessesAreCounted}
 
 -- all guesses that are due were made, found no room or were not offered

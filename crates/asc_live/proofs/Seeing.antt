@@ -7,8 +7,8 @@ use Rattle.asc_model.specs.State.{State}
 use Rattle.asc_guess.specs.declared.kind.Kind.TheVariants.{Last, Stride}
 use Rattle.asc_outside.specs.Outside.{one_more}
 use Rattle.asc_jobs.specs.Jobs.{Giver}
-use Rattle.asc_traj.specs.declared.guessing.Guessing.{Guessing}
-use Rattle.asc_traj.specs.Finder.{Seen}
+use Rattle.asc_find.specs.declared.guessing.Guessing.{Guessing}
+use Rattle.asc_find.specs.Finder.{Seen}
 use Rattle.asc_run.specs.Helped.{Plans}
 use Rattle.asc_run.specs.Serial.{kinds_of, tasks_of}
 use Rattle.asc_run.specs.Seen.{Sees, seen, newly_guessed, guesses_at}

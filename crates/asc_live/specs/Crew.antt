@@ -1,7 +1,7 @@
 -- A walk with workers beside it.
 use Rattle.std.specs.Prelude.{◌≡◌, ℕ, ◌+◌, ◌*◌, ◌<◌, ◌≤◌, List, [], false, length, All, Some}
 use Rattle.asc_model.specs.Shape.{Shape}
-use Rattle.asc_traj.specs.declared.guessing.Guessing.{Guessing}
+use Rattle.asc_find.specs.declared.guessing.Guessing.{Guessing}
 use Rattle.asc_calls.specs.World.{Outside, BlamesOnly}
 use Rattle.asc_cache.specs.Cache.{IsOwnReader, ShardReader, ShardWriter}
 use Rattle.asc_run.specs.declared.walk.Ended.{Ended}

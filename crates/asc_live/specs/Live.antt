@@ -5,8 +5,8 @@ use Rattle.std.specs.declared.sync.Arc.{Arc}
 use Rattle.asc_model.specs.State.{State}
 use Rattle.asc_outside.specs.Outside.{one_more}
 use Rattle.asc_jobs.specs.Jobs.{Giver}
-use Rattle.asc_traj.specs.declared.guessing.Guessing.{Guessing}
-use Rattle.asc_traj.specs.Finder.{Plan, Queue}
+use Rattle.asc_find.specs.declared.guessing.Guessing.{Guessing}
+use Rattle.asc_find.specs.Finder.{Plan, Queue}
 use Rattle.asc_run.specs.Serial.{kinds_of, tasks_of}
 use Rattle.asc_run.specs.Seen.{seen, guesses_until}
 use Rattle.asc_live.specs.Budget.{Budget, new_budget, passes, after_visit, visit_cost}

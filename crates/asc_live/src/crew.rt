@@ -8,12 +8,12 @@ ghost use Rattle.atomic_table.specs.Seated.{TableId};
 
 use crate::Live;
 use asc_cache::{Cache, ShardReaders, ShardWriter};
+use asc_find::Guessing;
 use asc_jobs::{Giver, Jobs};
-use asc_outside::{Gate, Point};
+use asc_outside::{Gate, Memory, Point, Sink, Source};
 use asc_run::{Ended, Helper, Walk};
-use asc_shape::{Memory, Shape, Sink, Source, Steps};
-use asc_traj::{Flag, Guessing, Halter};
-use asc_work::{TakenIn, Team, Worker};
+use asc_shape::{Shape, Steps};
+use asc_work::{Flag, Halter, TakenIn, Team, Worker};
 use crossbeam_utils::sync::Unparker;
 use std::alloc::Global;
 use std::sync::Wait;

@@ -2,10 +2,10 @@ ghost use Rattle.std.specs.Prelude.{◌≡◌, ◌<◌, ◌≤◌};
 
 use crate::{Crew, Worked, go_beside};
 use asc_elf::read;
-use asc_outside::Open;
+use asc_find::Guessing;
+use asc_outside::{CountSink, Open, SureSource};
 use asc_run::{Counts, Ended, MOST_STEPS, Recognised, Settings, Walk};
-use asc_shape::{CountSink, Steps, SureSource, Version};
-use asc_traj::Guessing;
+use asc_shape::{Steps, Version};
 use std::alloc::Global;
 use std::marker::Brand;
 use std::process::Abort;

@@ -6,10 +6,10 @@ ghost use Rattle.asc_live.specs.Due.{Pushes, full_of, is_filled, is_offered, job
 ghost use Rattle.asc_run.specs.Serial.{kinds_of, tasks_of};
 
 use crate::share::Share;
+use asc_find::Guessing;
 use asc_guess::{Kind, targets};
 use asc_jobs::{Full, Giver};
 use asc_shape::Snapshot;
-use asc_traj::Guessing;
 use std::marker::Model;
 use std::sync::{Arc, Wait};
 

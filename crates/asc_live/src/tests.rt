@@ -2,12 +2,12 @@ ghost use Rattle.std.specs.Prelude.{◌≡◌};
 
 use crate::Live;
 use crate::budget::Budget;
+use asc_find::{Finder, Guessing, Nothing};
 use asc_guess::Kind;
 use asc_jobs::{Jobs, Taker};
 use asc_outside::{Gate, Point};
 use asc_run::Helper;
 use asc_shape::{Shape, State};
-use asc_traj::{Finder, Guessing, Nothing};
 use crossbeam_utils::sync::Parker;
 use std::process::Abort;
 use std::slice::Iter;

@@ -4,6 +4,7 @@
 mod count_sink;
 mod failures;
 mod gate;
+mod hold;
 mod list_sink;
 mod list_source;
 mod list_store;
@@ -14,6 +15,7 @@ mod tests;
 
 pub use count_sink::CountSink;
 pub use gate::{Gate, Open, Point};
+pub use hold::{Hold, HoldGate};
 pub use list_sink::ListSink;
 pub use list_source::ListSource;
 pub use list_store::ListStore;

@@ -8,7 +8,7 @@ use Rattle.std.proofs.lemmas.List.FromFn.{length-range_with_len, get_or-range_wi
 use Rattle.asc_guess.specs.declared.kind.Kind.{Kind}
 use Rattle.asc_guess.specs.declared.kind.Kind.TheVariants.{Last, Stride}
 use Rattle.asc_guess.specs.Guess.{targets_of}
-use Rattle.asc_traj.specs.declared.guessing.Guessing.{Guessing}
+use Rattle.asc_find.specs.declared.guessing.Guessing.{Guessing}
 use Rattle.asc_run.specs.Serial.{Task, kinds_of}
 use Rattle.asc_run.specs.SerialInside.{tasks_for}
 

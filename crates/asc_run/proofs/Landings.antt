@@ -4,8 +4,9 @@ use Rattle.std.proofs.lemmas.List.{append-nil}
 use Rattle.asc_model.specs.State.{State}
 use Rattle.asc_model.specs.Step.{At}
 use Rattle.asc_model.specs.Plain.{plain}
-use Rattle.asc_traj.specs.Finder.{Tally, Tells, Plan, tally_after, steps_given, hits_of, JumpsBy}
-use Rattle.asc_traj.specs.Serial.{Serial, serial_reply}
+use Rattle.asc_traj.specs.Jump.{JumpsBy}
+use Rattle.asc_find.specs.Finder.{Tally, Tells, Plan, tally_after, steps_given, hits_of}
+use Rattle.asc_find.specs.Serial.{Serial, serial_reply}
 use Rattle.asc_run.specs.Serial.{visited, after_tasks, made_at}
 use Rattle.asc_run.specs.Execution.{Position, Progress, On}
 use Rattle.asc_run.specs.Visits.{Course, Visit, Passes, IsMarkedFrom, is_at, goes_on_at, with_landing, replies_of}

@@ -1,9 +1,9 @@
 -- How many guesses are due at visits, one after another.
 use Rattle.std.proofs.Common.{◌≡◌, ◌≤◌, ◌+◌, ◌-◌, ◌*◌, ℕ, zero, suc, Bool, true, false, List, [], ◌∷◌, length, Option, refl, sym, ap, ◌∙◌, subst, arith}
 use Rattle.std.proofs.lemmas.Bool.{le-ltb, ne_eqb}
-use Rattle.asc_traj.specs.declared.guessing.Guessing.{Guessing}
+use Rattle.asc_find.specs.declared.guessing.Guessing.{Guessing}
 use Rattle.asc_model.specs.State.{State}
-use Rattle.asc_traj.specs.Finder.{Plan, Tally}
+use Rattle.asc_find.specs.Finder.{Plan, Tally}
 use Rattle.asc_run.specs.Serial.{kinds_of}
 use Rattle.asc_run.specs.Visits.{Visit, tally_of, with_landing}
 use Rattle.asc_run.specs.Helped.{Aid, Helped, Lands, Plans}

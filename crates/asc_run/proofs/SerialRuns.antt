@@ -2,9 +2,9 @@
 use Rattle.std.proofs.Common.{◌≡◌, ◌≤◌, ◌<◌, ◌+◌, ◌-◌, ℕ, zero, suc, Bool, true, false, List, [], ◌∷◌, length, ap, ◌∙◌, sym, subst, refl, Option, Some, None, arith, inl, inr}
 use Rattle.std.proofs.lemmas.Bool.{cases_lt, false≢true}
 use Rattle.asc_model.specs.Shape.{Shape}
-use Rattle.asc_traj.specs.declared.guessing.Guessing.{Guessing}
-use Rattle.asc_traj.specs.Finder.{Tally}
-use Rattle.asc_traj.specs.Serial.{Serial, serial_reply}
+use Rattle.asc_find.specs.declared.guessing.Guessing.{Guessing}
+use Rattle.asc_find.specs.Finder.{Tally}
+use Rattle.asc_find.specs.Serial.{Serial, serial_reply}
 use Rattle.asc_run.specs.Execution.{Progress, On, Off, run_of}
 use Rattle.asc_run.specs.Visits.{Course, Visit, landing, Fits, HasNoMark, AreVisits, tally_of}
 use Rattle.asc_run.specs.Walk.{tally}

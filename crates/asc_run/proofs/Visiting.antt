@@ -12,9 +12,9 @@ use Rattle.asc_model.specs.Reach.{Bounds, reach_of}
 use Rattle.asc_guess.specs.declared.kind.Kind.{Kind}
 use Rattle.asc_guess.specs.declared.kind.Kind.TheVariants.{Last}
 use Rattle.asc_guess.specs.Guess.{guess_of}
-use Rattle.asc_traj.specs.declared.guessing.Guessing.{Guessing}
-use Rattle.asc_traj.specs.Finder.{Tally}
-use Rattle.asc_traj.specs.Serial.{Serial}
+use Rattle.asc_find.specs.declared.guessing.Guessing.{Guessing}
+use Rattle.asc_find.specs.Finder.{Tally}
+use Rattle.asc_find.specs.Serial.{Serial}
 use Rattle.asc_shard.specs.Content.{add}
 use Rattle.asc_run.specs.declared.made.Made.{Made}
 use Rattle.asc_run.specs.declared.made.Made.TheVariants.{One, Empty, Refused}

@@ -4,7 +4,8 @@ use Rattle.asc_model.specs.State.{State}
 use Rattle.asc_model.specs.Step.{At}
 use Rattle.asc_model.specs.Plain.{plain}
 use Rattle.asc_model.proofs.PlainSteps.{plain-none}
-use Rattle.asc_traj.specs.Finder.{IsJump, Plan, Tally}
+use Rattle.asc_traj.specs.Jump.{IsJump}
+use Rattle.asc_find.specs.Finder.{Plan, Tally}
 use Rattle.asc_outside.specs.Outside.{Given}
 use Rattle.asc_calls.specs.GuestCall.{Device}
 use Rattle.asc_calls.specs.World.{CallState, Faults, World, world}

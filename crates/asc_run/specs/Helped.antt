@@ -1,8 +1,8 @@
 -- What a walk does with its helper.
 use Rattle.std.specs.Prelude.{◌≡◌, ℕ, ◌+◌, ◌-◌, ◌*◌, ◌≤◌, ◌<◌, Bool, true, false, List, [], ◌∷◌, length, Option, Some}
 use Rattle.asc_model.specs.State.{State}
-use Rattle.asc_traj.specs.Finder.{Tally, Tells, Plan}
-use Rattle.asc_traj.specs.Serial.{Serial, serial_reply}
+use Rattle.asc_find.specs.Finder.{Tally, Tells, Plan}
+use Rattle.asc_find.specs.Serial.{Serial, serial_reply}
 use Rattle.asc_run.specs.Execution.{Progress, On, Off}
 use Rattle.asc_run.specs.Serial.{visited, made_at}
 use Rattle.asc_run.specs.Visits.{Course, Visit, AreVisits, replies_of, tally_of}

@@ -11,8 +11,8 @@ use Rattle.asc_model.specs.Plain.{plain}
 use Rattle.asc_model.specs.Entry.{Entry}
 use Rattle.asc_guess.specs.declared.kind.Kind.TheVariants.{Stride}
 use Rattle.asc_guess.specs.Guess.{guess_of, targets_of}
-use Rattle.asc_traj.specs.declared.guessing.Guessing.{Guessing}
-use Rattle.asc_traj.specs.Serial.{Serial, serial_reply}
+use Rattle.asc_find.specs.declared.guessing.Guessing.{Guessing}
+use Rattle.asc_find.specs.Serial.{Serial, serial_reply}
 use Rattle.asc_run.specs.declared.recognised.Recognised.TheVariants as recognised
 use Rattle.asc_run.specs.Execution.{progress, first_position}
 use Rattle.asc_run.specs.Visits.{Course, Visit, is_mark, AreVisits, replies_of, tally_of}

@@ -1,7 +1,7 @@
 -- How many guesses are made of a run where each visit is guessed.
 use Rattle.std.specs.Prelude.{◌≡◌, ℕ, ◌+◌, ◌-◌, ◌*◌, ◌==◌, nat_lt, length, Some, if◌then◌else◌}
-use Rattle.asc_traj.specs.declared.guessing.Guessing.{Guessing}
-use Rattle.asc_traj.specs.Finder.{Plan, Seen}
+use Rattle.asc_find.specs.declared.guessing.Guessing.{Guessing}
+use Rattle.asc_find.specs.Finder.{Plan, Seen}
 use Rattle.asc_run.specs.Serial.{kinds_of}
 
 -- how many later visits are guessed at a visit, and were not guessed before

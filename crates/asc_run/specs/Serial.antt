@@ -8,8 +8,8 @@ use Rattle.asc_model.specs.Reach.{Bounds, reach_of}
 use Rattle.asc_guess.specs.declared.kind.Kind.{Kind}
 use Rattle.asc_guess.specs.declared.kind.Kind.TheVariants.{Last, Stride}
 use Rattle.asc_guess.specs.Guess.{guess_of, targets_of}
-use Rattle.asc_traj.specs.declared.guessing.Guessing.{Guessing}
-use Rattle.asc_traj.specs.Serial.{Serial}
+use Rattle.asc_find.specs.declared.guessing.Guessing.{Guessing}
+use Rattle.asc_find.specs.Serial.{Serial}
 use Rattle.asc_shard.specs.Content.{add}
 
 -- ---- guesses

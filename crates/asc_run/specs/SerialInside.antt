@@ -5,7 +5,7 @@ use Rattle.asc_model.specs.Shape.{Shape}
 use Rattle.asc_model.specs.State.{State}
 use Rattle.asc_guess.specs.declared.kind.Kind.{Kind}
 use Rattle.asc_guess.specs.Guess.{guess_of}
-use Rattle.asc_traj.specs.declared.guessing.Guessing.{Guessing}
+use Rattle.asc_find.specs.declared.guessing.Guessing.{Guessing}
 use Rattle.asc_run.specs.declared.seen.Seen.{Seen}
 use Rattle.asc_run.specs.declared.seen.Seen.TheVariants as seen
 use Rattle.asc_run.specs.declared.serial.Serial.TheInside.{Inside}

@@ -5,7 +5,7 @@ use Rattle.asc_model.specs.State.{State}
 use Rattle.asc_model.specs.Machine.{view_of}
 use Rattle.asc_model.specs.Step.{At}
 use Rattle.asc_model.specs.Plain.{plain}
-use Rattle.asc_traj.specs.Finder.{Tally, tally_after}
+use Rattle.asc_find.specs.Finder.{Tally, tally_after}
 use Rattle.asc_guess.specs.Choice.{chosen_address}
 use Rattle.asc_run.specs.declared.recognised.Recognised.{Recognised}
 use Rattle.asc_run.specs.declared.recognised.Recognised.TheVariants as recognised

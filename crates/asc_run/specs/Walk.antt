@@ -4,7 +4,7 @@ use Rattle.asc_model.specs.State.{State}
 use Rattle.asc_elf.specs.Image.{Image, high_of}
 use Rattle.asc_calls.specs.GuestCall.{Io, then_io, IsBeginning, Device}
 use Rattle.asc_calls.specs.World.{CallState, Outside, World, DoesIo, MayCome, KnowsEnd}
-use Rattle.asc_traj.specs.Finder.{Tally}
+use Rattle.asc_find.specs.Finder.{Tally}
 use Rattle.asc_run.specs.declared.walk.Ended.{Ended}
 use Rattle.asc_run.specs.declared.walk.Settings.{Settings}
 use Rattle.asc_run.specs.declared.recognised.Recognised.{Recognised}

@@ -2,8 +2,8 @@ ghost use Rattle.std.specs.Prelude.{◌≡◌, ◌<◌, ◌≤◌, ◌^◌};
 ghost use Rattle.asc_run.specs.Helped.{aid, Plans, VisitsMachine};
 ghost use Rattle.asc_run.specs.Seen.{Sees};
 
+use asc_find::Finder;
 use asc_shape::State;
-use asc_traj::Finder;
 use std::marker::Model;
 
 /// What a walk tells of the states at which it then asks for a jump.

@@ -4,9 +4,10 @@ ghost use Rattle.asc_run.specs.Serial.{bounds_at};
 ghost use Rattle.asc_run.specs.Made.{IsMade};
 
 use asc_depvec::Tracer;
+use asc_find::Guessing;
 use asc_guess::{Kind, guess};
 use asc_shape::{Guess, Snapshot};
-use asc_traj::{Entry, Guessing, Never, Stop, trace};
+use asc_traj::{Entry, Never, Stop, trace};
 use std::alloc::{AllocError, Global};
 use std::sync::Arc;
 

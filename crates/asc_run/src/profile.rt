@@ -5,7 +5,8 @@ use crate::process::Process;
 use crate::recognised::Recognised;
 use crate::walk::{Ended, Settings};
 use asc_guess::choose;
-use asc_shape::{Sink, Source, Steps};
+use asc_outside::{Sink, Source};
+use asc_shape::Steps;
 use std::sync::ledger::Ledger;
 
 impl Process {

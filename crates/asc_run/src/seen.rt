@@ -1,7 +1,8 @@
 ghost use Rattle.std.specs.Prelude.{◌≡◌, Some, None, IfOk, MatchOption};
 ghost use Rattle.asc_run.specs.SerialInside.{AreOfShape, last_of, prev_of};
 
-use asc_shape::{Memory, Snapshot, State};
+use asc_outside::Memory;
+use asc_shape::{Snapshot, State};
 use std::alloc::Global;
 use std::sync::Arc;
 

@@ -4,7 +4,8 @@ ghost use Rattle.std.specs.Prelude.{◌≡◌, ◌≤◌, ◌<◌, ◌+◌, ◌^
 use crate::helper::Helper;
 use crate::process::Process;
 use crate::walk::Ended;
-use asc_shape::{Sink, Source, Steps};
+use asc_outside::{Sink, Source};
+use asc_shape::Steps;
 use std::sync::ledger::Ledger;
 
 /// A program on its way, and how it was visited.
@@ -22,7 +23,7 @@ pub(crate) struct Visited {
 
 impl Visited {
     ghost use Rattle.asc_calls.specs.World.{World, world, faults, BlamesOnly};
-    ghost use Rattle.asc_traj.specs.Finder.{IsJump};
+    ghost use Rattle.asc_traj.specs.Jump.{IsJump};
     ghost use Rattle.asc_run.specs.Execution.{device_of};
     ghost use Rattle.asc_run.specs.Visits.{Course, is_at, with_landing};
     ghost use Rattle.asc_run.specs.Helped.{aid, HasRoom, Helped, Lands};

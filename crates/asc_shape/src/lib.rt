@@ -15,10 +15,6 @@ mod tests;
 mod words;
 
 pub use asc_model::{Status, Version};
-pub use asc_outside::{
-    CountSink, Failed, Gate, ListSink, ListSource, ListStore, Loaded, Memory, Open, Point, Sink,
-    Source, Store, StoreFault, SureSource, put_all,
-};
 pub use bytes::Bytes;
 pub use guess::Guess;
 pub use laws::good_shapes_are_made;

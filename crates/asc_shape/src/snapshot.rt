@@ -7,7 +7,8 @@ ghost use Rattle.asc_pages.specs.Pages.{Keeps, Tells, base_bytes};
 ghost use Rattle.asc_shape.specs.State.{zero_state};
 
 use crate::page::elements_are_bytes;
-use crate::{Memory, Shape, State};
+use crate::{Shape, State};
+use asc_outside::Memory;
 use asc_pages::{FRONT, Marks, Pages, word_in};
 use std::alloc::Global;
 use std::marker::Model;

@@ -17,7 +17,8 @@ ghost use Rattle.asc_shape.specs.State.{with_memory, zero_state, state_after, me
 
 use crate::page::{elements_are_bytes, put_page, put_pages, stride, stride_pages};
 use crate::snapshot::front_of;
-use crate::{Bytes, Failed, Memory, Shape, Snapshot, Source, Words};
+use crate::{Bytes, Shape, Snapshot, Words};
+use asc_outside::{Failed, Memory, Source};
 use asc_pages::{FRONT, Marks, PAGE, Pages};
 use std::alloc::Global;
 use std::marker::Model;

@@ -1,7 +1,7 @@
 ghost use Rattle.std.specs.Prelude.{◌≡◌, ◌+◌, ◌<◌, ◌≤◌, [], List, length, map, sum_by, slice_index_or, None, IfOk, IfSome, IfNone};
 ghost use Rattle.std.specs.Arc.{arc_value};
 ghost use Rattle.std.specs.List.{list_any};
-ghost use Rattle.asc_traj.specs.Finder.{IsJump};
+ghost use Rattle.asc_traj.specs.Jump.{IsJump};
 ghost use Rattle.asc_traj.specs.Content.{longest};
 ghost use Rattle.asc_shard.specs.Groups.{AreAsked, Asked};
 ghost use Rattle.asc_shard.specs.Content.{add, is_same_entry, outcome_of, IsContent, IsFound};
@@ -10,7 +10,8 @@ ghost use Rattle.asc_shard.specs.Inside.{raised};
 use crate::find::{Probes, Uncounted, search};
 use crate::index::{Index, add, forget_oldest, place_of};
 use crate::mark::mark_of;
-use asc_shape::{Memory, State, Steps};
+use asc_outside::Memory;
+use asc_shape::{State, Steps};
 use asc_traj::{Entry, jump_by};
 use std::alloc::Global;
 use std::marker::Model;
@@ -29,6 +30,9 @@ pub enum Inserted {
 /// The greatest capacity of a shard. The index of so many entries stays in the processor's second
 /// cache while the walk looks up.
 pub const MOST_CAPACITY: usize = 4096;
+
+/// How many entries the shard of a run holds, and that of each of its workers.
+pub const RUN_CAPACITY: usize = 1024;
 
 /// A bounded list of entries, the oldest first.
 #[derive(Drop)]

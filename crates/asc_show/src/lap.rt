@@ -3,7 +3,8 @@ ghost use Rattle.std.specs.Prelude.{◌≡◌, ◌≤◌, IfOk};
 ghost use Rattle.asc_show.specs.Visited.{IsLap, bounds_of};
 
 use asc_depvec::Tracer;
-use asc_shape::{Guess, Memory, Snapshot, State};
+use asc_outside::Memory;
+use asc_shape::{Guess, Snapshot, State};
 use asc_traj::{Entry, Never, Stop, Why, trace};
 use std::alloc::Global;
 use std::sync::Arc;

@@ -23,7 +23,8 @@ mod visit;
 
 use crate::answer::Answer;
 use crate::show::show;
-use asc_shape::{Sink, Steps, put_all};
+use asc_outside::{Sink, put_all};
+use asc_shape::Steps;
 use asc_streams::{FileStore, StreamSink, StreamSource};
 use asc_words::given_words;
 use std::env::Args;

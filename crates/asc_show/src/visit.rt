@@ -5,8 +5,9 @@ ghost use Rattle.asc_run.specs.Turn.{device_of_turn};
 ghost use Rattle.asc_run.specs.Visits.{is_at};
 ghost use Rattle.asc_show.specs.Visited.{Comes, EndsBefore};
 
+use asc_outside::{Sink, Source};
 use asc_run::{Ended, Process};
-use asc_shape::{Sink, Source, Steps};
+use asc_shape::Steps;
 use std::sync::ledger::Ledger;
 
 /// A program on its way to a visit of an address.

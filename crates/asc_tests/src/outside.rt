@@ -1,7 +1,8 @@
 //! The program over an outside in memory, and what must come of it.
 ghost use Rattle.std.specs.Prelude.{◌≡◌, ◌<◌};
 
-use asc_shape::{Gate, ListSink, ListSource, ListStore, Open, Steps};
+use asc_outside::{Gate, ListSink, ListSource, ListStore, Open};
+use asc_shape::Steps;
 use asc_top::{Answer, top};
 use std::alloc::{AllocError, Global};
 use std::marker::Brand;

@@ -3,10 +3,11 @@ ghost use Rattle.std.specs.Prelude.{◌≡◌, ◌<◌};
 
 use crate::images::wrap;
 use asc_elf::read;
+use asc_find::Nothing;
+use asc_outside::{CountSink, SureSource};
 use asc_run::{Bare, Ended, Settings, Walk};
-use asc_shape::{CountSink, Steps, SureSource, Version};
+use asc_shape::{Steps, Version};
 use asc_step::{Fault, FaultKind};
-use asc_traj::Nothing;
 use std::alloc::Global;
 use std::marker::Brand;
 use std::process::Abort;

@@ -2,9 +2,8 @@
 use crate::images::wrap;
 use crate::outside::{SOUND, run_gated};
 use crate::whole_runs::COUNTS;
-use asc_shape::Point;
+use asc_outside::{Hold, HoldGate, Point};
 use asc_top::Answer;
-use asc_work::{Hold, HoldGate};
 use std::alloc::{AllocError, Global};
 use std::process::Abort;
 use std::sync::Wait;

@@ -4,7 +4,7 @@ use Rattle.std.specs.Prelude.{if◌then◌else◌}
 use Rattle.asc_model.specs.Shape.{IsShape}
 use Rattle.asc_elf.specs.Image as loader
 use Rattle.asc_calls.specs.World.{Outside}
-use Rattle.asc_traj.specs.Finder.{Tally}
+use Rattle.asc_find.specs.Finder.{Tally}
 use Rattle.asc_run.specs.declared.recognised.Recognised.{Recognised}
 use Rattle.asc_run.specs.declared.recognised.Recognised.TheVariants.{Nowhere}
 use Rattle.asc_run.specs.Execution.{exec}

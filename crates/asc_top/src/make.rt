@@ -5,7 +5,7 @@ ghost use Rattle.asc_calls.specs.World.{faults, outside};
 ghost use Rattle.asc_top.specs.Answered.{IsAnswerFor, devices};
 
 use asc_make::image;
-use asc_shape::{Failed, Sink, put_all};
+use asc_outside::{Failed, Sink, put_all};
 use asc_words::{Answer, Line, Outcome};
 use std::alloc::Global;
 

@@ -5,9 +5,9 @@ ghost use Rattle.asc_words.specs.Line.{IsRunWithin};
 ghost use Rattle.asc_top.specs.Numbers.{guessing_of, makes_guesses, recognised_by, settings_of};
 ghost use Rattle.asc_top.specs.Workers.{crew_of};
 
+use asc_find::Guessing;
 use asc_live::Crew;
 use asc_run::{Recognised, Settings};
-use asc_traj::Guessing;
 use asc_words::RunLine;
 
 /// Whether a line without workers has guesses made.

@@ -9,7 +9,8 @@ ghost use Rattle.asc_top.specs.Reported.{EndsTrial, IsPut};
 
 use crate::run::{run_file_alone, run_file_beside};
 use asc_make::image;
-use asc_shape::{CountSink, Failed, Gate, Sink, Steps, SureSource, Version, put_all};
+use asc_outside::{CountSink, Failed, Gate, Sink, SureSource, put_all};
+use asc_shape::{Steps, Version};
 use asc_words::{Answer, Counts, FileName, Line, Outcome, RunLine, TrialOutcome, trial_text};
 use std::alloc::Global;
 use std::sync::Wait;

@@ -5,8 +5,6 @@ pub mod Entries
 pub mod Matching
 pub mod Looks
 pub mod Finding
-pub mod HaltSteps
-pub mod HaltShared
 pub mod Splits
 pub mod Parts
 pub mod Reaching

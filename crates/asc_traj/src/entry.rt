@@ -20,7 +20,8 @@ ghost use Rattle.asc_traj.specs.Inside.{AreHalves, HasGrown, HasSplit, is_read_f
 use crate::part::{Part, has_parts, push};
 use crate::tracing::known;
 use asc_depvec::{Block, Tracer};
-use asc_shape::{Bytes, Memory, Shape, State, Status};
+use asc_outside::Memory;
+use asc_shape::{Bytes, Shape, State, Status};
 use std::alloc::{AllocError, Global};
 use std::marker::Model;
 use std::sync::Arc;

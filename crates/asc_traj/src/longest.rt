@@ -3,7 +3,7 @@ ghost use Rattle.std.specs.Arc.{arc_value};
 ghost use Rattle.asc_model.specs.Step.{At};
 ghost use Rattle.asc_model.specs.Plain.{plain};
 ghost use Rattle.asc_traj.specs.Content.{longest, matches};
-ghost use Rattle.asc_traj.specs.Finder.{IsJump};
+ghost use Rattle.asc_traj.specs.Jump.{IsJump};
 
 use crate::Entry;
 use asc_shape::State;

@@ -1,10 +1,7 @@
 ghost use Rattle.std.specs.Prelude.{◌≡◌};
 ghost use Rattle.asc_traj.specs.Trace.{StandsFor};
 
-use crate::{
-    Entry, Finder, Halt, ListFinder, Made, Never, Noted, Nothing, Part, Stop, Traced, Why,
-    cells_of, trace,
-};
+use crate::{Entry, Halt, Made, Never, Part, Stop, Traced, Why, cells_of, trace};
 use asc_depvec::Tracer;
 use asc_shape::{Guess, Shape, Snapshot, State, Status};
 use asc_step::{Fault, FaultKind, Stepped, try_step};
@@ -572,42 +569,6 @@ fn guesses(rt: HostRuntime) {
         let found = made(&rt, alloc, state, stop_at(2, 9), &mut halt);
         assert_eq!(rt; (found, halt.stops), (became, stops));
     }
-}
-
-/// Asks a finder for a jump.
-fn ask<F: Finder, R: Abort>(rt: &R, finder: &mut F, state: &mut State, left: u64) -> Option<u64> {
-    assert!(rt; finder.asked() < 1 << 62 && finder.given() < 1 << 62 && left <= 1 << 40);
-    finder.jump(state, left)
-}
-
-#[test]
-fn finders(rt: HostRuntime) {
-    let alloc = rt.alloc();
-    let mut list: Vec<Arc<Entry>> = Vec::new(alloc);
-    for (laps, steps) in [(1, 2), (2, 4)] {
-        let state = counting(&rt, alloc, 0x10008, 4);
-        let entry = entry_of(&rt, alloc, &state, stop_at(laps, 100), end(steps, Why::Lap));
-        list.push(entry).expect(&rt, "memory");
-    }
-    let mut noted = Noted::new(alloc, ListFinder::new(list), 3).expect(&rt, "memory");
-    for (left, given, x5) in [(4, Some(4), 2), (3, Some(2), 1), (1, None, 0)] {
-        let mut state = counting(&rt, alloc, 0x10008, 4);
-        assert_eq!(rt; ask(&rt, &mut noted, &mut state, left), given);
-        assert_eq!(rt; (state.pc(), state.reg(5)), (0x10008, x5));
-    }
-    assert!(rt; noted.are_all());
-    assert_eq!(rt; (noted.asked(), noted.given(), noted.hits()), (3, 6, 2));
-    // One reply more than are told.
-    let mut state = counting(&rt, alloc, 0x10008, 5);
-    assert_eq!(rt; ask(&rt, &mut noted, &mut state, 4), None);
-    assert_eq!(rt; noted.replies(), [Some(4), Some(2), None].as_slice());
-    assert!(rt; !noted.are_all());
-    let mut nothing = Nothing::new();
-    assert_eq!(rt; ask(&rt, &mut nothing, &mut state, 4), None);
-    assert_eq!(rt;
-        (nothing.asked(), nothing.given(), nothing.hits()),
-        (1, 0, 0)
-    );
 }
 
 /// It does nothing. Its call shows that threads may share values of a type, and hand them on.

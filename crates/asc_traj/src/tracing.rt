@@ -14,6 +14,9 @@ use asc_depvec::{LEAST_CAP, Tracer};
 use asc_shape::{Bytes, Shape};
 use asc_step::{Stepped, step_anew, step_settled};
 
+/// How many places the trace of a guess may touch.
+pub const TRACE_CAP: usize = 4096;
+
 /// Where a trace is to end.
 #[derive(Clone, Copy, Debug, PartialEq, Eq)]
 pub struct Stop {

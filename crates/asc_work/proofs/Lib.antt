@@ -1,2 +1,4 @@
 pub mod Reaching
 pub mod Posts
+pub mod HaltSteps
+pub mod HaltShared

@@ -1,3 +1,4 @@
 pub mod Inside
 pub mod Worker
 pub mod Posts
+pub mod Halting

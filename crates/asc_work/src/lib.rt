@@ -1,7 +1,7 @@
 //! Workers, which trace guesses of later states beside a walk and insert the entries.
 #![tactic(auto)]
 
-mod hold;
+mod halter;
 mod post;
 mod scope;
 mod team;
@@ -11,7 +11,7 @@ mod work;
 mod worker;
 
 pub use asc_jobs::Column as Ran;
-pub use hold::{Hold, HoldGate};
+pub use halter::{Flag, Halter};
 pub use post::TakenIn;
 pub use team::Team;
 pub use work::work_loop;

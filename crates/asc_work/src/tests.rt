@@ -1,13 +1,12 @@
 ghost use Rattle.std.specs.Prelude.{◌≡◌, All, length};
 ghost use Rattle.asc_jobs.specs.Tally.{no_jobs};
 
-use crate::{Hold, HoldGate, Ran, Team, Worker};
+use crate::{Flag, Halter, Ran, Team, Worker};
 use asc_cache::{Cache, ListWriter, ShardWriter};
 use asc_jobs::{Giver, Job, Jobs, Kind, Tally};
-use asc_outside::{Gate, Open, Point};
+use asc_outside::{Gate, Hold, HoldGate, Open, Point};
 use asc_shape::{Shape, Snapshot, State};
 use asc_shard::Shard;
-use asc_traj::{Flag, Halter};
 use crossbeam_utils::sync::Unparker;
 use std::alloc::Global;
 use std::process::Abort;

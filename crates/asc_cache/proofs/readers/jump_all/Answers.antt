@@ -1,6 +1,6 @@
 use Rattle.std.proofs.Common.{rules, ◌≡◌, None, sym, ◌∙◌, get_or, subst}
 use Rattle.asc_cache.specs.Cache.{ShardReader}
-use Rattle.asc_traj.specs.Finder.{IsJump}
+use Rattle.asc_traj.specs.Jump.{IsJump}
 use Rattle.asc_cache.specs.Cache.{IsLater, found_by}
 use Rattle.asc_cache.proofs.Firsts.{unchanged}
 use Rattle.asc_cache.proofs.Rows.{any_default, rest_after, done_after, all_after, each_after}

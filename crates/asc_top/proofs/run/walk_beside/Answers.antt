@@ -1,7 +1,7 @@
 -- What a walk beside workers comes to.
 use Rattle.std.proofs.Common.{◌≡◌, ◌∙◌, sym, ap, subst, inl}
 use Rattle.asc_calls.specs.World.{faults, outside}
-use Rattle.asc_traj.specs.declared.guessing.Guessing.{Guessing}
+use Rattle.asc_find.specs.declared.guessing.Guessing.{Guessing}
 use Rattle.asc_live.specs.Crew.{WentBeside}
 use Rattle.asc_live.specs.declared.crew.Crew.{Crew}
 use Rattle.asc_words.specs.declared.answer.Counts.{Counts}

@@ -2,7 +2,7 @@ use Rattle.std.proofs.Common.{Bool, true, false, if◌then◌else◌, List, [], 
 use Rattle.std.specs.Result.{is_ok}
 use Rattle.std.proofs.lemmas.List.Elements.{All-nil, All-push}
 use Rattle.asc_cache.specs.declared.writer.ShardWriter.{ShardWriter}
-use Rattle.asc_traj.specs.declared.halter.Flag.{Flag}
+use Rattle.asc_work.specs.declared.halter.Flag.{Flag}
 use Rattle.asc_jobs.specs.Tally.{no_jobs}
 use Rattle.asc_work.specs.declared.worker.Worker.{Worker}
 use Rattle.asc_work.proofs.tests.two_workers_of.Goals as goal

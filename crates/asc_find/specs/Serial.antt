@@ -3,7 +3,7 @@ use Rattle.std.specs.Prelude.{ℕ, List, Option}
 use Rattle.asc_model.specs.Shape.{Shape}
 use Rattle.asc_model.specs.State.{State}
 use Rattle.asc_model.specs.Entry.{Entry}
-use Rattle.asc_traj.specs.declared.guessing.Guessing.{Guessing}
+use Rattle.asc_find.specs.declared.guessing.Guessing.{Guessing}
 use Rattle.asc_traj.specs.Content.{longest}
 
 -- what the machine is at a moment: its shape and its guessing stay

@@ -1,9 +1,9 @@
 ghost use Rattle.std.specs.Prelude.{◌≡◌, ◌<◌, ◌≤◌, true, Some, None, IfOk};
 ghost use Rattle.asc_traj.specs.Trace.{CountsAnswer, CountsAsk, LosesPatience};
-ghost use Rattle.asc_traj.specs.Halting.{AreOpened, flag_after};
+ghost use Rattle.asc_work.specs.Halting.{AreOpened, flag_after};
 
-use crate::Halt;
-use asc_shape::Memory;
+use asc_outside::Memory;
+use asc_traj::Halt;
 use atomic_table::{Play, Seat, Split, Table, TableRule};
 use std::alloc::Global;
 use std::marker::Model;
@@ -31,7 +31,7 @@ struct Sight {
 struct Halting;
 
 impl TableRule<(), Sight, ()> for Halting {
-    ghost use Rattle.asc_traj.specs.Halting.{HaltRule, first_sight};
+    ghost use Rattle.asc_work.specs.Halting.{HaltRule, first_sight};
 
     ghost holds = { λ _. HaltRule };
 
@@ -42,7 +42,7 @@ struct Stores;
 
 impl Play<(), Sight> for Stores {
     ghost use Rattle.std.specs.Prelude.{◌≡◌};
-    ghost use Rattle.asc_traj.specs.Halting.{stored};
+    ghost use Rattle.asc_work.specs.Halting.{stored};
 
     ghost then = { λ st m n w. (w.0 ≡ stored m.0) × (w.1 ≡ m.1) };
 }
@@ -51,7 +51,7 @@ struct Loads;
 
 impl Play<(), Sight> for Loads {
     ghost use Rattle.std.specs.Prelude.{◌≡◌};
-    ghost use Rattle.asc_traj.specs.Halting.{loaded};
+    ghost use Rattle.asc_work.specs.Halting.{loaded};
 
     ghost then = { λ st m n w. (w.0 ≡ loaded m.0 n) × (w.1 ≡ m.1) };
 }
@@ -59,7 +59,7 @@ impl Play<(), Sight> for Loads {
 struct Splits;
 
 impl Split<Sight> for Splits {
-    ghost use Rattle.asc_traj.specs.Halting.{new_sight};
+    ghost use Rattle.asc_work.specs.Halting.{new_sight};
 
     ghost left = { λ v. v };
 
@@ -78,7 +78,7 @@ pub struct Halter {
 impl Model for Halter {
     ghost use Rattle.std.specs.Prelude.{◌≡◌, true, []};
     ghost use Rattle.std.specs.Arc.{arc_value};
-    ghost use Rattle.asc_traj.specs.Halting as model;
+    ghost use Rattle.asc_work.specs.Halting as model;
 
     ghost Value = { model.Halter };
 
@@ -132,7 +132,7 @@ pub struct Flag {
 impl Model for Flag {
     ghost use Rattle.std.specs.Prelude.{◌≡◌, []};
     ghost use Rattle.std.specs.Arc.{arc_value};
-    ghost use Rattle.asc_traj.specs.Halting as model;
+    ghost use Rattle.asc_work.specs.Halting as model;
 
     ghost Value = { model.Flag };
 
@@ -162,7 +162,7 @@ impl Halt for Flag {
 #[cfg(test)]
 mod tests {
     use super::Halter;
-    use crate::Halt;
+    use asc_traj::Halt;
     use std::test::Fail;
 
     /// It does nothing. Its call shows that threads may share values of a type, and hand them on.

@@ -1,10 +1,12 @@
 ghost use Rattle.std.specs.Prelude.{◌≡◌, ◌<◌, ◌≤◌, ◌^◌, ◌∷◌, [], true, Some, IfOk};
-ghost use Rattle.asc_traj.specs.Serial.{Serial, serial_reply};
-ghost use Rattle.asc_traj.specs.Finder.{IsJump, tally_after, Tells};
-ghost use Rattle.asc_traj.specs.Finders.{noted_after, told_of};
+ghost use Rattle.asc_find.specs.Serial.{Serial, serial_reply};
+ghost use Rattle.asc_traj.specs.Jump.{IsJump};
+ghost use Rattle.asc_find.specs.Finder.{tally_after, Tells};
+ghost use Rattle.asc_find.specs.Finders.{noted_after, told_of};
 
 use crate::Finder;
-use asc_shape::{Memory, State};
+use asc_outside::Memory;
+use asc_shape::State;
 use std::alloc::Global;
 use std::marker::Model;
 
@@ -19,7 +21,7 @@ pub struct Noted<F> {
 
 impl<F> Model for Noted<F> {
     ghost use Rattle.std.specs.Prelude.{◌≤◌, vec_capacity};
-    ghost use Rattle.asc_traj.specs.Finders.{Noting};
+    ghost use Rattle.asc_find.specs.Finders.{Noting};
 
     ghost Value = { Noting F };
 

@@ -1,7 +1,7 @@
 -- What the finders of this crate are.
 use Rattle.std.specs.Prelude.{ℕ, Bool, false, nat_lt, List, [], ◌∷◌, ◌++◌, length, Option, Some, None, if◌then◌else◌}
 use Rattle.asc_model.specs.Entry.{Entry}
-use Rattle.asc_traj.specs.Finder.{Tally}
+use Rattle.asc_find.specs.Finder.{Tally}
 
 -- a list of entries, and what was counted over it
 pub record Listed : Type 0 where

@@ -5,8 +5,8 @@ use Rattle.std.proofs.Crossing.{crosses}
 use Rattle.atomic_table.specs.contracts.shared.Seat.{the_row}
 use Rattle.atomic_table.proofs.shared.Seat.TheSendSync as seat
 use Rattle.atomic_table.proofs.owned.Table.TheSendSync as table
-use Rattle.asc_traj.specs.contracts.halter.Halter as halter
-use Rattle.asc_traj.specs.contracts.halter.Flag as flag
+use Rattle.asc_work.specs.contracts.halter.Halter as halter
+use Rattle.asc_work.specs.contracts.halter.Flag as flag
 
 seat_sync : (S V : RattleType) → IsSend S → IsSync (the_row S V)
 seat_sync S V s = record { shared = λ d b o κ q. part_keyless (the_row S V) (seat.the_send S V s) q d b o }

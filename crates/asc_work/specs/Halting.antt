@@ -5,7 +5,7 @@ use lib.ListN.{get_elem?}
 use Rattle.atomic_table.specs.Seated.{TableId}
 use Rattle.atomic_table.specs.Table.{State}
 use Rattle.asc_outside.specs.Outside.{one_more}
-use Rattle.asc_traj.specs.declared.halter.Sight.{Sight}
+use Rattle.asc_work.specs.declared.halter.Sight.{Sight}
 
 -- a halter: its word, and whether it has asked to stop
 pub record Halter : Type 0 where

@@ -1,5 +1,5 @@
-use Rattle.asc_traj.specs.Halting.{AreOpened}
-use Rattle.asc_traj.proofs.halter.Halter.open.Given as goal
+use Rattle.asc_work.specs.Halting.{AreOpened}
+use Rattle.asc_work.proofs.halter.Halter.open.Given as goal
 
 abbrev pub invariant-loop : goal.invariant-loop
 invariant-loop l = AreOpened l.counter l.halter l.made.items

@@ -1,11 +1,12 @@
 ghost use Rattle.std.specs.Prelude.{◌≡◌, ◌<◌, ◌≤◌, ◌^◌, ℕ, List, [], ◌∷◌, Option, Some, IfOk, length, map};
 ghost use Rattle.std.specs.Arc.{arc_value};
 ghost use Rattle.asc_traj.specs.Content.{longest};
-ghost use Rattle.asc_traj.specs.Serial.{Serial, serial_reply};
-ghost use Rattle.asc_traj.specs.Finder.{IsJump, Tally, tally_after, Tells, Plan};
+ghost use Rattle.asc_find.specs.Serial.{Serial, serial_reply};
+ghost use Rattle.asc_traj.specs.Jump.{IsJump};
+ghost use Rattle.asc_find.specs.Finder.{Tally, tally_after, Tells, Plan};
 
-use crate::{Entry, jump_longest};
 use asc_shape::State;
+use asc_traj::{Entry, jump_longest};
 use std::marker::Model;
 use std::sync::Arc;
 
@@ -115,7 +116,7 @@ pub struct ListFinder {
 impl Model for ListFinder {
     ghost use Rattle.std.specs.Prelude.{◌≤◌, map};
     ghost use Rattle.std.specs.Arc.{arc_value};
-    ghost use Rattle.asc_traj.specs.Finders.{Listed};
+    ghost use Rattle.asc_find.specs.Finders.{Listed};
 
     ghost Value = { Listed };
 

@@ -1,5 +1,5 @@
-use Rattle.asc_traj.proofs.HaltShared.{halter_sync, flag_sync}
-use Rattle.asc_traj.proofs.halter.tests.shared.Goals as goal
+use Rattle.asc_work.proofs.HaltShared.{halter_sync, flag_sync}
+use Rattle.asc_work.proofs.halter.tests.shared.Goals as goal
 
 pub is_shared-requires-sync-T : goal.is_shared-requires-sync-T
 is_shared-requires-sync-T g c κs = record { shared = halter_sync.shared }

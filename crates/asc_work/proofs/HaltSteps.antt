@@ -4,8 +4,8 @@ use mathlib.Core.Option.{some, some-ne-none, some-injective}
 use lib.ListN.{get_elem?}
 use Rattle.atomic_table.specs.Table.{Me, Allows, Splits, keeps, opening}
 use Rattle.atomic_table.proofs.Lists.{at_longer, at_set, at_snoc, set_again}
-use Rattle.asc_traj.specs.declared.halter.Sight.{Sight}
-use Rattle.asc_traj.specs.Halting.{first_sight, new_sight, stored, loaded, IsSighted, IsThere, HaltRule}
+use Rattle.asc_work.specs.declared.halter.Sight.{Sight}
+use Rattle.asc_work.specs.Halting.{first_sight, new_sight, stored, loaded, IsSighted, IsThere, HaltRule}
 
 abbrev Views : (ℕ → Sight → Type 0) → List Sight → Type 0
 Views F views = (seat : ℕ) (v : Sight) → get_elem? views seat ≡ some v → F seat v

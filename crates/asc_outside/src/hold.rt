@@ -1,4 +1,4 @@
-use asc_outside::{Gate, Memory, Point};
+use crate::{Gate, Memory, Point};
 use std::alloc::Global;
 use std::sync::atomic::{AtomicBool, Ordering};
 use std::thread;

@@ -1,0 +1,3 @@
+pub mod Finder
+pub mod Finders
+pub mod Serial

@@ -1,5 +1,0 @@
-use Rattle.asc_traj.proofs.HaltSteps.{begins}
-use Rattle.asc_traj.proofs.halter.Halter.open.Goals as goal
-
-pub of_words-requires : goal.of_words-requires
-of_words-requires c = begins
