@@ -96,9 +96,23 @@ impl Part {
     }
 }
 
-/// Whether a state has each of these parts. Four are compared at once, mostly by their whole words.
+/// Whether a state has each of these parts. The first one tells most of those that it does not have.
 #[inline]
 pub fn has_parts(state: &State, parts: &[Part]) -> bool
+    requires parts { All IsPart parts.now }
+    requires within { All (λ part. word_place part + 4 ≤ length_of state.now.shape) parts.now }
+    ensures { result ≡ list_all (λ part. list_all (λ cell. slice_index state.now.bytes cell.0 == cell.1)
+        (part_cells part)) parts.now }
+{
+    match parts.split_first() {
+        Some((first, rest)) => first.is_in(state) && has_fours(state, rest),
+        None => true,
+    }
+}
+
+// Whether a state has each of these parts. Four are compared at once, mostly by their whole words.
+#[inline(always)]
+fn has_fours(state: &State, parts: &[Part]) -> bool
     requires parts { All IsPart parts.now }
     requires within { All (λ part. word_place part + 4 ≤ length_of state.now.shape) parts.now }
     ensures { result ≡ list_all (λ part. list_all (λ cell. slice_index state.now.bytes cell.0 == cell.1)

@@ -3,7 +3,7 @@ use Rattle.std.proofs.Common.{◌≡◌, ◌==◌, ◌+◌, ◌≤◌, All, leng
 use Rattle.std.specs.List.{list_all}
 use Rattle.asc_model.specs.Shape.{length_of}
 use Rattle.asc_traj.specs.Parts.{IsPart, part_cells, word_place}
-use Rattle.asc_traj.proofs.part.has_parts.Given as goal
+use Rattle.asc_traj.proofs.part.has_fours.Given as goal
 
 abbrev pub invariant-loop-four : goal.invariant-loop-four
 invariant-loop-four l =

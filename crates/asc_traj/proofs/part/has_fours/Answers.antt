@@ -5,7 +5,7 @@ use Rattle.asc_model.specs.Shape.{length_of}
 use Rattle.asc_traj.specs.declared.part.Part.{Part}
 use Rattle.asc_traj.specs.Parts.{IsPart, part_cells, word_place}
 use Rattle.asc_traj.proofs.Parts.{list_all-drop}
-use Rattle.asc_traj.proofs.part.has_parts.Goals as goal
+use Rattle.asc_traj.proofs.part.has_fours.Goals as goal
 
 pub loop-four-preserved : goal.loop-four-preserved
 loop-four-preserved c =
