@@ -5,3 +5,4 @@ pub mod Seeing
 pub mod LawsHold
 pub mod Crews
 pub mod Shares
+pub mod Pages

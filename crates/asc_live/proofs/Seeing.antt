@@ -120,8 +120,8 @@ all-made offers due p q s e f =
 -- ---- one visit more
 
 -- what a visit leaves that keeps its state, by what it leaves of the pusher
-abbrev after : {F : Type 0} → (number : ℕ) → State → (old : Live F) → Pusher → Live F
-after number now old p = record (charged old) {
+abbrev after : {F : Type 0} → (number pages : ℕ) → State → (old : Live F) → Pusher → Live F
+after number pages now old p = record (charged pages old) {
   prev = old.last;
   last = Some now;
   issued = issued_by number old.last (Some now) old;
@@ -183,9 +183,9 @@ issued-some n now old h on pair more =
     let last = last-kept n old h on pair (omega (arith, more)) in
     ap (λ last. issued_by (n + 1) last (Some now) old) last.1
 
-after-seen : {F : Type 0} (n : ℕ) (now : State) (old : Live F) (p : Pusher) → n + 1 ≤ 2 ^ 40 → IsLive old → HasSeen n old → is_guessing old.guessing ≡ true → (is_filled old.pusher.giver ≡ true → (last : State) × (old.last ≡ Some last)) → Pushes (offers_at (n + 1) old) (due_by (n + 1) old.last (Some now) old) old.pusher p → p.refused ≡ 0
-    → HasSeen (n + 1) (after (n + 1) now old p)
-after-seen n now old p most q h on pair pushes none = record {
+after-seen : {F : Type 0} (n pages : ℕ) (now : State) (old : Live F) (p : Pusher) → n + 1 ≤ 2 ^ 40 → IsLive old → HasSeen n old → is_guessing old.guessing ≡ true → (is_filled old.pusher.giver ≡ true → (last : State) × (old.last ≡ Some last)) → Pushes (offers_at (n + 1) old) (due_by (n + 1) old.last (Some now) old) old.pusher p → p.refused ≡ 0
+    → HasSeen (n + 1) (after (n + 1) pages now old p)
+after-seen n pages now old p most q h on pair pushes none = record {
   most = most;
   refused = none;
   guesses = pushes-sees n now old p q h on pair pushes none ∙ ap (λ m. m + guesses_at old.guessing (n + 1)) h.guesses ∙ sym (guesses_until-more old.guessing n);
@@ -206,8 +206,8 @@ room-after offers due p q s was some =
     subst (λ c. c ≤ length q.giver.pushed) (sym (ap (λ (g : Giver). g.capacity) s.giver))
     (room-more (full_of p) (s.lacked + s.left) p.giver.capacity (length p.giver.pushed) (length q.giver.pushed) was s.room (omega (arith, more)) (omega (arith, some, full-is offers due p q s)))
 
-after-live : {F : Type 0} (number : ℕ) (now : State) (old : Live F) (p : Pusher) → number ≤ 2 ^ 40 → IsLive old → is_guessing old.guessing ≡ true → (is_filled old.pusher.giver ≡ true → (last : State) × (old.last ≡ Some last)) → Pushes (offers_at number old) (due_by number old.last (Some now) old) old.pusher p → IsLive (after number now old p)
-after-live number now old p most q on pair pushes = record {
+after-live : {F : Type 0} (number pages : ℕ) (now : State) (old : Live F) (p : Pusher) → number ≤ 2 ^ 40 → IsLive old → is_guessing old.guessing ≡ true → (is_filled old.pusher.giver ≡ true → (last : State) × (old.last ≡ Some last)) → Pushes (offers_at number old) (due_by number old.last (Some now) old) old.pusher p → IsLive (after number pages now old p)
+after-live number pages now old p most q on pair pushes = record {
   least = q.least;
   most = q.most;
   issued = issued-small number old.last now old most q.most q.issued;
@@ -216,9 +216,9 @@ after-live number now old p most q on pair pushes = record {
   seen = λ n e.
       let was = seen-was number p.refused n old.seen e in
       let h = q.seen was.0 was.1 in
-      subst (λ m. HasSeen m (after number now old p)) (sym was.2.1.1)
-      (subst (λ m. HasSeen m (after m now old p)) (sym was.2.0)
-      (after-seen was.0 now old p (omega (arith, most, was.2.0)) q h on pair (subst (λ m. Pushes (offers_at m old) (due_by m old.last (Some now) old) old.pusher p) was.2.0 pushes) was.2.1.0));
+      subst (λ m. HasSeen m (after number pages now old p)) (sym was.2.1.1)
+      (subst (λ m. HasSeen m (after m pages now old p)) (sym was.2.0)
+      (after-seen was.0 pages now old p (omega (arith, most, was.2.0)) q h on pair (subst (λ m. Pushes (offers_at m old) (due_by m old.last (Some now) old) old.pusher p) was.2.0 pushes) was.2.1.0));
 }
 
 -- ---- a visit of which no job is pushed
@@ -308,17 +308,17 @@ given_up-live number last old most q room = record {
 }
 
 -- whatever is left for visits
-charged-live : {F : Type 0} (old : Live F) → IsLive old → IsLive (charged old)
-charged-live old q = IsLive-asked old old.finder (charged old).budget refl q
+charged-live : {F : Type 0} (pages : ℕ) (old : Live F) → IsLive old → IsLive (charged pages old)
+charged-live pages old q = IsLive-asked old old.finder (charged pages old).budget refl q
 
-given_up-plans : {F : Type 0} (number : ℕ) (last : Option State) (old : Live F) → Plans 1 (plan_of old) (plan_of (given_up number last (charged old)))
-given_up-plans number last old =
+given_up-plans : {F : Type 0} (number pages : ℕ) (last : Option State) (old : Live F) → Plans 1 (plan_of old) (plan_of (given_up number last (charged pages old)))
+given_up-plans number pages last old =
     let few = kinds-few old.guessing in
     record { made = omega arith; full = omega arith; few = omega (arith, few); refused = omega arith; queue = refl }
 
-given_up-told : {F : Type 0} (number : ℕ) (last : Option State) (old : Live F) → IsLive old → (is_guessing old.guessing ≡ true → is_filled old.pusher.giver ≡ true)
-    → Sees number (plan_of old) (plan_of (given_up number last (charged old)))
-given_up-told number last old q room before told next same =
+given_up-told : {F : Type 0} (number pages : ℕ) (last : Option State) (old : Live F) → IsLive old → (is_guessing old.guessing ≡ true → is_filled old.pusher.giver ≡ true)
+    → Sees number (plan_of old) (plan_of (given_up number last (charged pages old)))
+given_up-told number pages last old q room before told next same =
     let is = told-is old.seen old.guessing before told in
     let h = q.seen before.number is.0 in
     let seen_is : seen_after number old.pusher.refused old.seen ≡ Some number = (λ i. seen_after (next i) (h.refused i) (is.0 i)) ∙ seen-next before.number ∙ ap Some (sym next) in (
@@ -330,17 +330,17 @@ given_up-told number last old q room before told next same =
 -- ---- any visit
 
 -- what a visit leaves is such a helper
-pub visit-live : {F : Type 0} (number : ℕ) (now : State) (old new : Live F) → number ≤ 2 ^ 40 → IsLive old → Visits number now old new → IsLive new
-visit-live number now old new most q (inl v) = subst IsLive (sym v.rest) (given_up-live number None (charged old) most (charged-live old q) (passed-filled old v.passed))
-visit-live number now old new most q (inr (inl v)) = subst IsLive (sym v.rest) (given_up-live number (Some now) (charged old) most (charged-live old q) (λ on. v.filled))
-visit-live number now old new most q (inr (inr (inl v))) = subst IsLive (sym v.rest) (after-live number now old new.pusher most q (is-on old v.made) v.pair v.pushes)
-visit-live number now old new most q (inr (inr (inr v))) = subst IsLive (sym v.rest) (record { least = q.least; most = q.most; issued = q.issued; price = q.price; room = q.room; seen = λ n e. absurd (cc) })
+pub visit-live : {F : Type 0} (number pages : ℕ) (now : State) (old new : Live F) → number ≤ 2 ^ 40 → IsLive old → Visits number pages now old new → IsLive new
+visit-live number pages now old new most q (inl v) = subst IsLive (sym v.rest) (given_up-live number None (charged pages old) most (charged-live pages old q) (passed-filled old v.passed))
+visit-live number pages now old new most q (inr (inl v)) = subst IsLive (sym v.rest) (given_up-live number (Some now) (charged pages old) most (charged-live pages old q) (λ on. v.filled))
+visit-live number pages now old new most q (inr (inr (inl v))) = subst IsLive (sym v.rest) (after-live number pages now old new.pusher most q (is-on old v.made) v.pair v.pushes)
+visit-live number pages now old new most q (inr (inr (inr v))) = subst IsLive (sym v.rest) (record { least = q.least; most = q.most; issued = q.issued; price = q.price; room = q.room; seen = λ n e. absurd (cc) })
 
 -- it makes at most 128 guesses
-pub visit-plans : {F : Type 0} (number : ℕ) (now : State) (old new : Live F) → IsLive old → Visits number now old new → Plans 1 (plan_of old) (plan_of new)
-visit-plans number now old new q (inl v) = subst (λ l. Plans 1 (plan_of old) (plan_of l)) (sym v.rest) (given_up-plans number None old)
-visit-plans number now old new q (inr (inl v)) = subst (λ l. Plans 1 (plan_of old) (plan_of l)) (sym v.rest) (given_up-plans number (Some now) old)
-visit-plans number now old new q (inr (inr (inl v))) =
+pub visit-plans : {F : Type 0} (number pages : ℕ) (now : State) (old new : Live F) → IsLive old → Visits number pages now old new → Plans 1 (plan_of old) (plan_of new)
+visit-plans number pages now old new q (inl v) = subst (λ l. Plans 1 (plan_of old) (plan_of l)) (sym v.rest) (given_up-plans number pages None old)
+visit-plans number pages now old new q (inr (inl v)) = subst (λ l. Plans 1 (plan_of old) (plan_of l)) (sym v.rest) (given_up-plans number pages (Some now) old)
+visit-plans number pages now old new q (inr (inr (inl v))) =
     let grown = Pushes-few (offers_at number old) _ _ _ v.pushes in
     let few = due-few number old.last now old q.most in
     record {
@@ -350,13 +350,13 @@ visit-plans number now old new q (inr (inr (inl v))) =
       refused = subst (λ n. old.pusher.refused ≤ n) (sym v.pushes.refused) (raised-grows old.pusher.refused v.pushes.wanting);
       queue = ap (λ (giver : Giver). Some (queue_of giver)) v.pushes.giver;
     }
-visit-plans number now old new q (inr (inr (inr v))) = subst (λ l. Plans 1 (plan_of old) (plan_of l)) (sym v.rest) (record { made = omega arith; full = omega arith; few = omega arith; refused = omega arith; queue = refl })
+visit-plans number pages now old new q (inr (inr (inr v))) = subst (λ l. Plans 1 (plan_of old) (plan_of l)) (sym v.rest) (record { made = omega arith; full = omega arith; few = omega arith; refused = omega arith; queue = refl })
 
 -- it is told of, where the one before was
-pub visit-sees : {F : Type 0} (number : ℕ) (now : State) (old new : Live F) → IsLive old → Visits number now old new → Sees number (plan_of old) (plan_of new)
-visit-sees {F} number now old new q (inl v) before told next same = subst (λ l. Sees number (plan_of old) (plan_of l)) (sym v.rest) (given_up-told number None old q (passed-filled old v.passed)) before told next same
-visit-sees {F} number now old new q (inr (inl v)) before told next same = subst (λ l. Sees number (plan_of old) (plan_of l)) (sym v.rest) (given_up-told number (Some now) old q (λ on. v.filled)) before told next same
-visit-sees {F} number now old new q (inr (inr (inl v))) before told next same =
+pub visit-sees : {F : Type 0} (number pages : ℕ) (now : State) (old new : Live F) → IsLive old → Visits number pages now old new → Sees number (plan_of old) (plan_of new)
+visit-sees {F} number pages now old new q (inl v) before told next same = subst (λ l. Sees number (plan_of old) (plan_of l)) (sym v.rest) (given_up-told number pages None old q (passed-filled old v.passed)) before told next same
+visit-sees {F} number pages now old new q (inr (inl v)) before told next same = subst (λ l. Sees number (plan_of old) (plan_of l)) (sym v.rest) (given_up-told number pages (Some now) old q (λ on. v.filled)) before told next same
+visit-sees {F} number pages now old new q (inr (inr (inl v))) before told next same =
     let is = told-is old.seen old.guessing before told in
     let h = q.seen before.number is.0 in
     let none = same ∙ h.refused in
@@ -367,7 +367,7 @@ visit-sees {F} number now old new q (inr (inr (inl v))) before told next same =
       pushes-sees before.number now old new.pusher q h (is-on old v.made) v.pair pushes none
           ∙ (λ i. length old.pusher.giver.pushed + full_of old.pusher + guesses_at (is.1 i) (sym next i)),
     )
-visit-sees {F} number now old new q (inr (inr (inr v))) before told next same =
+visit-sees {F} number pages now old new q (inr (inr (inr v))) before told next same =
     let is = told-is old.seen old.guessing before told in
     let h = q.seen before.number is.0 in
     let rose : new.pusher.refused ≡ one_more old.pusher.refused = ap (λ (l : Live F). l.pusher.refused) v.rest in

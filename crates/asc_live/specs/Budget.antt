@@ -1,34 +1,59 @@
 -- What the visits of a walk may cost it, in steps of the guest, and which of them are passed over.
-use Rattle.std.specs.Prelude.{ℕ, ◌+◌, ◌-◌, ◌*◌, ◌^◌, ◌≤◌, nat_le, min, ◌&&◌, ◌||◌, not, Bool, false, Option, Some, None, if◌then◌else◌}
+use Rattle.std.specs.Prelude.{◌≡◌, ℕ, ◌+◌, ◌-◌, ◌*◌, ◌^◌, ◌<◌, ◌≤◌, nat_le, min, ◌&&◌, ◌||◌, not, Bool, false, Option, Some, None, if◌then◌else◌}
 
 pub record Budget : Type 0 where
-  -- what a visit is charged
+  -- what a visit is charged, beside the pages that it copies
   pub cost : ℕ
   -- what is left for visits
   pub steps : ℕ
+  -- what visits took beyond that
+  pub owed : ℕ
   -- how many steps were left to do at the last look-up
   pub left : ℕ
+  -- whether the last visit was paid for
+  pub paid : Bool
   -- whether the last visit was passed over
   pub passing : Bool
 
--- A visit is charged 5,000 steps for the copy of its state and its jobs. For a look-up in the list of each worker it is
--- charged 1,000, of 64 workers at most.
-abbrev pub visit_cost : (workers : ℕ) → ℕ
-visit_cost workers = 5000 + 1000 * min workers 64
+-- what a visit is charged for its jobs
+abbrev pub visit_steps : ℕ
+visit_steps = 5000
 
--- what a row of 32 visits is charged, of which each is charged so much: a budget has no more
+-- and for a look-up in the list of each worker
+abbrev pub worker_steps : ℕ
+worker_steps = 1000
+
+-- and for each page that it copies
+abbrev pub page_steps : ℕ
+page_steps = 64
+
+-- each step that was jumped over counts as so many more: it was saved, and visits may cost what they save
+abbrev pub saved_steps : ℕ
+saved_steps = 3
+
+-- what a visit is charged, beside its pages: for 64 workers at most
+abbrev pub visit_cost : (workers : ℕ) → ℕ
+visit_cost workers = visit_steps + worker_steps * min workers 64
+
+-- what a row of 32 visits that copy no page is charged, of which each is charged so much: a budget has no more
 abbrev pub row_cost : (cost : ℕ) → ℕ
 row_cost cost = 32 * cost
 
 -- a budget of these numbers
-abbrev pub budget : (cost steps left : ℕ) → (passing : Bool) → Budget
-budget cost steps left passing = record { cost = cost; steps = steps; left = left; passing = passing }
+abbrev pub budget : (cost steps owed left : ℕ) → (paid passing : Bool) → Budget
+budget cost steps owed left paid passing =
+    record { cost = cost; steps = steps; owed = owed; left = left; paid = paid; passing = passing }
 
 -- that of a walk which begins: it pays for a row
 abbrev pub new_budget : (workers : ℕ) → Budget
-new_budget workers = budget (visit_cost workers) (row_cost (visit_cost workers)) 0 false
+new_budget workers = budget (visit_cost workers) (row_cost (visit_cost workers)) 0 0 false false
 
--- whether it pays for a visit: after one that was passed over, it has to pay for a row
+-- what a visit is charged that copies so many pages
+abbrev pub charge : Budget → (pages : ℕ) → ℕ
+charge b pages = b.cost + page_steps * pages
+
+-- Whether it pays for a visit: after one that was passed over, it has to pay for a row. How many pages a visit copies does
+-- not count here.
 abbrev pub pays : Budget → Bool
 pays b = nat_le (if b.passing then row_cost b.cost else b.cost) b.steps
 
@@ -37,27 +62,41 @@ pays b = nat_le (if b.passing then row_cost b.cost else b.cost) b.steps
 abbrev pub passes : (guesses filled : Bool) → Budget → Bool
 passes guesses filled b = not guesses || (filled && not (pays b))
 
--- after a visit, which is charged where it is made and paid for
-abbrev pub after_visit : (guesses filled : Bool) → Budget → Budget
-after_visit guesses filled b = record b {
-  steps = if guesses && pays b then b.steps - b.cost else b.steps;
+-- what is taken for a visit: its charge, where it is made and paid for
+abbrev pub taken : (guesses : Bool) → (pages : ℕ) → Budget → ℕ
+taken guesses pages b = if guesses && pays b then charge b pages else 0
+
+-- after a visit: what is taken beyond the steps that are left is owed
+abbrev pub after_visit : (guesses filled : Bool) → (pages : ℕ) → Budget → Budget
+after_visit guesses filled pages b = record b {
+  steps = b.steps - taken guesses pages b;
+  owed = b.owed + (taken guesses pages b - b.steps);
+  paid = guesses && pays b;
   passing = passes guesses filled b;
 }
 
--- Each step that was jumped over counts as 3 more: it was saved, and visits may cost what they save.
+-- what was saved by a look-up
 abbrev pub saved_by : (jumped : Option ℕ) → ℕ
 saved_by None = 0
-saved_by (Some steps) = 3 * steps
+saved_by (Some steps) = saved_steps * steps
 
--- After a look-up with so many steps left, it has grown by the steps since the last one, and by what was saved.
+-- what is gained at a look-up with so many steps left: the steps since the last one, and what was saved
+abbrev pub gained : (left : ℕ) → (jumped : Option ℕ) → Budget → ℕ
+gained left jumped b = b.left - left + saved_by jumped
+
+-- after a look-up: what is gained first pays what is owed, and the rest is left for visits
 abbrev pub after_look_up : (left : ℕ) → (jumped : Option ℕ) → Budget → Budget
 after_look_up left jumped b = record b {
-  steps = min (b.steps + (b.left - left) + saved_by jumped) (row_cost b.cost);
+  steps = min (b.steps + (gained left jumped b - b.owed)) (row_cost b.cost);
+  owed = b.owed - gained left jumped b;
   left = left;
 }
 
--- what holds of every budget
+-- What holds of every budget. While something is owed, nothing is left for visits, so that none is paid for.
 pub record IsBudget (b : Budget) : Type 0 where
+  pub least : 0 < b.cost
   pub cost : b.cost ≤ visit_cost 64
   pub steps : b.steps ≤ row_cost b.cost
+  pub debt : 0 < b.owed → b.steps ≡ 0
+  pub owed : b.owed ≤ charge b (2 ^ 23)
   pub left : b.left ≤ 2 ^ 40

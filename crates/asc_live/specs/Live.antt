@@ -1,7 +1,8 @@
 -- A helper that has others do what it guesses.
-use Rattle.std.specs.Prelude.{◌≡◌, ◌⊎◌, ℕ, ◌+◌, ◌^◌, ◌≤◌, ◌<◌, nat_lt, ◌==◌, ◌&&◌, ◌||◌, Bool, true, false, List, [], length, Option, Some, None, if◌then◌else◌}
+use Rattle.std.specs.Prelude.{◌≡◌, ◌⊎◌, ℕ, ◌+◌, ◌/◌, ◌^◌, ◌≤◌, ◌<◌, nat_lt, ◌==◌, ◌&&◌, ◌||◌, Bool, true, false, List, [], length, Option, Some, None, if◌then◌else◌}
 use Rattle.std.specs.Global.{Global}
 use Rattle.std.specs.declared.sync.Arc.{Arc}
+use Rattle.asc_model.specs.Shape.{length_of}
 use Rattle.asc_model.specs.State.{State}
 use Rattle.asc_outside.specs.Outside.{one_more}
 use Rattle.asc_jobs.specs.Jobs.{Giver}
@@ -108,9 +109,10 @@ is_guessing g = g.last || g.stride
 abbrev pub is_passed_over : {F : Type 0} → Live F → Bool
 is_passed_over l = passes (is_guessing l.guessing) (is_filled l.pusher.giver) l.budget
 
--- one whose budget was charged for a visit, where it pays for it
-abbrev pub charged : {F : Type 0} → Live F → Live F
-charged l = record l { budget = after_visit (is_guessing l.guessing) (is_filled l.pusher.giver) l.budget }
+-- one whose budget was charged for a visit that copies so many pages, where it pays for it
+abbrev pub charged : {F : Type 0} → (pages : ℕ) → Live F → Live F
+charged pages l =
+    record l { budget = after_visit (is_guessing l.guessing) (is_filled l.pusher.giver) pages l.budget }
 
 -- no job of a visit is pushed, nor offered: for each kind that is on one is counted
 abbrev pub given_up : {F : Type 0} → (number : ℕ) → (last : Option State) → Live F → Live F
@@ -131,25 +133,25 @@ refused_visit l = record l {
   seen = None;
 }
 
--- A visit is passed over: its state is not kept.
-pub record PassesOver {F : Type 0} (number : ℕ) (old new : Live F) : Type 0 where
+-- A visit is passed over: its state is not kept, and it is not charged.
+pub record PassesOver {F : Type 0} (number pages : ℕ) (old new : Live F) : Type 0 where
   pub passed : is_passed_over old ≡ true
-  pub rest : new ≡ given_up number None (charged old)
+  pub rest : new ≡ given_up number None (charged pages old)
 
 -- A visit keeps its state alone: the queue had been filled up, and the state of the visit before was not kept.
-pub record BeginsRow {F : Type 0} (number : ℕ) (now : State) (old new : Live F) : Type 0 where
+pub record BeginsRow {F : Type 0} (number pages : ℕ) (now : State) (old new : Live F) : Type 0 where
   pub made : is_passed_over old ≡ false
   pub filled : is_filled old.pusher.giver ≡ true
   pub alone : old.last ≡ None
-  pub rest : new ≡ given_up number (Some now) (charged old)
+  pub rest : new ≡ given_up number (Some now) (charged pages old)
 
 -- At any other visit its state is kept, and the jobs that are due and offered are pushed, but where memory or room is
 -- wanting.
-pub record Keeps {F : Type 0} (number : ℕ) (now : State) (old new : Live F) : Type 0 where
+pub record Keeps {F : Type 0} (number pages : ℕ) (now : State) (old new : Live F) : Type 0 where
   pub made : is_passed_over old ≡ false
   pub pair : is_filled old.pusher.giver ≡ true → (last : State) × (old.last ≡ Some last)
   pub pushes : Pushes (offers_at number old) (due_by number old.last (Some now) old) old.pusher new.pusher
-  pub rest : new ≡ record (charged old) {
+  pub rest : new ≡ record (charged pages old) {
     prev = old.last;
     last = Some now;
     issued = issued_by number old.last (Some now) old;
@@ -158,13 +160,19 @@ pub record Keeps {F : Type 0} (number : ℕ) (now : State) (old new : Live F) : 
   }
 
 -- Memory is wanting for the state of a visit that is not passed over.
-pub record Refuses {F : Type 0} (old new : Live F) : Type 0 where
+pub record Refuses {F : Type 0} (pages : ℕ) (old new : Live F) : Type 0 where
   pub made : is_passed_over old ≡ false
-  pub rest : new ≡ refused_visit (charged old)
+  pub rest : new ≡ refused_visit (charged pages old)
 
--- what a visit does
-abbrev pub Visits : {F : Type 0} → (number : ℕ) → State → (old new : Live F) → Type 0
-Visits number now old new = PassesOver number old new ⊎ (BeginsRow number now old new ⊎ (Keeps number now old new ⊎ Refuses old new))
+-- what a visit does, where so many pages of its state were written since the last one was kept
+abbrev pub Visits : {F : Type 0} → (number pages : ℕ) → State → (old new : Live F) → Type 0
+Visits number pages now old new = PassesOver number pages old new
+    ⊎ (BeginsRow number pages now old new ⊎ (Keeps number pages now old new ⊎ Refuses pages old new))
+
+-- and where these are some of the pages of its shape
+abbrev pub VisitsWritten : {F : Type 0} → (number : ℕ) → State → (old new : Live F) → Type 0
+VisitsWritten number now old new =
+    (pages : ℕ) × (pages ≤ length_of now.shape / 1024 + 1) × Visits number pages now old new
 
 -- what holds where all visits up to one were guessed
 pub record HasSeen {F : Type 0} (number : ℕ) (l : Live F) : Type 0 where

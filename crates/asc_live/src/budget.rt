@@ -1,14 +1,16 @@
-ghost use Rattle.std.specs.Prelude.{◌≡◌, ◌≤◌, ◌^◌, not, true, false, IfSome};
+ghost use Rattle.std.specs.Prelude.{◌≡◌, ◌<◌, ◌≤◌, ◌^◌, not, true, false, IfSome};
 ghost use Rattle.asc_live.specs.Budget.{new_budget, passes, after_visit, after_look_up};
 
 use std::marker::Model;
 
-/// What a visit is charged for the copy of its state and its jobs, in steps of the guest. It is several times what most
-/// visits take.
+/// What a visit is charged for its jobs, in steps of the guest. It is several times what most visits take.
 const VISIT_STEPS: u64 = 5_000;
 
 /// What it is charged for a look-up in the list of each worker.
 const WORKER_STEPS: u64 = 1_000;
+
+/// What it is charged for each page that it copies.
+const PAGE_STEPS: u64 = 64;
 
 /// So many workers are charged for at most.
 const WORKERS: usize = 64;
@@ -16,16 +18,17 @@ const WORKERS: usize = 64;
 /// A step that was jumped over counts as so many more: it is saved, and visits may cost what they save.
 const SAVED: u64 = 3;
 
-/// So many visits the budget pays for at most. After visits that were passed over it first grows to that again. A guess
+/// So many visits that copy no page the budget pays for at most. After visits that were passed over it first grows to that again. A guess
 /// wants the states of two visits in a row, and workers that are awake.
 const ROW: u64 = 32;
 
 /// What the visits of a walk may cost. It changes no answer of a run.
 #[derive(Drop)]
 pub(crate) struct Budget {
-    // What a visit costs, and what is left for visits, in steps of the guest.
+    // What a visit costs beside its pages, what is left for visits, and what they took beyond that, in steps of the guest.
     cost: u64,
     steps: u64,
+    owed: u64,
     // How many steps were left to do at the last look-up.
     left: u64,
     // Whether the last visit was paid for, and whether it was passed over.
@@ -38,9 +41,9 @@ impl Model for Budget {
 
     ghost Value = { model.Budget };
 
-    ghost view = { λ b. model.budget b.cost b.steps b.left b.passing };
+    ghost view = { λ b. model.budget b.cost b.steps b.owed b.left b.paid b.passing };
 
-    ghost invariant = { λ b. model.IsBudget (model.budget b.cost b.steps b.left b.passing) };
+    ghost invariant = { λ b. model.IsBudget (model.budget b.cost b.steps b.owed b.left b.paid b.passing) };
 }
 
 impl Budget {
@@ -52,17 +55,20 @@ impl Budget {
         Budget {
             cost,
             steps: ROW * cost,
+            owed: 0,
             left: 0,
             paid: false,
             passing: false,
         }
     }
 
-    /// Whether a visit is made, and not passed over. Where a kind of guess is on, each is made until the queue was filled
-    /// up, also where the budget does not pay for it.
-    pub(crate) fn pay(&mut self, guesses: bool, filled: bool) -> bool
+    /// Whether a visit is made that copies so many pages, and not passed over. Where a kind of guess is on, each is made
+    /// until the queue was filled up, also where the budget does not pay for it. One that is paid for is charged: what it
+    /// takes beyond the steps that are left is owed.
+    pub(crate) fn pay(&mut self, guesses: bool, filled: bool, pages: usize) -> bool
+        requires { pages < 2 ^ 23 }
         ensures made { result ≡ not (passes guesses filled self.old) }
-        ensures after { self.new ≡ after_visit guesses filled self.old }
+        ensures after { self.new ≡ after_visit guesses filled pages self.old }
     {
         let wanted = if self.passing {
             ROW * self.cost
@@ -72,13 +78,17 @@ impl Budget {
         self.paid = guesses && wanted <= self.steps;
         self.passing = !guesses || filled && !self.paid;
         if self.paid {
-            self.steps -= self.cost;
+            let charge = self.cost + PAGE_STEPS * pages as u64;
+            self.owed += charge.saturating_sub(self.steps);
+            self.steps = self.steps.saturating_sub(charge);
         }
         !self.passing
     }
 
     /// Whether the last visit was paid for.
-    pub(crate) fn has_paid(&self) -> bool {
+    pub(crate) fn has_paid(&self) -> bool
+        ensures { result ≡ self.now.paid }
+    {
         self.paid
     }
 
@@ -90,16 +100,17 @@ impl Budget {
         if self.passing { 0 } else { left }
     }
 
-    /// It grows by the steps since the last look-up, and by what this one saved, up to what a row of visits costs. This one
-    /// had so many steps left, and jumped over some.
+    /// The steps since the last look-up, and what this one saved, pay what is owed. By the rest it grows, up to what a row
+    /// of visits costs. This one had so many steps left, and jumped over some.
     pub(crate) fn look_up(&mut self, left: u64, jumped: Option<u64>)
         requires left { left ≤ 2 ^ 40 }
         requires jumped { IfSome jumped (λ steps. steps ≤ 2 ^ 40) }
         ensures { self.new ≡ after_look_up left jumped self.old }
     {
         let gone = self.left.saturating_sub(left);
-        let saved = SAVED * jumped.unwrap_or(0);
-        self.steps = (self.steps + gone + saved).min(ROW * self.cost);
+        let gained = gone + SAVED * jumped.unwrap_or(0);
+        self.steps = (self.steps + gained.saturating_sub(self.owed)).min(ROW * self.cost);
+        self.owed = self.owed.saturating_sub(gained);
         self.left = left;
     }
 }

@@ -6,7 +6,7 @@ ghost use Rattle.asc_run.specs.Helped.{aid, Plans, VisitsMachine};
 ghost use Rattle.asc_run.specs.Seen.{Sees};
 ghost use Rattle.asc_run.specs.Serial.{kinds_of};
 ghost use Rattle.asc_live.specs.Laws.{new_plan};
-ghost use Rattle.asc_live.specs.Live.{IsLive, new_live, queue_of, plan_of, given_up, refused_visit, due_by, issued_by, is_guessing, offers_at, seen_after as seen_by, Visits};
+ghost use Rattle.asc_live.specs.Live.{IsLive, new_live, queue_of, plan_of, given_up, refused_visit, due_by, issued_by, is_guessing, offers_at, seen_after as seen_by, Visits, VisitsWritten};
 ghost use Rattle.asc_live.specs.Due.{Pushes, full_of, is_filled};
 ghost use Rattle.asc_live.specs.Budget.{after_look_up};
 
@@ -26,11 +26,13 @@ use std::sync::{Arc, Wait};
 /// The helper of a walk that has workers beside it. At its visits it pushes jobs for them: guesses of later visits, to be
 /// traced. It finds jumps by another finder.
 ///
-/// Visits cost the walk time, so it has a budget for them. The budget grows by the steps of the walk, and by more where
-/// they are jumped over. Once the queue had been filled up, a visit that the budget does not pay for is passed over, and
-/// so are those after it until the budget is whole again. Where no kind of guess is on, each visit is passed over. At such
-/// a visit no state is kept, nothing is pushed, and the finder is asked for no step. Which visits are passed over changes
-/// no answer of a run.
+/// Visits cost the walk time, so it has a budget for them. It is charged for each visit, and for each page of its state that
+/// is copied. What a visit takes beyond the budget is owed. The steps of the walk pay what is owed, and then the budget
+/// grows by them; steps that are jumped over count more.
+///
+/// Once the queue had been filled up, a visit that the budget does not pay for is passed over, and so are those after it
+/// until the budget is whole again. Where no kind of guess is on, each visit is passed over. At such a visit no state is
+/// kept, nothing is pushed, and the finder is asked for no step. Which visits are passed over changes no answer of a run.
 ///
 /// Of the guesses that are then due at the other visits, the workers' share is offered to them (`Share`). Those that are
 /// left to the walk count as full.
@@ -197,17 +199,18 @@ impl<'a, F, G, R> Live<'a, F, G, R> {
 }
 
 impl<'a, F, G, R: Wait> Live<'a, F, G, R> {
-    // Makes a visit, or passes it over.
-    fn make_or_pass(&mut self, state: &mut State, number: u64)
+    // Makes a visit of a state of which so many pages were written since the last one was kept, or passes it over.
+    fn make_or_pass(&mut self, state: &mut State, number: u64, pages: usize)
         requires seen { self.old.seen ≡ None }
+        requires pages { pages < 2 ^ 23 }
         requires number { number ≤ 2 ^ 40 }
         requires full { full_of self.old.pusher < 2 ^ 62 }
-        ensures visits { Visits number state.old self.old self.new }
+        ensures visits { Visits number pages state.old self.old self.new }
         ensures stays { state.new ≡ state.old }
     {
         let guesses = self.guessing.last || self.guessing.stride;
         let filled = self.pusher.has_filled();
-        if !self.budget.pay(guesses, filled) {
+        if !self.budget.pay(guesses, filled, pages) {
             self.last = None;
             self.give_up(number);
         } else if filled && self.last.is_none() {
@@ -312,7 +315,8 @@ impl<'a, F: Finder, G, R> Finder for Live<'a, F, G, R> {
 impl<'a, F: Finder, G: Gate, R: Wait> Helper for Live<'a, F, G, R> {
     /// Pushes the jobs that are due, and wakes a worker for each if the budget pays for the visit. Once the queue had been
     /// filled up it pushes the workers' share of them; the others count as full. A visit costs a copy of what
-    /// changed in the state since the last one, and two owners more of a copy for each job.
+    /// changed in the state since the last one, and two owners more of a copy for each job. The budget is charged for each
+    /// page of that copy.
     ///
     /// A visit that is passed over does none of this: one guess of each kind counts as not offered. So it does, once the
     /// queue had been filled up, at a visit that has no state before it, and only keeps its own. At the end of a visit the
@@ -321,7 +325,7 @@ impl<'a, F: Finder, G: Gate, R: Wait> Helper for Live<'a, F, G, R> {
         requires number { number ≤ 2 ^ 40 }
         requires made { (plan_of self.old).made < 2 ^ 62 }
         requires full { (plan_of self.old).full < 2 ^ 62 }
-        ensures visits { Visits number state.old self.old self.new }
+        ensures visits { VisitsWritten number state.old self.old self.new }
         ensures stays { state.new ≡ state.old }
         ensures tally { F.tally self.new.finder ≡ F.tally self.old.finder }
         ensures replies { F.replies self.new.finder ≡ F.replies self.old.finder }
@@ -331,8 +335,11 @@ impl<'a, F: Finder, G: Gate, R: Wait> Helper for Live<'a, F, G, R> {
             (aid (F.tally self.old.finder) (F.replies self.old.finder) (plan_of self.old) None)
             (aid (F.tally self.new.finder) (F.replies self.new.finder) (plan_of self.new) None) }
     {
+        // That it is a state bounds how many pages there are.
+        let _ = state.shape();
         let before = self.seen.take();
-        self.make_or_pass(state, number);
+        let pages = state.changed_pages();
+        self.make_or_pass(state, number, pages);
         self.seen = seen_after(before, number, self.pusher.refused());
         self.gate.pass(Point::Visit, number);
     }

@@ -197,6 +197,62 @@ fn visits(rt: HostRuntime) -> Result<(), Fail> {
     Ok(())
 }
 
+/// Visits of a state of 1 MiB that was written as a whole before each of them. A row has the visit's number, the steps left
+/// at its look-up, and how many jobs were pushed after it. There is always room for one, from visit 3 on.
+///
+/// With one worker, and 1,025 pages to copy, a visit is charged 71,600 steps. Of 192,000 the third visit takes 22,800 more
+/// than there are. So visit 4 is passed over, and so is visit 5, since 214,799 steps leave 191,999. One step more makes that
+/// a row: visit 6 keeps its state. Visit 7 offers no guess, and visit 8 two.
+static WRITTEN: [(u64, u64, u64); 8] = [
+    (1, 500_000, 0),
+    (2, 500_000, 3),
+    (3, 500_000, 3),
+    (4, 285_201, 3),
+    (5, 285_200, 3),
+    (6, 285_200, 3),
+    (7, 285_200, 3),
+    (8, 285_200, 5),
+];
+
+/// Writes zeros into all memory.
+fn write(state: &mut State) {
+    let shape = state.shape();
+    if state.holds(shape.base(), shape.size()) {
+        state.write_zeros(shape.base(), shape.size());
+    }
+}
+
+#[test]
+fn pages_are_charged(rt: HostRuntime) -> Result<(), Fail> {
+    let alloc = rt.alloc();
+    let shape = Shape::new(65_536, 1 << 20).expect(&rt, "a good shape");
+    let mut state = State::new(alloc, shape)?;
+    let (giver, mut takers) = Jobs::open(alloc, 3, 1)?;
+    let mut taker = takers.pop().expect(&rt, "a taker");
+    let parker = Parker::new(alloc)?;
+    let mut workers = Vec::new(alloc);
+    workers.push(parker.unparker().clone()?)?;
+    let gate = Noting {
+        visit: AtomicU64::new(0),
+    };
+    let mut live = Live::new(
+        alloc,
+        &rt,
+        &gate,
+        Nothing::new(),
+        giver,
+        workers,
+        guessing(true),
+    );
+    for &(number, left, made) in &WRITTEN {
+        let _job = taker.pop(&rt);
+        write(&mut state);
+        visit(&rt, &mut live, &gate, &mut state, number, left);
+        assert!(rt; live.refused() > 0 || live.made() == made, "visit {number}");
+    }
+    Ok(())
+}
+
 /// Where no kind of guess is on, each visit is passed over: nothing is pushed. No state is kept, so memory is never wanting.
 #[test]
 fn no_kinds(rt: HostRuntime) -> Result<(), Fail> {
@@ -229,13 +285,16 @@ fn paid<R: Abort>(rt: &R, budget: &mut Budget) -> u64 {
     let mut visits = 0;
     for _ in 0..50 {
         assert!(rt; visits < 50);
-        visits += u64::from(budget.pay(true, true));
+        visits += u64::from(budget.pay(true, true, 0));
     }
     visits
 }
 
 /// With 3 workers a visit costs 8,000 steps, and a row 256,000. The budget grows to that by 100,000 steps, and by 3 more for
 /// each of 52,000 that were jumped over. It never has more than a row.
+///
+/// A visit that copies 10,000 pages costs 648,000 steps: of a whole budget it leaves 392,000 owed. Half of them are paid by
+/// 49,000 steps that were jumped over, which count four times. Then 196,000 steps pay the rest, and 256,000 fill the budget.
 #[test]
 fn budget(rt: HostRuntime) -> Result<(), Fail> {
     let mut budget = Budget::new(3);
@@ -247,6 +306,14 @@ fn budget(rt: HostRuntime) -> Result<(), Fail> {
     assert_eq!(rt; paid(&rt, &mut budget), 32);
     budget.look_up(900_000, Some(1_000_000));
     assert_eq!(rt; paid(&rt, &mut budget), 32);
-    assert!(rt; !budget.pay(false, false) && !budget.has_paid());
+    assert!(rt; !budget.pay(false, false, 0) && !budget.has_paid());
+    budget.look_up(3_000_000, Some(300_000));
+    assert!(rt; budget.pay(true, true, 10_000) && budget.has_paid());
+    assert_eq!(rt; paid(&rt, &mut budget), 0);
+    budget.look_up(2_951_000, Some(49_000));
+    budget.look_up(2_499_001, None);
+    assert_eq!(rt; paid(&rt, &mut budget), 0);
+    budget.look_up(2_499_000, None);
+    assert_eq!(rt; paid(&rt, &mut budget), 32);
     Ok(())
 }
