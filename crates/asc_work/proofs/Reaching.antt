@@ -1,5 +1,5 @@
 -- Whether a trace takes a step at all.
-use Rattle.std.proofs.Common.{◌≡◌, ℕ, zero, suc, ◌+◌, ◌<◌, ◌≤◌, Bool, true, false, Option, Some, None, refl, sym, ap, ◌∙◌, subst, arith, if◌then◌else◌, nat_lt, ltb, MatchBool, inl, inr}
+use Rattle.std.proofs.Common.{◌≡◌, ℕ, zero, suc, ◌+◌, ◌<◌, ◌≤◌, Bool, true, false, Option, Some, None, refl, sym, ap, ◌∙◌, subst, arith, if◌then◌else◌, nat_lt, ltb, MatchBool}
 use Rattle.std.proofs.lemmas.Bool.{lt-ltb}
 use Rattle.std.specs.Option.{option_or}
 use Rattle.asc_model.specs.declared.why.Why.{Why}
@@ -13,9 +13,6 @@ use Rattle.asc_model.proofs.Computing.{reaches_are_computed}
 use Rattle.asc_depvec.specs.Tracer.{Tracing}
 use Rattle.asc_outside.specs.Outside.{one_more}
 use Rattle.asc_traj.specs.Trace.{MayStop, CountsAnswer, StandsFor, origin_of}
-use Rattle.asc_jobs.specs.declared.tally.Column.{Column}
-use Rattle.asc_jobs.specs.declared.tally.Column.TheVariants.{Stored, Known, Empty, Dropped, Stopped}
-use Rattle.asc_work.specs.Worker.{Missed, Misses}
 
 -- a trace that ends at its start takes no step
 ends_at_once : (bounds : Bounds) (start : State) (why : Why) → why_after bounds 0 start start ≡ Some why → reach_of bounds start ≡ 0

@@ -1,13 +1,13 @@
 ghost use Rattle.std.specs.Prelude.{◌≡◌, All, length};
 ghost use Rattle.asc_jobs.specs.Tally.{no_jobs};
 
-use crate::{Flag, Halter, Ran, Team, Worker};
+use crate::{Flag, Halter, Ran, Team, Worker, work_loop};
 use asc_cache::{Cache, ListWriter, ShardWriter};
 use asc_jobs::{Giver, Job, Jobs, Kind, Tally};
 use asc_outside::{Gate, Hold, HoldGate, Open, Point};
 use asc_shape::{Shape, Snapshot, State};
 use asc_shard::Shard;
-use crossbeam_utils::sync::Unparker;
+use crossbeam_utils::sync::{Parker, Unparker};
 use std::alloc::Global;
 use std::process::Abort;
 use std::sync::{Arc, Wait};
@@ -25,9 +25,9 @@ const COUNTING: [u32; 7] = [
     0x0000_0073,
 ];
 
-/// A snapshot of that program at a pc, with these x5 and 4 in x6.
-fn counting<R: Abort>(rt: &R, alloc: Global, pc: u32, x5: u32) -> Arc<Snapshot> {
-    let shape = Shape::new(0x10000, 65_536).expect(rt, "a good shape");
+/// A snapshot of that program at a pc, with these x5 and 4 in x6, in memory of this size.
+fn counting<R: Abort>(rt: &R, alloc: Global, size: u32, pc: u32, x5: u32) -> Arc<Snapshot> {
+    let shape = Shape::new(0x10000, size).expect(rt, "a good shape");
     let mut state = State::new(alloc, shape).expect(rt, "memory");
     let mut at = 0x10000;
     for word in COUNTING {
@@ -63,7 +63,7 @@ fn flag<R: Abort>(rt: &R, alloc: Global, halted: bool) -> Flag {
 
 /// What a new worker answers to the same job twice, and its tally.
 fn answers<R: Abort>(rt: &R, alloc: Global, pc: u32, halted: bool) -> (Ran, Ran, Tally) {
-    let last = counting(rt, alloc, pc, 0);
+    let last = counting(rt, alloc, 65_536, pc, 0);
     let mut shard = Shard::new(alloc, 4).expect(rt, "memory");
     let writer = ListWriter::new(&mut shard);
     match Worker::new(alloc, last.shape(), 1, 100, writer, flag(rt, alloc, halted)) {
@@ -212,8 +212,12 @@ fn serve<R: Abort + Threads + Wait + Sync + Drop + Send>(
 }
 
 /// Two workers beside a walk that pushes two jobs of one state: each runs one of them.
-fn run_two<R: Abort + Threads + Wait + Sync + Copy + Drop + Send>(rt: &R, alloc: Global) {
-    let last = counting(rt, alloc, 0x10008, 0);
+fn run_two<R: Abort + Threads + Wait + Sync + Copy + Drop + Send>(
+    rt: &R,
+    alloc: Global,
+    size: u32,
+) {
+    let last = counting(rt, alloc, size, 0x10008, 0);
     let (mut halter, flags) = Halter::open(alloc, 2).expect(rt, "memory");
     let (mut giver, takers) = Jobs::open(alloc, 4, 2).expect(rt, "memory");
     let workers = two_workers_of(rt, alloc, last.shape(), flags);
@@ -236,7 +240,38 @@ fn run_two<R: Abort + Threads + Wait + Sync + Copy + Drop + Send>(rt: &R, alloc:
     );
 }
 
+// Memory that is filled in 2 pieces, and in 65.
 #[test]
 fn two_workers(rt: HostRuntime) {
-    run_two(&rt, rt.alloc());
+    for size in [0x1_0000, 0x40_0000] {
+        run_two(&rt, rt.alloc(), size);
+    }
+}
+
+// A worker of a large memory that is to stop before it is woken ends, and the job is left.
+#[test]
+fn stopped_before_it_is_woken(rt: HostRuntime) {
+    let alloc = rt.alloc();
+    let (mut giver, mut takers) = Jobs::open(alloc, 4, 1).expect(&rt, "memory");
+    let mut taker = takers.pop().expect(&rt, "a taker");
+    let parker = Parker::new(alloc).expect(&rt, "memory");
+    let mut shard = Shard::new(alloc, 4).expect(&rt, "memory");
+    let shape = Shape::new(0x10000, 0x400_0000).expect(&rt, "a good shape");
+    match Worker::new(
+        alloc,
+        shape,
+        1,
+        100,
+        ListWriter::new(&mut shard),
+        flag(&rt, alloc, true),
+    ) {
+        Ok(mut worker) => {
+            push(&rt, &mut giver, &counting(&rt, alloc, 65_536, 0x10008, 0));
+            parker.unparker().unpark();
+            work_loop(&rt, &mut worker, &mut taker, &Open, &parker);
+            assert_eq!(rt; worker.tally().ran, 0);
+        }
+        Err(_) => panic!(rt; "no memory"),
+    }
+    assert!(rt; taker.pop(&rt).is_some());
 }

@@ -17,6 +17,14 @@ const MOST_JOBS: u64 = 1 << 57;
 
 /// Takes jobs and runs them, and parks where there is none, until the worker's halt says to stop. The gate is passed at
 /// `Taken` before a job and at `Done` after it.
+///
+/// It parks first of all, until it is woken once. Then it fills the memory of the worker's tracer in pieces, before each
+/// of which it asks the halt. So a worker that is never woken for a job fills nothing, and one that is to stop while it
+/// fills does so before the next piece.
+///
+/// After each wake it asks the halt, and takes jobs until there is none. A wake is kept until a worker parks, which then
+/// goes on at once. So it does not park for ever where whoever tells the halt to stop wakes it afterwards, and no job
+/// waits for ever after whose push a worker is woken.
 pub fn work_loop<R: Wait, W: Insert + Drop, H: Halt + Drop, G: Gate>(
     rt: &R,
     worker: &mut Worker<W, H>,
@@ -28,9 +36,13 @@ pub fn work_loop<R: Wait, W: Insert + Drop, H: Halt + Drop, G: Gate>(
     ensures halted { HasRisen (H.count worker.old.halt) (H.count worker.new.halt) }
     ensures worked { HasWorked worker.old taker.old worker.new taker.new }
 {
+    parker.park(rt);
     for _ in rt.forever() {
         if worker.is_asked_to_stop() {
             return;
+        }
+        if !worker.fill_some() {
+            continue;
         }
         if worker.tally().ran < MOST_JOBS && run_next(rt, worker, taker, gate) {
             continue;

@@ -1,14 +1,16 @@
-ghost use Rattle.std.specs.Prelude.{◌≡◌, ◌⊎◌, ◌+◌, ◌<◌, ◌≤◌, ◌^◌, [], true, false, IfOk, IfErr, MatchBool};
+ghost use Rattle.std.specs.Prelude.{◌≡◌, ◌⊎◌, ◌+◌, ◌<◌, ◌≤◌, ◌^◌, [], None, true, false, IfOk, IfErr, MatchBool};
+ghost use Rattle.asc_model.specs.Shape.{Shape};
 ghost use Rattle.asc_model.specs.Reach.{IsReach, reach_of};
 ghost use Rattle.asc_model.specs.Entry.{entry_of};
 ghost use Rattle.asc_jobs.specs.declared.tally.Column.TheVariants as ran;
 ghost use Rattle.asc_traj.specs.Trace.{CountsAnswer, StandsFor, MayStop, bounds_of, is_stopped, origin_of};
 ghost use Rattle.asc_jobs.specs.Tally.{no_jobs, noted, counts_of};
+ghost use Rattle.asc_work.specs.Inside.{HasOwn, HasTracer};
 ghost use Rattle.asc_work.specs.Worker.{IsOfShape, IsEmpty, HasInserted, HasAsked, Misses, Missed, Ends, guess_for, steps_for};
 
 use crate::Ran;
 use asc_cache::Insert;
-use asc_depvec::Tracer;
+use asc_depvec::{Tracer, Unfilled};
 use asc_guess::guess;
 use asc_jobs::{Job, Tally};
 use asc_outside::{Gate, Memory, Point};
@@ -22,12 +24,15 @@ use std::marker::Model;
 const CAP: usize = 4096;
 
 /// It runs jobs, one after another, and inserts the entries of their guesses. The memory of its tracer is taken when it
-/// is made.
+/// is made, and filled later: by `work_loop` once the worker was woken, or else for its first job.
 #[derive(Drop)]
 pub struct Worker<W: Insert + Drop, H: Halt + Drop> {
     alloc: Global,
     shape: Shape,
-    tracer: Tracer,
+    // The memory of its tracer, until its first job.
+    unfilled: Option<Unfilled>,
+    // Its tracer, from then on.
+    tracer: Option<Tracer>,
     laps: u64,
     span: u64,
     writer: W,
@@ -38,7 +43,7 @@ pub struct Worker<W: Insert + Drop, H: Halt + Drop> {
 impl<W: Insert + Drop, H: Halt + Drop> Model for Worker<W, H> {
     ghost use Rattle.asc_jobs.specs.Tally.{counts_of};
     ghost use Rattle.asc_work.specs.Worker as model;
-    ghost use Rattle.asc_work.specs.Inside.{IsOwn};
+    ghost use Rattle.asc_work.specs.Inside.{HasOwn};
     ghost use Rattle.std.specs.Prelude.{◌≤◌};
 
     ghost Value = { model.Worker W H };
@@ -52,12 +57,13 @@ impl<W: Insert + Drop, H: Halt + Drop> Model for Worker<W, H> {
       tally = counts_of w.tally;
     } };
 
-    ghost invariant = { λ w. IsOwn w.shape w.tracer × (1 ≤ w.laps) × (1 ≤ w.span) };
+    ghost invariant = { λ w. HasOwn w.shape w.unfilled w.tracer × (1 ≤ w.laps) × (1 ≤ w.span) };
 }
 
 impl<W: Insert + Drop, H: Halt + Drop> Worker<W, H> {
     /// A worker that has run no job. It traces a guess over at most `laps` laps and `span` steps, and stops where
-    /// `halt` says so. Where memory is wanting the writer and the halt are handed back.
+    /// `halt` says so. Where memory is wanting the writer and the halt are handed back. All memory of its tracer is taken
+    /// here, and what grows with the shape is not filled.
     pub fn new(
         alloc: Global,
         shape: Shape,
@@ -78,11 +84,12 @@ impl<W: Insert + Drop, H: Halt + Drop> Worker<W, H> {
         }) }
         ensures memory { IfErr result (λ back. (back.1 ≡ writer) × (back.2 ≡ halt)) }
     {
-        match Tracer::new(alloc, shape, CAP) {
-            Ok(tracer) => Ok(Worker {
+        match Unfilled::new(alloc, shape, CAP) {
+            Ok(unfilled) => Ok(Worker {
                 alloc,
                 shape,
-                tracer,
+                unfilled: Some(unfilled),
+                tracer: None,
                 laps,
                 span,
                 writer,
@@ -95,7 +102,8 @@ impl<W: Insert + Drop, H: Halt + Drop> Worker<W, H> {
 
     /// Runs a job: guesses its state, traces that until it is back at the pc of the last visit, and inserts the entry of
     /// the trace. It notes in its tally what became of the job, and answers that. The gate is passed at `Traced` before
-    /// the insertion. It costs what the trace touches, and what the last one touched.
+    /// the insertion. It costs what the trace touches, and what the last one touched; and the first one what is not
+    /// filled yet of the tracer's memory, none of which is taken here.
     pub fn run_job<G: Gate>(&mut self, job: Job, gate: &G) -> Ran
         requires { self.old.tally.ran < 2 ^ 62 }
         ensures empty { result ≡ ran.Empty → IsEmpty self.old job }
@@ -138,6 +146,7 @@ impl<W: Insert + Drop, H: Halt + Drop> Worker<W, H> {
         let Self {
             alloc: _,
             shape: _,
+            unfilled: _unfilled,
             tracer: _tracer,
             laps: _,
             span: _,
@@ -146,6 +155,16 @@ impl<W: Insert + Drop, H: Halt + Drop> Worker<W, H> {
             tally: _,
         } = self;
         (writer, halt)
+    }
+
+    /// Fills a further piece of the memory of its tracer, and answers whether all of it is filled. It takes no memory.
+    pub(crate) fn fill_some(&mut self) -> bool
+        ensures { self.new ≡ self.old }
+    {
+        match &mut self.unfilled {
+            Some(unfilled) => unfilled.fill_some(),
+            None => true,
+        }
     }
 
     /// Whether its halt says to stop.
@@ -171,19 +190,26 @@ impl<W: Insert + Drop, H: Halt + Drop> Worker<W, H> {
         if job.prev.shape() != self.shape || job.last.shape() != self.shape {
             return Ran::Empty;
         }
+        make_tracer(&mut self.unfilled, &mut self.tracer);
+        let Some(tracer) = &mut self.tracer else {
+            unreachable!()
+        };
         let ticket = job.ticket;
-        let traced = trace_job(&mut self.tracer, &mut self.halt, job, self.laps, self.span);
+        let traced = trace_job(tracer, &mut self.halt, job, self.laps, self.span);
         match traced {
-            Ok(steps) => insert(
-                self.alloc,
-                &mut self.tracer,
-                steps,
-                &mut self.writer,
-                ticket,
-                gate,
-            ),
+            Ok(steps) => insert(self.alloc, tracer, steps, &mut self.writer, ticket, gate),
             Err(ran) => ran,
         }
+    }
+}
+
+// Makes the tracer of its memory, where that was not done yet.
+fn make_tracer(unfilled: &mut Option<Unfilled>, tracer: &mut Option<Tracer>)
+    ensures made { (shape : Shape) → HasOwn shape unfilled.old tracer.old → HasTracer shape tracer.new }
+    ensures none { unfilled.new ≡ None }
+{
+    if let Some(memory) = unfilled.take() {
+        *tracer = Some(memory.into_tracer());
     }
 }
 

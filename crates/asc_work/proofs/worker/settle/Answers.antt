@@ -1,11 +1,9 @@
-use Rattle.std.proofs.Common.{◌≡◌, ℕ, ◌≤◌, true, false, Bool, sym, ◌∙◌, subst, arith}
-use Rattle.asc_depvec.specs.Tracer.{Tracing}
-use Rattle.asc_model.specs.State.{State}
+use Rattle.std.proofs.Common.{◌≡◌, true, false, Bool, sym, ◌∙◌, subst, arith}
 use Rattle.asc_model.specs.Reach.{reach_of}
 use Rattle.asc_model.proofs.Computing.{reaches_are_computed}
-use Rattle.asc_traj.specs.Trace.{StandsFor, MayStop, bounds_of, is_stopped, origin_of}
+use Rattle.asc_traj.specs.Trace.{MayStop, bounds_of, is_stopped, origin_of}
 use Rattle.asc_work.specs.Worker.{Missed}
-use Rattle.asc_work.proofs.Reaching.{stopped_later, start_of_none}
+use Rattle.asc_work.proofs.Reaching.{stopped_later}
 use Rattle.asc_work.proofs.worker.settle.Goals as goal
 
 pub returns-then-traced-gt0-clause-missed : goal.returns-then-traced-gt0-clause-missed
