@@ -13,13 +13,13 @@ use Rattle.asc_guess.specs.declared.kind.Kind.{Kind}
 use Rattle.asc_guess.specs.declared.kind.Kind.TheVariants.{Last}
 use Rattle.asc_guess.specs.Guess.{guess_of}
 use Rattle.asc_find.specs.declared.guessing.Guessing.{Guessing}
+use Rattle.asc_traj.specs.declared.made.Made.{Made}
+use Rattle.asc_traj.specs.declared.made.Made.TheVariants.{One, Empty, Stopped, Refused}
+use Rattle.asc_traj.specs.Made.{IsMade}
 use Rattle.asc_find.specs.Finder.{Tally}
 use Rattle.asc_find.specs.Serial.{Serial}
 use Rattle.asc_shard.specs.Content.{add}
-use Rattle.asc_run.specs.declared.made.Made.{Made}
-use Rattle.asc_run.specs.declared.made.Made.TheVariants.{One, Empty, Refused}
 use Rattle.asc_run.specs.Serial.{Task, tasks_of, bounds_at, serial_capacity, add_traced, add_trace, add_guess, after_tasks, visited, made_at}
-use Rattle.asc_run.specs.Made.{IsMade}
 use Rattle.asc_run.specs.SerialHelper.{SerialHelper, told_machine, jobs_at, issued_at, planned, refused_visit, passed_over, IsPlanned, settled}
 use Rattle.asc_run.specs.SerialInside.{MakesJob}
 
@@ -29,6 +29,7 @@ use Rattle.asc_run.specs.SerialInside.{MakesJob}
 abbrev content_after : List Entry → Made → List Entry
 content_after content (One entry) = add serial_capacity content (arc_value entry)
 content_after content Empty = content
+content_after content Stopped = content
 content_after content Refused = content
 
 add_traced-some : (content : List Entry) (n : ℕ) (traced : Option Entry) (e : Entry) → 0 < n → traced ≡ Some e → add_traced content n traced ≡ add serial_capacity content e
@@ -40,9 +41,10 @@ add_traced-zero content None = refl
 add_traced-zero content (Some e) = refl
 
 -- what was made of a guess is added, unless memory was wanting
-add-made : (bounds : Bounds) (content : List Entry) (guess : State) (made : Made) → IsMade bounds guess made → made ≢ Refused → content_after content made ≡ add_trace bounds content guess
+add-made : (bounds : Bounds) (content : List Entry) (guess : State) (made : Made) → IsMade bounds guess 0 0 made → made ≢ Refused → content_after content made ≡ add_trace bounds content guess
 add-made bounds content guess (One entry) m r = sym (add_traced-some content (reach_of bounds guess) (entry_of (reach_of bounds guess) guess) (arc_value entry) m.0 m.1)
-add-made bounds content guess Empty m r = sym (ap (λ n. add_traced content n (entry_of (reach_of bounds guess) guess)) m ∙ add_traced-zero content (entry_of (reach_of bounds guess) guess))
+add-made bounds content guess Empty m r = sym (ap (λ n. add_traced content n (entry_of (reach_of bounds guess) guess)) m.0 ∙ add_traced-zero content (entry_of (reach_of bounds guess) guess))
+add-made bounds content guess Stopped m r = let e : 0 ≡ 1 = m.1 in absurd (omega (arith, e))
 add-made bounds content guess Refused m r = absurd (r refl)
 
 -- ---- all jobs
@@ -76,7 +78,7 @@ content-more plan now i made w l m r prev last p q same below =
     let last_is : now.machine.last ≡ Some last = ap (λ (x : Serial). x.last) w.machine ∙ q in
     let guessing : now.machine.guessing ≡ plan.machine.guessing = ap (λ (x : Serial). x.guessing) w.machine in
     let here : get_or now.jobs i (task.0, task.1) ≡ (task.0, task.1) = ap (λ xs. get_or xs i (task.0, task.1)) w.jobs ∙ get_or_default plan.jobs i (task.0, task.1) d l in
-    let is = m prev last prev_is last_is task.0 task.1 here in
+    let is = m prev last prev_is last_is task.0 task.1 here r in
     let one = add-made (bounds_at now.machine.guessing last) now.machine.content (guess_of task.0 task.1 prev last) made is r in
     one
     ∙ ap (λ g. add_trace (bounds_at g last) now.machine.content (guess_of task.0 task.1 prev last)) guessing
@@ -100,6 +102,15 @@ works-settled plan now i Empty w l m = record {
   refused = w.refused;
   machine = w.machine;
   content = content-more plan now i Empty w l m (λ e. absurd (cc));
+  none = λ e. absurd (let x : ⊥ = omega arith in x);
+}
+works-settled plan now i Stopped w l m = record {
+  jobs = w.jobs;
+  tally = w.tally;
+  made = w.made;
+  refused = w.refused;
+  machine = w.machine;
+  content = content-more plan now i Stopped w l m (λ e. absurd (cc));
   none = λ e. absurd (let x : ⊥ = omega arith in x);
 }
 works-settled plan now i Refused w l m = record {

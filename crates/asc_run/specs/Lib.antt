@@ -7,7 +7,6 @@ pub mod Helped
 pub mod Way
 pub mod Walk
 pub mod SerialRun
-pub mod Made
 pub mod SerialHelper
 pub mod SerialInside
 pub mod Laws

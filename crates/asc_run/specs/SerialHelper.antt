@@ -5,11 +5,11 @@ use Rattle.asc_model.specs.Shape.{Shape}
 use Rattle.asc_model.specs.State.{State}
 use Rattle.asc_outside.specs.Outside.{one_more}
 use Rattle.asc_find.specs.declared.guessing.Guessing.{Guessing}
+use Rattle.asc_traj.specs.declared.made.Made.{Made}
+use Rattle.asc_traj.specs.declared.made.Made.TheVariants.{One, Empty, Stopped, Refused}
 use Rattle.asc_find.specs.Finder.{Tally, Plan}
 use Rattle.asc_find.specs.Serial.{Serial}
 use Rattle.asc_shard.specs.Content.{add}
-use Rattle.asc_run.specs.declared.made.Made.{Made}
-use Rattle.asc_run.specs.declared.made.Made.TheVariants.{One, Empty, Refused}
 use Rattle.asc_run.specs.Walk.{tally}
 use Rattle.asc_run.specs.SerialRun.{serial_of}
 use Rattle.asc_run.specs.Serial.{Task, tasks_of, serial_capacity}
@@ -75,4 +75,5 @@ settled h (One entry) = record h {
   machine = record h.machine { content = add serial_capacity h.machine.content (arc_value entry) };
 }
 settled h Empty = h
+settled h Stopped = h
 settled h Refused = record h { refused = one_more h.refused }

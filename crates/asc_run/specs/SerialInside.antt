@@ -1,17 +1,18 @@
 -- Words of private contracts: what a serial helper holds.
-use Rattle.std.specs.Prelude.{◌≡◌, ℕ, ◌+◌, ◌≤◌, ◌<◌, ◌^◌, ◌-◌, List, map, slice_index_or, vec_capacity, vec_len, Option, Some, None}
+use Rattle.std.specs.Prelude.{◌≡◌, ◌≢◌, ℕ, ◌+◌, ◌≤◌, ◌<◌, ◌^◌, ◌-◌, List, map, slice_index_or, vec_capacity, vec_len, Option, Some, None}
 use Rattle.std.specs.List.{flat_map, range_with_len}
 use Rattle.asc_model.specs.Shape.{Shape}
 use Rattle.asc_model.specs.State.{State}
 use Rattle.asc_guess.specs.declared.kind.Kind.{Kind}
 use Rattle.asc_guess.specs.Guess.{guess_of}
 use Rattle.asc_find.specs.declared.guessing.Guessing.{Guessing}
+use Rattle.asc_traj.specs.declared.made.Made.{Made}
+use Rattle.asc_traj.specs.declared.made.Made.TheVariants.{Refused}
+use Rattle.asc_traj.specs.Made.{IsMade}
 use Rattle.asc_run.specs.declared.seen.Seen.{Seen}
 use Rattle.asc_run.specs.declared.seen.Seen.TheVariants as seen
 use Rattle.asc_run.specs.declared.serial.Serial.TheInside.{Inside}
 use Rattle.asc_run.specs.Walk.{tally}
-use Rattle.asc_run.specs.declared.made.Made.{Made}
-use Rattle.asc_run.specs.Made.{IsMade}
 use Rattle.asc_run.specs.Serial.{Task, kinds_of, bounds_at, serial_capacity}
 use Rattle.asc_run.specs.SerialHelper.{SerialHelper}
 
@@ -68,8 +69,8 @@ pub record IsHelper (s : Inside) : Type 0 where
   pub few : vec_len s.jobs ≤ 128
   pub hits : s.hits ≤ s.asked
 
--- this became of a job of a helper
+-- this became of a job of a helper, unless memory was wanting
 abbrev pub MakesJob : SerialHelper → (i : ℕ) → Made → Type 0
 MakesJob h i made = (prev last : State) → h.machine.prev ≡ Some prev → h.machine.last ≡ Some last
     → (kind : Kind) (ahead : ℕ) → slice_index_or h.jobs i (kind, ahead) ≡ (kind, ahead)
-    → IsMade (bounds_at h.machine.guessing last) (guess_of kind ahead prev last) made
+    → made ≢ Refused → IsMade (bounds_at h.machine.guessing last) (guess_of kind ahead prev last) 0 0 made

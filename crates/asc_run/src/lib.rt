@@ -20,7 +20,6 @@ pub use helper::{Bare, Helper};
 pub use laws::{
     progress_is_plain, replies_determine_visits, rows_are_computed, serial_runs_are_one,
 };
-pub use made::Made;
 pub use process::Process;
 pub use recognised::Recognised;
 pub use serial::{MOST_AHEAD, MOST_JOBS, Serial};

@@ -1,29 +1,19 @@
-ghost use Rattle.std.specs.Prelude.{◌≡◌, ◌≤◌, IfOk};
+ghost use Rattle.std.specs.Prelude.{◌≡◌, ◌≢◌, ◌≤◌, IfOk};
 ghost use Rattle.asc_guess.specs.Guess.{guess_of};
+ghost use Rattle.asc_traj.specs.declared.made.Made.TheVariants as became;
+ghost use Rattle.asc_traj.specs.Made.{IsMade};
 ghost use Rattle.asc_run.specs.Serial.{bounds_at};
-ghost use Rattle.asc_run.specs.Made.{IsMade};
 
 use asc_depvec::Tracer;
 use asc_find::Guessing;
 use asc_guess::{Kind, guess};
 use asc_shape::{Guess, Snapshot};
-use asc_traj::{Entry, Never, Stop, trace};
+use asc_traj::{Entry, Made, Never, Stop};
 use std::alloc::{AllocError, Global};
 use std::sync::Arc;
 
-/// What became of a guess.
-#[derive(Drop)]
-pub enum Made {
-    /// The entry of its trace.
-    One(Arc<Entry>),
-    /// No step of it could be traced.
-    Empty,
-    /// Memory was wanting for the entry of its trace, or for a share of a snapshot.
-    Refused,
-}
-
 /// Guesses the state that is `ahead` visits after the last one, and traces it up to that one's pc. It costs what
-/// the trace touches, and what the tracer touched last.
+/// the trace touches, and what the tracer touched last. Where memory is wanting for a share of a snapshot it is refused too.
 pub(crate) fn make(
     alloc: Global,
     tracer: &mut Tracer,
@@ -39,8 +29,8 @@ pub(crate) fn make(
     requires cap { tracer.old.cap ≡ 4096 }
     requires laps { 1 ≤ guessing.now.laps }
     requires span { 1 ≤ guessing.now.span }
-    ensures made { IsMade (bounds_at guessing.now last.now.value)
-        (guess_of kind ahead prev.now.value last.now.value) result }
+    ensures made { result ≢ became.Refused → IsMade (bounds_at guessing.now last.now.value)
+        (guess_of kind ahead prev.now.value last.now.value) 0 0 result }
     ensures shape { tracer.new.shape ≡ tracer.old.shape }
     ensures own_shape { tracer.new.state.shape ≡ tracer.old.shape }
     ensures cap { tracer.new.cap ≡ tracer.old.cap }
@@ -50,18 +40,8 @@ pub(crate) fn make(
         laps: guessing.laps,
         span: guessing.span,
     };
-    let Ok(guess) = guess_from(kind, prev, last, ahead) else {
-        return Made::Refused;
-    };
-    // That it is a state, of the tracer's shape.
-    let _ = guess.shape();
-    tracer.start(guess);
-    let traced = trace(tracer, &stop, &mut Never);
-    if traced.steps == 0 {
-        return Made::Empty;
-    }
-    match Entry::of(alloc, tracer, traced.steps) {
-        Ok(entry) => Made::One(entry),
+    match guess_from(kind, prev, last, ahead) {
+        Ok(guess) => Entry::traced(alloc, tracer, guess, &stop, &mut Never),
         Err(_) => Made::Refused,
     }
 }

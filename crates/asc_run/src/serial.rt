@@ -7,15 +7,16 @@ ghost use Rattle.asc_run.specs.Serial.{serial_capacity};
 ghost use Rattle.asc_run.specs.SerialHelper.{IsPlanned, first_helper, plan_of, settled, told_machine};
 ghost use Rattle.asc_run.specs.SerialInside.{MakesJob, tasks_for};
 
+use crate::Helper;
 use crate::made::make;
 use crate::seen::Seen;
-use crate::{Helper, Made};
 use asc_depvec::Tracer;
 use asc_find::{Finder, Guessing};
 use asc_guess::{Kind, targets};
 use asc_outside::Memory;
 use asc_shape::{Shape, Snapshot, State};
 use asc_shard::Shard;
+use asc_traj::Made;
 use std::alloc::Global;
 use std::marker::Model;
 use std::sync::Arc;
@@ -164,7 +165,7 @@ impl Serial {
             Made::One(entry) => {
                 self.shard.insert(entry);
             }
-            Made::Empty => {}
+            Made::Empty | Made::Stopped => {}
             Made::Refused => self.refused = self.refused.saturating_add(1),
         }
     }

@@ -2,10 +2,11 @@ ghost use Rattle.std.specs.Prelude.{◌≤◌};
 
 use crate::serial::MOST_AHEAD;
 use crate::tests::{COUNTING, run};
-use crate::{Counts, Ended, Helper, MOST_STEPS, Made, Recognised, Serial, Settings};
+use crate::{Counts, Ended, Helper, MOST_STEPS, Recognised, Serial, Settings};
 use asc_find::{Finder, Guessing};
 use asc_guess::Kind;
 use asc_shape::{Shape, State};
+use asc_traj::Made;
 use std::marker::Brand;
 use std::process::Abort;
 use std::sync::ledger::Blank;
