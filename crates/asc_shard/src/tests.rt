@@ -1,12 +1,11 @@
 ghost use Rattle.std.specs.Prelude.{◌≡◌, ◌<◌, ◌≤◌, ◌+◌};
 ghost use Rattle.asc_outside.specs.Outside.{one_more};
-ghost use Rattle.asc_traj.specs.Trace.{StandsFor};
 
 use crate::find::Probes;
 use crate::{Inserted, MOST_CAPACITY, Shard};
 use asc_depvec::Tracer;
 use asc_shape::{Guess, Shape, Snapshot, State, Steps};
-use asc_traj::{Entry, Never, Stop, Traced, cells_of, trace};
+use asc_traj::{Entry, Made, Never, Stop, cells_of};
 use std::alloc::Global;
 use std::marker::Brand;
 use std::process::Abort;
@@ -68,30 +67,20 @@ fn loading_behind<R: Abort>(rt: &R, alloc: Global, x10: u32, behind: u32, word: 
     state
 }
 
-/// A trace of a state, until so many laps at 0x10008 or so many steps.
-fn traced<R: Abort>(rt: &R, alloc: Global, from: &State, laps: u64, span: u64) -> (Traced, Tracer)
-    ensures { StandsFor result.0.steps result.1 }
-{
+/// The entry of a state's trace, until so many laps at 0x10008 or so many steps.
+fn entry_of<R: Abort>(rt: &R, alloc: Global, from: &State, laps: u64, span: u64) -> Arc<Entry> {
     assert!(rt; laps >= 1 && span >= 1);
     let mut tracer = Tracer::new(alloc, from.shape(), 96).expect(rt, "memory");
     let guess = Guess::last(Snapshot::of(alloc, from).expect(rt, "memory"));
-    // That it is a state, of the same shape.
-    let _ = guess.shape();
-    tracer.start(guess);
     let stop = Stop {
         pc: 0x10008,
         laps,
         span,
     };
-    let traced = trace(&mut tracer, &stop, &mut Never);
-    (traced, tracer)
-}
-
-/// The entry of such a trace.
-fn entry_of<R: Abort>(rt: &R, alloc: Global, from: &State, laps: u64, span: u64) -> Arc<Entry> {
-    let (traced, mut tracer) = traced(rt, alloc, from, laps, span);
-    assert!(rt; traced.steps >= 1);
-    Entry::of(alloc, &mut tracer, traced.steps).expect(rt, "memory")
+    let Made::One(entry) = Entry::traced(alloc, &mut tracer, guess, &stop, &mut Never) else {
+        panic!(rt; "no entry")
+    };
+    entry
 }
 
 /// The entry of so many laps of the counting loop.
