@@ -8,7 +8,7 @@ ghost use Rattle.asc_model.specs.Step.{At};
 use asc_depvec::Tracer;
 use asc_outside::Memory;
 use asc_shape::{Guess, Snapshot, State};
-use asc_traj::{Entry, Never, Stop, trace};
+use asc_traj::{Entry, Made, Never, Stop};
 use std::alloc::Global;
 use std::sync::Arc;
 
@@ -21,14 +21,11 @@ pub fn entry_from(alloc: Global, state: &State, stop: &Stop) -> Result<Option<Ar
 {
     let mut tracer = Tracer::new(alloc, state.shape(), 4096)?;
     let guess = Guess::last(Snapshot::of(alloc, state)?);
-    // That it is a state, of the same shape.
-    let _ = guess.shape();
-    tracer.start(guess);
-    let traced = trace(&mut tracer, stop, &mut Never);
-    if traced.steps == 0 {
-        return Ok(None);
+    match Entry::traced(alloc, &mut tracer, guess, stop, &mut Never) {
+        Made::One(entry) => Ok(Some(entry)),
+        Made::Empty | Made::Stopped => Ok(None),
+        Made::Refused => Err(Memory),
     }
-    Ok(Some(Entry::of(alloc, &mut tracer, traced.steps)?))
 }
 
 /// Puts the first of these entries that matches a state, and answers how many steps it stands for.
