@@ -12,7 +12,8 @@ use Rattle.asc_cache.specs.Cache.{AreOpened, ShardReader, ShardReaders, ShardWri
 use Rattle.asc_live.specs.Due.{full_of}
 use Rattle.asc_live.specs.Laws.{new_plan}
 use Rattle.asc_live.specs.Live.{Live, IsLive, new_live, queue_of, plan_of}
-use Rattle.asc_live.specs.Crew.{IsWriterOf, Walks, WentBeside, shard_capacity}
+use Rattle.asc_shard.specs.Shard.{run_capacity}
+use Rattle.asc_live.specs.Crew.{IsWriterOf, Walks, WentBeside}
 use Rattle.asc_live.specs.declared.crew.Crew.{Crew}
 use Rattle.asc_live.specs.declared.crew.Worked.{Worked}
 use Rattle.asc_live.proofs.LawsHold.{guesses_are_counted}
@@ -80,7 +81,7 @@ went {many} guessing was now old new readers giver l k worked is none told good 
     }
 
 -- the reader of a shard that was opened with others is its writer's own
-own_readers : (shards : ℕ) (writers : List ShardWriter) (readers : List ShardReader) → AreOpened shards shard_capacity writers readers
+own_readers : (shards : ℕ) (writers : List ShardWriter) (readers : List ShardReader) → AreOpened shards run_capacity writers readers
     → All (IsWriterOf readers) writers
 own_readers shards writers readers o =
     λ k d l.
@@ -97,7 +98,7 @@ own_readers shards writers readers o =
     }
 
 pub own_readers_of : {ws : List ShardWriter} {rs : ShardReaders} (shards : ℕ) (writers : List ShardWriter) (readers : ShardReaders)
-    → writers ≡ ws → readers ≡ rs → AreOpened shards shard_capacity ws rs.readers → All (IsWriterOf readers.readers) writers
+    → writers ≡ ws → readers ≡ rs → AreOpened shards run_capacity ws rs.readers → All (IsWriterOf readers.readers) writers
 own_readers_of {ws = ws} {rs = rs} shards writers readers e f o =
-    own_readers shards writers readers.readers (subst (λ ws. AreOpened shards shard_capacity ws readers.readers) (sym e)
-    (subst (λ (r : ShardReaders). AreOpened shards shard_capacity ws r.readers) (sym f) o))
+    own_readers shards writers readers.readers (subst (λ ws. AreOpened shards run_capacity ws readers.readers) (sym e)
+    (subst (λ (r : ShardReaders). AreOpened shards run_capacity ws r.readers) (sym f) o))

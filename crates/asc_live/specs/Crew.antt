@@ -4,6 +4,7 @@ use Rattle.asc_model.specs.Shape.{Shape}
 use Rattle.asc_find.specs.declared.guessing.Guessing.{Guessing}
 use Rattle.asc_calls.specs.World.{Outside, BlamesOnly}
 use Rattle.asc_cache.specs.Cache.{IsOwnReader, ShardReader, ShardWriter}
+use Rattle.asc_shard.specs.Shard.{run_capacity}
 use Rattle.asc_run.specs.declared.walk.Ended.{Ended}
 use Rattle.asc_run.specs.Execution.{device_of}
 use Rattle.asc_run.specs.Helped.{Aid}
@@ -21,10 +22,6 @@ pub record IsNewAid (guessing : Guessing) (a : Aid) : Type 0 where
   pub refused : a.plan.refused ≡ 0
   pub full : a.plan.full ≡ 0
   pub seen_is : a.plan.seen ≡ Some (seen 0 guessing)
-
--- how many entries each worker's shard may hold
-abbrev pub shard_capacity : ℕ
-shard_capacity = 1024
 
 -- A walk that had not ended went to its end beside a crew, with a helper that came from first to last. Each job that was
 -- pushed is counted as run or as left.
@@ -68,7 +65,7 @@ HasBoundsOf shape guessing w = (w.shape ≡ shape) × (w.laps ≡ guessing.laps)
 -- one of these readers is that of a writer's shard, which may hold so many entries
 pub record IsWriterOf (readers : List ShardReader) (w : ShardWriter) : Type 0 where
   pub own : IsOwnReader w readers
-  pub capacity : w.capacity ≡ shard_capacity
+  pub capacity : w.capacity ≡ run_capacity
 
 -- this is what a crew was asked for by
 pub record IsAskedFor {R : Type 0} (shape : Shape) (guessing : Guessing) (crew : Crew) (r : Ready R) : Type 0 where

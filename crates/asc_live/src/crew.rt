@@ -13,15 +13,13 @@ use asc_jobs::{Giver, Jobs};
 use asc_outside::{Gate, Memory, Point, Sink, Source};
 use asc_run::{Ended, Helper, Walk};
 use asc_shape::{Shape, Steps};
+use asc_shard::RUN_CAPACITY;
 use asc_work::{Flag, Halter, TakenIn, Team, Worker};
 use crossbeam_utils::sync::Unparker;
 use std::alloc::Global;
 use std::sync::Wait;
 use std::sync::ledger::Ledger;
 use std::thread::Threads;
-
-/// How many entries each worker's shard may hold.
-const SHARD_CAPACITY: usize = 1024;
 
 /// How many workers run beside a walk, and how many jobs are kept for them.
 #[derive(Clone, Copy, Debug, PartialEq, Eq)]
@@ -126,7 +124,7 @@ fn open_crew<R: Wait + Copy + Drop>(
 {
     let (halter, flags) = Halter::open(alloc, crew.workers)?;
     let (giver, takers) = Jobs::open(alloc, crew.queue, crew.workers)?;
-    let (writers, readers) = Cache::open(alloc, rt, crew.workers, SHARD_CAPACITY)?.split();
+    let (writers, readers) = Cache::open(alloc, rt, crew.workers, RUN_CAPACITY)?.split();
     let workers = workers_of(alloc, shape, guessing, writers, flags)?;
     let (team, visit_wakers) = Team::new(alloc, &giver, workers, takers)?;
     let end_wakers = wakers_again(alloc, &visit_wakers)?;

@@ -19,7 +19,8 @@ use Rattle.asc_traj.specs.Made.{IsMade}
 use Rattle.asc_find.specs.Finder.{Tally}
 use Rattle.asc_find.specs.Serial.{Serial}
 use Rattle.asc_shard.specs.Content.{add}
-use Rattle.asc_run.specs.Serial.{Task, tasks_of, bounds_at, serial_capacity, add_traced, add_trace, add_guess, after_tasks, visited, made_at}
+use Rattle.asc_shard.specs.Shard.{run_capacity}
+use Rattle.asc_run.specs.Serial.{Task, tasks_of, bounds_at, add_traced, add_trace, add_guess, after_tasks, visited, made_at}
 use Rattle.asc_run.specs.SerialHelper.{SerialHelper, told_machine, jobs_at, issued_at, planned, refused_visit, passed_over, IsPlanned, settled}
 use Rattle.asc_run.specs.SerialInside.{MakesJob}
 
@@ -27,12 +28,12 @@ use Rattle.asc_run.specs.SerialInside.{MakesJob}
 
 -- the content after what became of a guess
 abbrev content_after : List Entry → Made → List Entry
-content_after content (One entry) = add serial_capacity content (arc_value entry)
+content_after content (One entry) = add run_capacity content (arc_value entry)
 content_after content Empty = content
 content_after content Stopped = content
 content_after content Refused = content
 
-add_traced-some : (content : List Entry) (n : ℕ) (traced : Option Entry) (e : Entry) → 0 < n → traced ≡ Some e → add_traced content n traced ≡ add serial_capacity content e
+add_traced-some : (content : List Entry) (n : ℕ) (traced : Option Entry) (e : Entry) → 0 < n → traced ≡ Some e → add_traced content n traced ≡ add run_capacity content e
 add_traced-some content zero traced e some is = absurd (let x : ⊥ = omega arith in x)
 add_traced-some content (suc n) traced e some is = ap (add_traced content (suc n)) is
 
@@ -91,7 +92,7 @@ works-settled plan now i (One entry) w l m = record {
   tally = w.tally;
   made = w.made;
   refused = w.refused;
-  machine = ap (λ (x : Serial). let y : Serial = record x { content = add serial_capacity now.machine.content (arc_value entry) } in y) w.machine;
+  machine = ap (λ (x : Serial). let y : Serial = record x { content = add run_capacity now.machine.content (arc_value entry) } in y) w.machine;
   content = content-more plan now i (One entry) w l m (λ e. absurd (cc));
   none = λ e. absurd (let x : ⊥ = omega arith in x);
 }

@@ -10,7 +10,9 @@ use Rattle.asc_guess.specs.declared.kind.Kind.TheVariants.{Last, Stride}
 use Rattle.asc_guess.specs.Guess.{guess_of, targets_of}
 use Rattle.asc_find.specs.declared.guessing.Guessing.{Guessing}
 use Rattle.asc_find.specs.Serial.{Serial}
+use Rattle.asc_traj.specs.Trace.{guess_bounds}
 use Rattle.asc_shard.specs.Content.{add}
+use Rattle.asc_shard.specs.Shard.{run_capacity}
 
 -- ---- guesses
 
@@ -29,19 +31,15 @@ tasks_of g issued number =
 
 -- ---- traces of guesses
 
--- how many entries are kept
-abbrev pub serial_capacity : ℕ
-serial_capacity = 1024
-
--- a trace of a guess ends at the pc of the last visit, and touches at most 4,096 places
+-- a trace of a guess ends at the pc of the last visit
 abbrev pub bounds_at : Guessing → (last : State) → Bounds
-bounds_at g last = record { pc = (view_of last).pc; laps = g.laps; span = g.span; cap = 4096 }
+bounds_at g last = guess_bounds (view_of last).pc g.laps g.span
 
 -- the content with an entry of so many steps, where there were such
 abbrev pub add_traced : List Entry → (steps : ℕ) → Option Entry → List Entry
 add_traced content steps None = content
 add_traced content zero (Some e) = content
-add_traced content (suc n) (Some e) = add serial_capacity content e
+add_traced content (suc n) (Some e) = add run_capacity content e
 
 -- the content with the entry of a trace of a state
 abbrev pub add_trace : Bounds → List Entry → State → List Entry

@@ -12,7 +12,8 @@ use Rattle.asc_find.specs.Serial.{Serial}
 use Rattle.asc_shard.specs.Content.{add}
 use Rattle.asc_run.specs.Walk.{tally}
 use Rattle.asc_run.specs.SerialRun.{serial_of}
-use Rattle.asc_run.specs.Serial.{Task, tasks_of, serial_capacity}
+use Rattle.asc_shard.specs.Shard.{run_capacity}
+use Rattle.asc_run.specs.Serial.{Task, tasks_of}
 
 -- the machine, the guesses that were planned at the last visit, and what was counted
 pub record SerialHelper : Type 0 where
@@ -72,7 +73,7 @@ IsPlanned number now old new =
 -- what became of a guess is noted: an entry is added
 abbrev pub settled : SerialHelper → Made → SerialHelper
 settled h (One entry) = record h {
-  machine = record h.machine { content = add serial_capacity h.machine.content (arc_value entry) };
+  machine = record h.machine { content = add run_capacity h.machine.content (arc_value entry) };
 }
 settled h Empty = h
 settled h Stopped = h

@@ -9,11 +9,13 @@ use Rattle.asc_find.specs.declared.guessing.Guessing.{Guessing}
 use Rattle.asc_traj.specs.declared.made.Made.{Made}
 use Rattle.asc_traj.specs.declared.made.Made.TheVariants.{Refused}
 use Rattle.asc_traj.specs.Made.{IsMade}
+use Rattle.asc_traj.specs.Trace.{trace_cap}
 use Rattle.asc_run.specs.declared.seen.Seen.{Seen}
 use Rattle.asc_run.specs.declared.seen.Seen.TheVariants as seen
 use Rattle.asc_run.specs.declared.serial.Serial.TheInside.{Inside}
 use Rattle.asc_run.specs.Walk.{tally}
-use Rattle.asc_run.specs.Serial.{Task, kinds_of, bounds_at, serial_capacity}
+use Rattle.asc_shard.specs.Shard.{run_capacity}
+use Rattle.asc_run.specs.Serial.{Task, kinds_of, bounds_at}
 use Rattle.asc_run.specs.SerialHelper.{SerialHelper}
 
 -- the state of the last visit, and that of the one before
@@ -59,8 +61,8 @@ pub record IsHelper (s : Inside) : Type 0 where
   pub seen : AreOfShape s.shape s.seen
   pub tracer_shape : s.tracer.shape ≡ s.shape
   pub state_shape : s.tracer.state.shape ≡ s.shape
-  pub cap : s.tracer.cap ≡ 4096
-  pub capacity : s.shard.capacity ≡ serial_capacity
+  pub cap : s.tracer.cap ≡ trace_cap
+  pub capacity : s.shard.capacity ≡ run_capacity
   pub laps : 1 ≤ s.guessing.laps
   pub span : 1 ≤ s.guessing.span
   pub ahead : s.guessing.ahead ≤ 64

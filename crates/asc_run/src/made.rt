@@ -2,6 +2,7 @@ ghost use Rattle.std.specs.Prelude.{◌≡◌, ◌≢◌, ◌≤◌, IfOk};
 ghost use Rattle.asc_guess.specs.Guess.{guess_of};
 ghost use Rattle.asc_traj.specs.declared.made.Made.TheVariants as became;
 ghost use Rattle.asc_traj.specs.Made.{IsMade};
+ghost use Rattle.asc_traj.specs.Trace.{trace_cap};
 ghost use Rattle.asc_run.specs.Serial.{bounds_at};
 
 use asc_depvec::Tracer;
@@ -26,7 +27,7 @@ pub(crate) fn make(
     requires prev { prev.now.value.shape ≡ last.now.value.shape }
     requires shape { last.now.value.shape ≡ tracer.old.shape }
     requires own_shape { tracer.old.state.shape ≡ tracer.old.shape }
-    requires cap { tracer.old.cap ≡ 4096 }
+    requires cap { tracer.old.cap ≡ trace_cap }
     requires laps { 1 ≤ guessing.now.laps }
     requires span { 1 ≤ guessing.now.span }
     ensures made { result ≢ became.Refused → IsMade (bounds_at guessing.now last.now.value)

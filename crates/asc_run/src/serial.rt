@@ -3,7 +3,7 @@ ghost use Rattle.asc_traj.specs.Jump.{IsJump};
 ghost use Rattle.asc_find.specs.Finder.{tally_after, Tells};
 ghost use Rattle.asc_find.specs.Serial.{Serial as machine, serial_reply};
 ghost use Rattle.asc_run.specs.Helped.{aid, Plans, VisitsMachine};
-ghost use Rattle.asc_run.specs.Serial.{serial_capacity};
+ghost use Rattle.asc_shard.specs.Shard.{run_capacity};
 ghost use Rattle.asc_run.specs.SerialHelper.{IsPlanned, first_helper, plan_of, settled, told_machine};
 ghost use Rattle.asc_run.specs.SerialInside.{MakesJob, tasks_for};
 
@@ -15,17 +15,11 @@ use asc_find::{Finder, Guessing};
 use asc_guess::{Kind, targets};
 use asc_outside::Memory;
 use asc_shape::{Shape, Snapshot, State};
-use asc_shard::Shard;
-use asc_traj::Made;
+use asc_shard::{RUN_CAPACITY, Shard};
+use asc_traj::{Made, TRACE_CAP};
 use std::alloc::Global;
 use std::marker::Model;
 use std::sync::Arc;
-
-/// How many entries are kept.
-const CAPACITY: usize = 1024;
-
-/// How many places a trace may touch.
-const TRACE_CAP: usize = 4096;
 
 /// The greatest number of visits ahead that may be guessed.
 pub const MOST_AHEAD: u32 = 64;
@@ -81,7 +75,7 @@ impl Serial {
         ensures { IfOk result (λ s. s ≡ first_helper shape guessing) }
     {
         let tracer = Tracer::new(alloc, shape, TRACE_CAP)?;
-        let shard = Shard::new(alloc, CAPACITY)?;
+        let shard = Shard::new(alloc, RUN_CAPACITY)?;
         let jobs = Vec::with_capacity(alloc, MOST_JOBS)?;
         Ok(Serial {
             alloc,
@@ -102,7 +96,7 @@ impl Serial {
 
     /// What it keeps.
     pub fn content(&self) -> &Shard
-        ensures { result.now ≡ record { held = self.now.machine.content; capacity = serial_capacity } }
+        ensures { result.now ≡ record { held = self.now.machine.content; capacity = run_capacity } }
     {
         &self.shard
     }

@@ -5,7 +5,7 @@ use Rattle.asc_model.specs.State.{State}
 use Rattle.asc_model.specs.Entry.{Entry, entry_of}
 use Rattle.asc_model.specs.Reach.{Bounds, IsReach}
 use Rattle.asc_traj.specs.Trace.{CountsAnswer, is_stopped}
-use Rattle.asc_show.specs.Visited.{bounds_of}
+use Rattle.asc_traj.specs.Trace.{guess_bounds}
 
 -- what never halts does not stop a trace
 never-stops : (stopped : Bool) → CountsAnswer 0 0 stopped → stopped ≡ false
@@ -16,7 +16,7 @@ abbrev bounds : (pc laps span cap : ℕ) → Bounds
 bounds pc laps span cap = record { pc = pc; laps = laps; span = span; cap = cap }
 
 pub lap-reach : (pc laps span cap n : ℕ) (start s : State) (why : Why) → (is_stopped why ≡ false → IsReach (bounds pc laps span cap) start n why) → CountsAnswer 0 0 (is_stopped why) → cap ≡ 4096 → start ≡ s
-    → IsReach (bounds_of pc laps span) s n why
+    → IsReach (guess_bounds pc laps span) s n why
 lap-reach pc laps span cap n start s why reach halt cap_is same =
     subst (λ k. IsReach (bounds pc laps span k) s n why) cap_is
     (subst (λ x. IsReach (bounds pc laps span cap) x n why) same (reach (never-stops (is_stopped why) halt)))

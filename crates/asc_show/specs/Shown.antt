@@ -16,7 +16,8 @@ use Rattle.asc_show.specs.declared.answer.Answer.TheVariants as answers
 use Rattle.asc_show.specs.declared.lap.Lap.{Lap}
 use Rattle.asc_show.specs.declared.request.Request.{Request}
 use Rattle.asc_show.specs.Text.{entry_text}
-use Rattle.asc_show.specs.Visited.{Comes, EndsBefore, IsLap, bounds_of}
+use Rattle.asc_traj.specs.Trace.{guess_bounds}
+use Rattle.asc_show.specs.Visited.{Comes, EndsBefore, IsLap}
 use Rattle.asc_show.specs.Asked.{Asks}
 
 -- ---- the status and the line of an answer
@@ -104,7 +105,7 @@ pub record ShowsLap (request : Request) (content : List ℕ) (old new : Outer) (
   pub before : count < request.line.limit
   pub left : new.left ≡ now.left
   pub steps : new.steps ≡ now.steps
-  pub is : IsLap (bounds_of request.pc request.line.laps request.line.span) now.state lap
+  pub is : IsLap (guess_bounds request.pc request.line.laps request.line.span) now.state lap
 
 -- The plain run of a file, up to the limit, ended so, and before that was at the address so often.
 pub record ShowsEnd (request : Request) (content : List ℕ) (old new : Outer) (ended : Ended) (visits : ℕ) : Type 0 where

@@ -32,10 +32,6 @@ abbrev pub EndsBefore : (limit address visits : ℕ) → (old new : World) → (
 EndsBefore limit address visits old new count ended =
     Goes limit (λ to run. visits_before address run to ≡ visits) old new count 0 ended
 
--- the bounds of a lap: a trace touches at most 4,096 places, as in `asc run`
-abbrev pub bounds_of : (pc laps span : ℕ) → Bounds
-bounds_of pc laps span = record { pc = pc; laps = laps; span = span; cap = 4096 }
-
 -- A trace of a state ends for this reason after so many steps, and their entry is this one, where there are any.
 pub record IsLap (bounds : Bounds) (s : State) (lap : Lap) : Type 0 where
   pub steps : ℕ

@@ -1,16 +1,14 @@
 //! The entry of a lap.
 ghost use Rattle.std.specs.Prelude.{◌≡◌, ◌≤◌, IfOk};
-ghost use Rattle.asc_show.specs.Visited.{IsLap, bounds_of};
+ghost use Rattle.asc_traj.specs.Trace.{guess_bounds};
+ghost use Rattle.asc_show.specs.Visited.{IsLap};
 
 use asc_depvec::Tracer;
 use asc_outside::Memory;
 use asc_shape::{Guess, Snapshot, State};
-use asc_traj::{Entry, Never, Stop, Why, trace};
+use asc_traj::{Entry, Never, Stop, TRACE_CAP, Why, trace};
 use std::alloc::Global;
 use std::sync::Arc;
-
-/// How many places a trace may touch, as in `asc run`.
-const PLACES: usize = 4096;
 
 /// What was traced from a state.
 #[derive(Drop)]
@@ -31,9 +29,9 @@ pub(crate) fn trace_lap(
 ) -> Result<Lap, Memory>
     requires laps { 1 ≤ laps }
     requires span { 1 ≤ span }
-    ensures { IfOk result (λ lap. IsLap (bounds_of pc laps span) state.now lap) }
+    ensures { IfOk result (λ lap. IsLap (guess_bounds pc laps span) state.now lap) }
 {
-    let mut tracer = Tracer::new(alloc, state.shape(), PLACES)?;
+    let mut tracer = Tracer::new(alloc, state.shape(), TRACE_CAP)?;
     let guess = Guess::last(Snapshot::of(alloc, state)?);
     // That it is a state, of the same shape.
     let _ = guess.shape();
