@@ -191,12 +191,23 @@ Pushes-left offers due p q none e room = record {
   refused = ap (λ (x : Pusher). x.refused) e;
 }
 
+-- no job is offered
+abbrev pub nothing : Due → Bool
+nothing d = false
+
+filter-none : (due : List Due) → filter nothing due ≡ []
+filter-none [] = refl
+filter-none (d ∷ due) = filter-none due
+
+pub Pushes-none-offered : (due : List Due) (p : Pusher) → p.giver.capacity ≤ length p.giver.pushed → Pushes nothing due p (record p { left = p.left + length due })
+Pushes-none-offered due p room = Pushes-left nothing due p _ (filter-none due) refl room
+
 -- a job of two copies asks for what their states say
 pub asks-same : (prev last : State) (ahead : ℕ) (kind : Kind) (ticket : ℕ) (a b : Arc State Global) → arc_value a ≡ prev → arc_value b ≡ last
     → due_of (record { ticket = ticket; prev = a; last = b; ahead = ahead; kind = kind }) ≡ record { prev = prev; last = last; ahead = ahead; kind = kind }
 asks-same prev last ahead kind ticket a b e f = λ i. record { prev = e i; last = f i; ahead = ahead; kind = kind }
 
-both-true : (a b : Bool) → a && b ≡ true → (a ≡ true) × (b ≡ true)
+pub both-true : (a b : Bool) → a && b ≡ true → (a ≡ true) × (b ≡ true)
 both-true true true e = (refl, refl)
 both-true true false e = absurd (cc)
 both-true false b e = absurd (cc)

@@ -1,6 +1,7 @@
 -- Up to which visit all were guessed.
 use Rattle.std.proofs.Common.{◌≡◌, inl, inr, not, ◌||◌, ◌∷◌, ◌++◌, ◌≤◌, ◌<◌, ◌+◌, ◌-◌, ◌*◌, ◌^◌, ◌==◌, ◌&&◌, ℕ, zero, suc, Bool, true, false, List, [], length, Option, Some, None, refl, sym, ap, ◌∙◌, subst, arith, nat_lt, if◌then◌else◌}
 use Rattle.std.specs.Prelude.{max}
+use Rattle.std.specs.Option.{is_some}
 use Rattle.std.proofs.lemmas.Bool.{le-ltb, lt-ltb}
 use Rattle.std.proofs.lemmas.Bool.Decides.{eqb_tells}
 use Rattle.asc_model.specs.State.{State}
@@ -15,8 +16,8 @@ use Rattle.asc_run.specs.Seen.{Sees, seen, newly_guessed, guesses_at}
 use Rattle.asc_run.proofs.Seeings.{newly-later, guesses_until-more}
 use Rattle.asc_live.specs.Budget.{Budget, pays}
 use Rattle.asc_live.specs.Due.{Due, Pusher, Pushes, full_of, is_filled, jobs_of, raised}
-use Rattle.asc_live.specs.Live.{Live, IsLive, HasSeen, Visits, queue_of, plan_of, charged, due_by, given_up, is_guessing, is_passed_over, issued_by, offers_at, seen_after}
-use Rattle.asc_live.proofs.Pushing.{Pushes-few, filled-is, full-is, pushed-length, room-more}
+use Rattle.asc_live.specs.Live.{Live, IsLive, HasSeen, Visits, queue_of, plan_of, charged, due_by, given_up, is_guessing, is_needless, is_passed_over, issued_by, offers_at, seen_after}
+use Rattle.asc_live.proofs.Pushing.{nothing, Pushes-few, Pushes-none-offered, both-true, filled-is, full-is, pushed-length, room-more}
 use Rattle.asc_live.proofs.Tasks.{kinds-few, twice, visit-length}
 
 -- whatever finder it asks, and whatever is left for visits of this cost
@@ -166,11 +167,11 @@ seen-was number refused n (Some b) e = elim (eqb_tells number (b + 1)) [
   | inr p ↦ absurd (untold' number n (number == b + 1) (refused == 0) p.0 e)
 ]
 
-pushes-sees : {F : Type 0} (n : ℕ) (now : State) (old : Live F) (p : Pusher) → IsLive old → HasSeen n old → is_guessing old.guessing ≡ true → (is_filled old.pusher.giver ≡ true → (last : State) × (old.last ≡ Some last))
-    → Pushes (offers_at (n + 1) old) (due_by (n + 1) old.last (Some now) old) old.pusher p → p.refused ≡ 0
+pushes-sees : {F : Type 0} (offers : Due → Bool) (n : ℕ) (now : State) (old : Live F) (p : Pusher) → IsLive old → HasSeen n old → is_guessing old.guessing ≡ true → (is_filled old.pusher.giver ≡ true → (last : State) × (old.last ≡ Some last))
+    → Pushes offers (due_by (n + 1) old.last (Some now) old) old.pusher p → p.refused ≡ 0
     → length p.giver.pushed + full_of p ≡ length old.pusher.giver.pushed + full_of old.pusher + guesses_at old.guessing (n + 1)
-pushes-sees n now old p q h on pair pushes none =
-    all-made (offers_at (n + 1) old) (due_by (n + 1) old.last (Some now) old) old.pusher p pushes h.refused none
+pushes-sees offers n now old p q h on pair pushes none =
+    all-made offers (due_by (n + 1) old.last (Some now) old) old.pusher p pushes h.refused none
     ∙ ap (λ m. length old.pusher.giver.pushed + full_of old.pusher + m) (due-seen n now old q h on pair)
 
 issued-none : {F : Type 0} (n : ℕ) (now : State) (old : Live F) → HasSeen n old → is_guessing old.guessing ≡ true → n + 1 < 2 → issued_by (n + 1) old.last (Some now) old ≡ 0
@@ -188,7 +189,7 @@ after-seen : {F : Type 0} (n pages : ℕ) (now : State) (old : Live F) (p : Push
 after-seen n pages now old p most q h on pair pushes none = record {
   most = most;
   refused = none;
-  guesses = pushes-sees n now old p q h on pair pushes none ∙ ap (λ m. m + guesses_at old.guessing (n + 1)) h.guesses ∙ sym (guesses_until-more old.guessing n);
+  guesses = pushes-sees (offers_at (n + 1) old) n now old p q h on pair pushes none ∙ ap (λ m. m + guesses_at old.guessing (n + 1)) h.guesses ∙ sym (guesses_until-more old.guessing n);
   first = λ z. absurd (let x : ⊥ = omega (arith, z) in x);
   later = λ _ some. inl (now, refl);
   none_issued = issued-none n now old h;
@@ -327,20 +328,92 @@ given_up-told number pages last old q room before told next same =
           ∙ (λ i. length old.pusher.giver.pushed + full_of old.pusher + guesses_at (is.1 i) (sym next i)),
     )
 
+-- ---- a visit that nobody needs
+
+-- what it leaves
+abbrev pub left-alone : {F : Type 0} → (number : ℕ) → State → (old : Live F) → Live F
+left-alone number now old = record (charged 0 old) {
+  issued = issued_by number old.last (Some now) old;
+  pusher = record old.pusher { left = old.pusher.left + length (due_by number old.last (Some now) old) };
+  seen = seen_after number old.pusher.refused old.seen;
+}
+
+some-kept : (o : Option State) → is_some o ≡ true → (last : State) × (o ≡ Some last)
+some-kept None e = absurd (cc)
+some-kept (Some last) e = (last, refl)
+
+-- the queue had been filled up, and a state is kept
+pub needless-is : {F : Type 0} (number : ℕ) (l : Live F) → is_needless number l ≡ true → (is_filled l.pusher.giver ≡ true) × ((last : State) × (l.last ≡ Some last))
+needless-is number l e =
+    let kept = both-true _ _ e in
+    let lone = both-true _ _ kept.0 in
+    ((both-true _ _ lone.0).0, some-kept l.last lone.1)
+
+left-pushes : {F : Type 0} (number : ℕ) (now : State) (old : Live F) → is_needless number old ≡ true → Pushes nothing (due_by number old.last (Some now) old) old.pusher (left-alone number now old).pusher
+left-pushes number now old e = Pushes-none-offered _ old.pusher (filled-is old.pusher.giver (needless-is number old e).0).1
+
+left-seen : {F : Type 0} (n : ℕ) (now : State) (old : Live F) → n + 1 ≤ 2 ^ 40 → IsLive old → HasSeen n old → is_guessing old.guessing ≡ true → is_needless (n + 1) old ≡ true → HasSeen (n + 1) (left-alone (n + 1) now old)
+left-seen n now old most q h on e =
+    let is = needless-is (n + 1) old e in
+    record {
+      most = most;
+      refused = h.refused;
+      guesses = pushes-sees nothing n now old (left-alone (n + 1) now old).pusher q h on (λ _. is.1) (left-pushes (n + 1) now old e) h.refused
+          ∙ ap (λ m. m + guesses_at old.guessing (n + 1)) h.guesses ∙ sym (guesses_until-more old.guessing n);
+      first = λ z. absurd (let x : ⊥ = omega (arith, z) in x);
+      later = λ _ some. inr is.0;
+      none_issued = issued-none n now old h;
+      issued = λ on. issued-some n now old h on (λ _. is.1);
+    }
+
+pub left-live : {F : Type 0} (number : ℕ) (now : State) (old : Live F) → number ≤ 2 ^ 40 → IsLive old → is_guessing old.guessing ≡ true → is_needless number old ≡ true → IsLive (left-alone number now old)
+left-live number now old most q on e = record {
+  least = q.least;
+  most = q.most;
+  issued = issued-small number old.last now old most q.most q.issued;
+  price = q.price;
+  room = room-after nothing (due_by number old.last (Some now) old) old.pusher (left-alone number now old).pusher (left-pushes number now old e) q.room;
+  seen = λ n f.
+      let was = seen-was number old.pusher.refused n old.seen f in
+      subst (λ m. HasSeen m (left-alone number now old)) (sym was.2.1.1)
+      (subst (λ m. HasSeen m (left-alone m now old)) (sym was.2.0)
+      (left-seen was.0 now old (omega (arith, most, was.2.0)) q (q.seen was.0 was.1) on (subst (λ m. is_needless m old ≡ true) was.2.0 e)));
+}
+
+left-plans : {F : Type 0} (number : ℕ) (now : State) (old : Live F) → IsLive old → is_needless number old ≡ true → Plans 1 (plan_of old) (plan_of (left-alone number now old))
+left-plans number now old q e =
+    let grown = Pushes-few nothing _ _ _ (left-pushes number now old e) in
+    let few = due-few number old.last now old q.most in
+    record { made = grown.0; full = grown.1.0; few = (let x = grown.1.1 in omega (arith, x, few)); refused = omega arith; queue = refl }
+
+left-told : {F : Type 0} (number : ℕ) (now : State) (old : Live F) → IsLive old → is_guessing old.guessing ≡ true → is_needless number old ≡ true → Sees number (plan_of old) (plan_of (left-alone number now old))
+left-told number now old q on e before told next same =
+    let is = told-is old.seen old.guessing before told in
+    let h = q.seen before.number is.0 in
+    let p = (left-alone number now old).pusher in
+    let pushes = subst (λ m. Pushes nothing (due_by m old.last (Some now) old) old.pusher p) next (left-pushes number now old e) in
+    let seen_is : seen_after number old.pusher.refused old.seen ≡ Some number = (λ i. seen_after (next i) (h.refused i) (is.0 i)) ∙ seen-next before.number ∙ ap Some (sym next) in (
+      ap (λ (o : Option ℕ). elim o [ Some m ↦ Some (seen m old.guessing) | None ↦ None ]) seen_is ∙ ap (λ g. Some (seen number g)) is.1,
+      pushes-sees nothing before.number now old p q h on (λ _. (needless-is number old e).1) pushes h.refused
+          ∙ (λ i. length old.pusher.giver.pushed + full_of old.pusher + guesses_at (is.1 i) (sym next i)),
+    )
+
 -- ---- any visit
 
 -- what a visit leaves is such a helper
 pub visit-live : {F : Type 0} (number pages : ℕ) (now : State) (old new : Live F) → number ≤ 2 ^ 40 → IsLive old → Visits number pages now old new → IsLive new
 visit-live number pages now old new most q (inl v) = subst IsLive (sym v.rest) (given_up-live number None (charged pages old) most (charged-live pages old q) (passed-filled old v.passed))
-visit-live number pages now old new most q (inr (inl v)) = subst IsLive (sym v.rest) (given_up-live number (Some now) (charged pages old) most (charged-live pages old q) (λ on. v.filled))
-visit-live number pages now old new most q (inr (inr (inl v))) = subst IsLive (sym v.rest) (after-live number pages now old new.pusher most q (is-on old v.made) v.pair v.pushes)
-visit-live number pages now old new most q (inr (inr (inr v))) = subst IsLive (sym v.rest) (record { least = q.least; most = q.most; issued = q.issued; price = q.price; room = q.room; seen = λ n e. absurd (cc) })
+visit-live number pages now old new most q (inr (inl v)) = subst IsLive (sym v.rest) (left-live number now old most q (is-on old v.made) v.needless)
+visit-live number pages now old new most q (inr (inr (inl v))) = subst IsLive (sym v.rest) (given_up-live number (Some now) (charged pages old) most (charged-live pages old q) (λ on. v.filled))
+visit-live number pages now old new most q (inr (inr (inr (inl v)))) = subst IsLive (sym v.rest) (after-live number pages now old new.pusher most q (is-on old v.made) v.pair v.pushes)
+visit-live number pages now old new most q (inr (inr (inr (inr v)))) = subst IsLive (sym v.rest) (record { least = q.least; most = q.most; issued = q.issued; price = q.price; room = q.room; seen = λ n e. absurd (cc) })
 
 -- it makes at most 128 guesses
 pub visit-plans : {F : Type 0} (number pages : ℕ) (now : State) (old new : Live F) → IsLive old → Visits number pages now old new → Plans 1 (plan_of old) (plan_of new)
 visit-plans number pages now old new q (inl v) = subst (λ l. Plans 1 (plan_of old) (plan_of l)) (sym v.rest) (given_up-plans number pages None old)
-visit-plans number pages now old new q (inr (inl v)) = subst (λ l. Plans 1 (plan_of old) (plan_of l)) (sym v.rest) (given_up-plans number pages (Some now) old)
-visit-plans number pages now old new q (inr (inr (inl v))) =
+visit-plans number pages now old new q (inr (inl v)) = subst (λ l. Plans 1 (plan_of old) (plan_of l)) (sym v.rest) (left-plans number now old q v.needless)
+visit-plans number pages now old new q (inr (inr (inl v))) = subst (λ l. Plans 1 (plan_of old) (plan_of l)) (sym v.rest) (given_up-plans number pages (Some now) old)
+visit-plans number pages now old new q (inr (inr (inr (inl v)))) =
     let grown = Pushes-few (offers_at number old) _ _ _ v.pushes in
     let few = due-few number old.last now old q.most in
     record {
@@ -350,13 +423,14 @@ visit-plans number pages now old new q (inr (inr (inl v))) =
       refused = subst (λ n. old.pusher.refused ≤ n) (sym v.pushes.refused) (raised-grows old.pusher.refused v.pushes.wanting);
       queue = ap (λ (giver : Giver). Some (queue_of giver)) v.pushes.giver;
     }
-visit-plans number pages now old new q (inr (inr (inr v))) = subst (λ l. Plans 1 (plan_of old) (plan_of l)) (sym v.rest) (record { made = omega arith; full = omega arith; few = omega arith; refused = omega arith; queue = refl })
+visit-plans number pages now old new q (inr (inr (inr (inr v)))) = subst (λ l. Plans 1 (plan_of old) (plan_of l)) (sym v.rest) (record { made = omega arith; full = omega arith; few = omega arith; refused = omega arith; queue = refl })
 
 -- it is told of, where the one before was
 pub visit-sees : {F : Type 0} (number pages : ℕ) (now : State) (old new : Live F) → IsLive old → Visits number pages now old new → Sees number (plan_of old) (plan_of new)
 visit-sees {F} number pages now old new q (inl v) before told next same = subst (λ l. Sees number (plan_of old) (plan_of l)) (sym v.rest) (given_up-told number pages None old q (passed-filled old v.passed)) before told next same
-visit-sees {F} number pages now old new q (inr (inl v)) before told next same = subst (λ l. Sees number (plan_of old) (plan_of l)) (sym v.rest) (given_up-told number pages (Some now) old q (λ on. v.filled)) before told next same
-visit-sees {F} number pages now old new q (inr (inr (inl v))) before told next same =
+visit-sees {F} number pages now old new q (inr (inl v)) before told next same = subst (λ l. Sees number (plan_of old) (plan_of l)) (sym v.rest) (left-told number now old q (is-on old v.made) v.needless) before told next same
+visit-sees {F} number pages now old new q (inr (inr (inl v))) before told next same = subst (λ l. Sees number (plan_of old) (plan_of l)) (sym v.rest) (given_up-told number pages (Some now) old q (λ on. v.filled)) before told next same
+visit-sees {F} number pages now old new q (inr (inr (inr (inl v)))) before told next same =
     let is = told-is old.seen old.guessing before told in
     let h = q.seen before.number is.0 in
     let none = same ∙ h.refused in
@@ -364,10 +438,10 @@ visit-sees {F} number pages now old new q (inr (inr (inl v))) before told next s
     let seen_is : new.seen ≡ Some number = ap (λ (l : Live F). l.seen) v.rest ∙ (λ i. seen_after (next i) (none i) (is.0 i)) ∙ seen-next before.number ∙ ap Some (sym next) in
     let guessing_is : new.guessing ≡ before.guessing = ap (λ (l : Live F). l.guessing) v.rest ∙ is.1 in (
       ap (λ (o : Option ℕ). elim o [ Some m ↦ Some (seen m new.guessing) | None ↦ None ]) seen_is ∙ ap (λ g. Some (seen number g)) guessing_is,
-      pushes-sees before.number now old new.pusher q h (is-on old v.made) v.pair pushes none
+      pushes-sees (offers_at (before.number + 1) old) before.number now old new.pusher q h (is-on old v.made) v.pair pushes none
           ∙ (λ i. length old.pusher.giver.pushed + full_of old.pusher + guesses_at (is.1 i) (sym next i)),
     )
-visit-sees {F} number pages now old new q (inr (inr (inr v))) before told next same =
+visit-sees {F} number pages now old new q (inr (inr (inr (inr v)))) before told next same =
     let is = told-is old.seen old.guessing before told in
     let h = q.seen before.number is.0 in
     let rose : new.pusher.refused ≡ one_more old.pusher.refused = ap (λ (l : Live F). l.pusher.refused) v.rest in

@@ -36,7 +36,7 @@ targets-few issued number ahead start (suc n) e = let is = targets-are issued nu
 pub targets-near : (issued number ahead start n : ℕ) → range_with_len start n ≡ targets_of issued number ahead → 0 < n → start + n ≤ number + ahead + 1
 targets-near issued number ahead start n e some = let is = targets-are issued number ahead start n e some in let m = is.1 in let s = is.0 in let a : number ≤ max issued number = omega arith in omega (arith, s, m, a)
 
-range-more : (a n j : ℕ) → a + n ≡ j → range_with_len a (n + 1) ≡ range_with_len a n ++ j ∷ []
+pub range-more : (a n j : ℕ) → a + n ≡ j → range_with_len a (n + 1) ≡ range_with_len a n ++ j ∷ []
 range-more a zero j e = ap (λ x. x ∷ []) (let f : a ≡ j = omega (arith, e) in f)
 range-more a (suc n) j e = ap (range_with_len a) (let s : suc n + 1 ≡ suc (n + 1) = omega arith in s) ∙ ap (λ xs. a ∷ xs) (range-more (a + 1) n j (omega (arith, e)))
 
@@ -96,6 +96,17 @@ visit-by false prev last g number start n = jobs-length prev last g number start
 pub visit-length : (prev last : State) (g : Guessing) (issued number : ℕ)
     → length (jobs_of prev last (tasks_of g issued number)) ≡ length (kinds_of g) * (if nat_lt number 2 then 0 else number + g.ahead - max issued number)
 visit-length prev last g issued number = visit-by (nat_lt number 2) prev last g number (max issued number + 1) (number + g.ahead - max issued number)
+
+targets-count-by : (none : Bool) (a b n m : ℕ) → range_with_len a n ≡ (if none then [] else range_with_len b m) → n ≡ (if none then 0 else m)
+targets-count-by true a b n m e = sym (length-range_with_len a n) ∙ ap length e
+targets-count-by false a b n m e = sym (length-range_with_len a n) ∙ ap length e ∙ length-range_with_len b m
+
+-- by its targets
+pub targets-length : (prev last : State) (g : Guessing) (issued number start n : ℕ) → range_with_len start n ≡ targets_of issued number g.ahead
+    → length (kinds_of g) * n ≡ length (jobs_of prev last (tasks_of g issued number))
+targets-length prev last g issued number start n e =
+    ap (λ m. length (kinds_of g) * m) (targets-count-by (nat_lt number 2) start (max issued number + 1) n (number + g.ahead - max issued number) e)
+    ∙ sym (visit-length prev last g issued number)
 
 -- the jobs of both kinds, one after the other
 pub Pushes-kinds : (a b : Bool) (prev last : State) (ahead : ℕ) (p q r : Pusher)

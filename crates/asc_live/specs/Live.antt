@@ -1,17 +1,20 @@
 -- A helper that has others do what it guesses.
-use Rattle.std.specs.Prelude.{◌≡◌, ◌⊎◌, ℕ, ◌+◌, ◌/◌, ◌^◌, ◌≤◌, ◌<◌, nat_lt, ◌==◌, ◌&&◌, ◌||◌, Bool, true, false, List, [], length, Option, Some, None, if◌then◌else◌}
+use Rattle.std.specs.Prelude.{◌≡◌, ◌⊎◌, ℕ, ◌+◌, ◌/◌, ◌^◌, ◌≤◌, ◌<◌, nat_lt, ◌==◌, ◌&&◌, ◌||◌, not, Bool, true, false, List, [], length, Option, Some, None, if◌then◌else◌}
 use Rattle.std.specs.Global.{Global}
+use Rattle.std.specs.List.{list_any}
+use Rattle.std.specs.Option.{is_some}
 use Rattle.std.specs.declared.sync.Arc.{Arc}
 use Rattle.asc_model.specs.Shape.{length_of}
 use Rattle.asc_model.specs.State.{State}
 use Rattle.asc_outside.specs.Outside.{one_more}
+use Rattle.asc_guess.specs.Guess.{targets_of}
 use Rattle.asc_jobs.specs.Jobs.{Giver}
 use Rattle.asc_find.specs.declared.guessing.Guessing.{Guessing}
 use Rattle.asc_find.specs.Finder.{Plan, Queue}
 use Rattle.asc_run.specs.Serial.{kinds_of, tasks_of}
 use Rattle.asc_run.specs.Seen.{seen, guesses_until}
 use Rattle.asc_live.specs.Budget.{Budget, new_budget, passes, after_visit, visit_cost}
-use Rattle.asc_live.specs.Due.{Due, Pusher, Pushes, new_pusher, full_of, is_filled, is_offered, jobs_of}
+use Rattle.asc_live.specs.Due.{Due, Pusher, Pushes, new_pusher, full_of, is_filled, is_for_workers, is_offered, jobs_of}
 
 -- the helper of a walk that has workers beside it
 pub record Live (F : Type 0) : Type 0 where
@@ -109,6 +112,12 @@ is_guessing g = g.last || g.stride
 abbrev pub is_passed_over : {F : Type 0} → Live F → Bool
 is_passed_over l = passes (is_guessing l.guessing) (is_filled l.pusher.giver) l.budget
 
+-- Whether nobody needs the state of a visit: the queue had been filled up, guesses go by the last state alone, one is kept,
+-- and none of the visits that are to be guessed is the workers'.
+abbrev pub is_needless : {F : Type 0} → (number : ℕ) → Live F → Bool
+is_needless number l = is_filled l.pusher.giver && not l.guessing.stride && is_some l.last
+    && not (list_any (is_for_workers l.workers) (targets_of l.issued number l.guessing.ahead))
+
 -- one whose budget was charged for a visit that copies so many pages, where it pays for it
 abbrev pub charged : {F : Type 0} → (pages : ℕ) → Live F → Live F
 charged pages l =
@@ -145,10 +154,21 @@ pub record BeginsRow {F : Type 0} (number pages : ℕ) (now : State) (old new : 
   pub alone : old.last ≡ None
   pub rest : new ≡ given_up number (Some now) (charged pages old)
 
+-- A visit keeps no state, since nobody needs it. It copies no page, and the guesses that are due are left to the walk.
+pub record Leaves {F : Type 0} (number : ℕ) (now : State) (old new : Live F) : Type 0 where
+  pub made : is_passed_over old ≡ false
+  pub needless : is_needless number old ≡ true
+  pub rest : new ≡ record (charged 0 old) {
+    issued = issued_by number old.last (Some now) old;
+    pusher = record old.pusher { left = old.pusher.left + length (due_by number old.last (Some now) old) };
+    seen = seen_after number old.pusher.refused old.seen;
+  }
+
 -- At any other visit its state is kept, and the jobs that are due and offered are pushed, but where memory or room is
 -- wanting.
 pub record Keeps {F : Type 0} (number pages : ℕ) (now : State) (old new : Live F) : Type 0 where
   pub made : is_passed_over old ≡ false
+  pub needed : is_needless number old ≡ false
   pub pair : is_filled old.pusher.giver ≡ true → (last : State) × (old.last ≡ Some last)
   pub pushes : Pushes (offers_at number old) (due_by number old.last (Some now) old) old.pusher new.pusher
   pub rest : new ≡ record (charged pages old) {
@@ -159,15 +179,17 @@ pub record Keeps {F : Type 0} (number pages : ℕ) (now : State) (old new : Live
     seen = seen_after number new.pusher.refused old.seen;
   }
 
--- Memory is wanting for the state of a visit that is not passed over.
-pub record Refuses {F : Type 0} (pages : ℕ) (old new : Live F) : Type 0 where
+-- Memory is wanting for the state of a visit that is to be kept.
+pub record Refuses {F : Type 0} (number pages : ℕ) (old new : Live F) : Type 0 where
   pub made : is_passed_over old ≡ false
+  pub needed : is_needless number old ≡ false
   pub rest : new ≡ refused_visit (charged pages old)
 
 -- what a visit does, where so many pages of its state were written since the last one was kept
 abbrev pub Visits : {F : Type 0} → (number pages : ℕ) → State → (old new : Live F) → Type 0
 Visits number pages now old new = PassesOver number pages old new
-    ⊎ (BeginsRow number pages now old new ⊎ (Keeps number pages now old new ⊎ Refuses pages old new))
+    ⊎ (Leaves number now old new
+    ⊎ (BeginsRow number pages now old new ⊎ (Keeps number pages now old new ⊎ Refuses number pages old new)))
 
 -- and where these are some of the pages of its shape
 abbrev pub VisitsWritten : {F : Type 0} → (number : ℕ) → State → (old new : Live F) → Type 0

@@ -1,4 +1,6 @@
-ghost use Rattle.std.specs.Prelude.{◌≡◌, ◌⊎◌, ◌+◌, ◌<◌, ◌≤◌, ◌^◌, [], ◌∷◌, length, true, false, None, Some};
+ghost use Rattle.std.specs.Prelude.{◌≡◌, ◌⊎◌, ◌+◌, ◌/◌, ◌<◌, ◌≤◌, ◌^◌, [], ◌∷◌, length, true, false, None, Some};
+ghost use Rattle.asc_model.specs.Shape.{length_of};
+ghost use Rattle.asc_model.specs.State.{State as state};
 ghost use Rattle.asc_traj.specs.Jump.{IsJump};
 ghost use Rattle.asc_find.specs.Finder.{Tells, tally_after};
 ghost use Rattle.asc_find.specs.Serial.{Serial, serial_reply};
@@ -6,7 +8,7 @@ ghost use Rattle.asc_run.specs.Helped.{aid, Plans, VisitsMachine};
 ghost use Rattle.asc_run.specs.Seen.{Sees};
 ghost use Rattle.asc_run.specs.Serial.{kinds_of};
 ghost use Rattle.asc_live.specs.Laws.{new_plan};
-ghost use Rattle.asc_live.specs.Live.{IsLive, new_live, queue_of, plan_of, given_up, refused_visit, due_by, issued_by, is_guessing, offers_at, seen_after as seen_by, Visits, VisitsWritten};
+ghost use Rattle.asc_live.specs.Live.{IsLive, new_live, queue_of, plan_of, given_up, refused_visit, due_by, is_needless, issued_by, is_guessing, offers_at, seen_after as seen_by, Visits, VisitsWritten};
 ghost use Rattle.asc_live.specs.Due.{Pushes, full_of, is_filled};
 ghost use Rattle.asc_live.specs.Budget.{after_look_up};
 
@@ -14,6 +16,7 @@ use crate::budget::Budget;
 use crate::pusher::Pusher;
 use crate::share::Share;
 use asc_find::{Finder, Guessing};
+use asc_guess::targets;
 use asc_jobs::Giver;
 use asc_outside::{Gate, Point};
 use asc_run::Helper;
@@ -35,7 +38,8 @@ use std::sync::{Arc, Wait};
 /// kept, nothing is pushed, and the finder is asked for no step. Which visits are passed over changes no answer of a run.
 ///
 /// Of the guesses that are then due at the other visits, the workers' share is offered to them (`Share`). Those that are
-/// left to the walk count as full.
+/// left to the walk count as full. Where guesses go by the last state alone, a visit at which none is offered keeps no
+/// state, and later guesses go by the one before.
 ///
 /// Want of memory is counted, and changes no jump's being one.
 #[derive(Drop)]
@@ -183,6 +187,46 @@ impl<'a, F, G, R> Live<'a, F, G, R> {
         }
     }
 
+    // Which guesses are offered to the workers.
+    fn share(&self, filled: bool) -> Share
+        ensures { result ≡ record { workers = self.now.workers; filled = filled } }
+    {
+        Share {
+            workers: self.workers.len() as u64,
+            filled,
+        }
+    }
+
+    // Whether nobody needs the state of a visit: guesses go by the last state alone, and none is offered at it.
+    fn is_needless(&self, number: u64) -> bool
+        requires { number ≤ 2 ^ 40 }
+        ensures { result ≡ is_needless number self.now }
+    {
+        if !self.pusher.has_filled() || self.guessing.stride || self.last.is_none() {
+            return false;
+        }
+        let due = targets(self.issued, number, self.guessing.ahead);
+        self.share(true).offers_none(due.start, due.end)
+    }
+
+    // Leaves the guesses that are due at a visit to the walk, and keeps no state.
+    fn leave(&mut self, number: u64)
+        requires needless { is_needless number self.old ≡ true }
+        requires guesses { is_guessing self.old.guessing ≡ true }
+        requires number { number ≤ 2 ^ 40 }
+        requires full { full_of self.old.pusher < 2 ^ 62 }
+        requires seen { self.old.seen ≡ None }
+        ensures { (now : state) → self.new ≡ record self.old {
+          issued = issued_by number self.old.last (Some now) self.old;
+          pusher = record self.old.pusher {
+            left = self.old.pusher.left + length (due_by number self.old.last (Some now) self.old);
+          };
+        } }
+    {
+        self.pusher.leave_visit(&self.guessing, self.issued, number);
+        self.issued = number + u64::from(self.guessing.ahead);
+    }
+
     // No job of a visit is pushed, nor offered.
     fn give_up(&mut self, number: u64)
         requires seen { self.old.seen ≡ None }
@@ -199,9 +243,11 @@ impl<'a, F, G, R> Live<'a, F, G, R> {
 }
 
 impl<'a, F, G, R: Wait> Live<'a, F, G, R> {
-    // Makes a visit of a state of which so many pages were written since the last one was kept, or passes it over.
-    fn make_or_pass(&mut self, state: &mut State, number: u64, pages: usize)
+    // Makes a visit of a state of which so many pages are to be copied, or passes it over.
+    fn make_or_pass(&mut self, state: &mut State, number: u64, needless: bool, pages: usize)
         requires seen { self.old.seen ≡ None }
+        requires needless { needless ≡ is_needless number self.old }
+        requires none { needless ≡ true → pages ≡ 0 }
         requires pages { pages < 2 ^ 23 }
         requires number { number ≤ 2 ^ 40 }
         requires full { full_of self.old.pusher < 2 ^ 62 }
@@ -213,6 +259,8 @@ impl<'a, F, G, R: Wait> Live<'a, F, G, R> {
         if !self.budget.pay(guesses, filled, pages) {
             self.last = None;
             self.give_up(number);
+        } else if needless {
+            self.leave(number);
         } else if filled && self.last.is_none() {
             self.begin_row(state, number);
         } else if self.keep(state) {
@@ -234,6 +282,7 @@ impl<'a, F, G, R: Wait> Live<'a, F, G, R> {
           pusher = self.new.pusher;
         } }
     {
+        let share = self.share(filled);
         let Some(prev) = &self.prev else {
             return;
         };
@@ -241,10 +290,6 @@ impl<'a, F, G, R: Wait> Live<'a, F, G, R> {
             return;
         };
         let before = self.pusher.pushed();
-        let share = Share {
-            workers: self.workers.len() as u64,
-            filled,
-        };
         self.pusher
             .offer_visit(share, prev, last, &self.guessing, self.issued, number);
         self.issued = number + u64::from(self.guessing.ahead);
@@ -252,6 +297,14 @@ impl<'a, F, G, R: Wait> Live<'a, F, G, R> {
             self.wake_for(before, self.pusher.pushed());
         }
     }
+}
+
+// How many pages a visit copies: none where nobody needs its state.
+fn copied(state: &State, needless: bool) -> usize
+    ensures none { needless ≡ true → result ≡ 0 }
+    ensures most { result ≤ length_of state.now.shape / 1024 + 1 }
+{
+    if needless { 0 } else { state.changed_pages() }
 }
 
 /// Up to which visit all were guessed after one more, where so often memory was wanting.
@@ -318,6 +371,8 @@ impl<'a, F: Finder, G: Gate, R: Wait> Helper for Live<'a, F, G, R> {
     /// changed in the state since the last one, and two owners more of a copy for each job. The budget is charged for each
     /// page of that copy.
     ///
+    /// A visit at which none is offered keeps no state, where guesses go by the last state alone. It copies no page.
+    ///
     /// A visit that is passed over does none of this: one guess of each kind counts as not offered. So it does, once the
     /// queue had been filled up, at a visit that has no state before it, and only keeps its own. At the end of a visit the
     /// gate is passed at `Visit`.
@@ -338,8 +393,9 @@ impl<'a, F: Finder, G: Gate, R: Wait> Helper for Live<'a, F, G, R> {
         // That it is a state bounds how many pages there are.
         let _ = state.shape();
         let before = self.seen.take();
-        let pages = state.changed_pages();
-        self.make_or_pass(state, number, pages);
+        let needless = self.is_needless(number);
+        let pages = copied(state, needless);
+        self.make_or_pass(state, number, needless, pages);
         self.seen = seen_after(before, number, self.pusher.refused());
         self.gate.pass(Point::Visit, number);
     }

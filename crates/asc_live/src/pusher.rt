@@ -1,5 +1,6 @@
 ghost use Rattle.std.specs.Prelude.{◌≡◌, ◌+◌, ◌-◌, ◌<◌, ◌≤◌, ◌^◌, [], ◌∷◌, length, map, nat_lt, true, false, if◌then◌else◌, ℕ};
 ghost use Rattle.std.specs.Arc.{arc_value};
+ghost use Rattle.asc_model.specs.State.{State};
 ghost use Rattle.asc_guess.specs.declared.kind.Kind.{Kind as kind_of};
 ghost use Rattle.asc_outside.specs.Outside.{one_more};
 ghost use Rattle.asc_live.specs.Due.{Pushes, full_of, is_filled, is_offered, jobs_of, new_pusher, tasks_for};
@@ -110,6 +111,24 @@ impl<'a, R> Pusher<'a, R> {
         ensures { self.new ≡ record self.old { left = self.old.left + length (kinds_of guessing.now) } }
     {
         self.left += kinds(guessing);
+    }
+
+    /// Counts the guesses that are due at a visit as left to the walk. Once `MOST_JOBS` were pushed none is due.
+    pub(crate) fn leave_visit(&mut self, guessing: &Guessing, issued: u64, number: u64)
+        requires full { full_of self.old < 2 ^ 62 }
+        requires ahead { guessing.now.ahead ≤ 64 }
+        requires issued { issued ≤ 2 ^ 41 }
+        requires number { number ≤ 2 ^ 40 }
+        ensures { (prev last : State) → self.new ≡ record self.old {
+          left = self.old.left
+              + length (if nat_lt (length self.old.giver.pushed) (2 ^ 60)
+              then jobs_of prev last (tasks_of guessing.now issued number) else []);
+        } }
+    {
+        if self.pushed() < MOST_JOBS {
+            let due = targets(issued, number, guessing.ahead);
+            self.left += kinds(guessing) * (due.end - due.start);
+        }
     }
 
     /// Counts one guess of each kind that is on as due at a visit that is passed over, or that keeps its state alone.

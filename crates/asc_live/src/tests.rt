@@ -253,6 +253,58 @@ fn pages_are_charged(rt: HostRuntime) -> Result<(), Fail> {
     Ok(())
 }
 
+/// Visits where guesses go by the last state alone, and how many jobs are taken before each. There is room for all jobs.
+///
+/// With one worker visits 5, 7 and 9 offer no guess. So they keep no state: the jobs of visits 6 and 8 have those of visits
+/// 4 and 6 as the states before.
+static LEFT: [(u64, u64); 9] = [
+    (1, 0),
+    (2, 0),
+    (3, 1),
+    (4, 1),
+    (5, 1),
+    (6, 1),
+    (7, 1),
+    (8, 0),
+    (9, 1),
+];
+
+static LEFT_JOBS: [Row; 6] = [
+    (4, 8, 1, Kind::Last),
+    (4, 8, 2, Kind::Last),
+    (8, 12, 2, Kind::Last),
+    (12, 16, 2, Kind::Last),
+    (16, 24, 2, Kind::Last),
+    (24, 32, 2, Kind::Last),
+];
+
+#[test]
+fn states_are_left(rt: HostRuntime) -> Result<(), Fail> {
+    let alloc = rt.alloc();
+    let shape = Shape::new(65_536, 65_536).expect(&rt, "a good shape");
+    let mut state = State::new(alloc, shape)?;
+    let (giver, mut takers) = Jobs::open(alloc, 3, 1)?;
+    let mut taker = takers.pop().expect(&rt, "a taker");
+    let parker = Parker::new(alloc)?;
+    let mut workers = Vec::new(alloc);
+    workers.push(parker.unparker().clone()?)?;
+    let gate = Noting {
+        visit: AtomicU64::new(0),
+    };
+    let last = Guessing {
+        stride: false,
+        ..guessing(true)
+    };
+    let mut live = Live::new(alloc, &rt, &gate, Nothing::new(), giver, workers, last);
+    let mut rows = LEFT_JOBS.iter();
+    for &(number, taken) in &LEFT {
+        let _ = pop(&rt, &mut taker, &mut rows, taken, live.refused() == 0);
+        visit(&rt, &mut live, &gate, &mut state, number, 500_000);
+    }
+    assert!(rt; live.refused() > 0 || live.made() == 6 && live.full() == 3);
+    Ok(())
+}
+
 /// Where no kind of guess is on, each visit is passed over: nothing is pushed. No state is kept, so memory is never wanting.
 #[test]
 fn no_kinds(rt: HostRuntime) -> Result<(), Fail> {

@@ -9,22 +9,22 @@ pub invariant_of-self-2 : goal.invariant_of-self-2
 invariant_of-self-2 g c =
     let i = c.self-2.inside in
     let new = live i.finder i.guessing i.prev i.last i.issued i.pusher c.seen_after-self-inside.result (length i.workers.items) i.budget in
-    visit-live c.args.number c.changed_pages-pages.result c.args.state.now c.args.self.now new c.requires.number (search rules) (search rules)
+    visit-live c.args.number c.copied-pages.result c.args.state.now c.args.self.now new c.requires.number (search rules) (search rules)
 
 pub returns-clause-plan : goal.returns-clause-plan
 returns-clause-plan g c =
     let i = c.self-2.inside in
     let new = live i.finder i.guessing i.prev i.last i.issued i.pusher c.seen_after-self-inside.result (length i.workers.items) i.budget in
-    visit-plans c.args.number c.changed_pages-pages.result c.args.state.now c.args.self.now new (search rules) (search rules)
+    visit-plans c.args.number c.copied-pages.result c.args.state.now c.args.self.now new (search rules) (search rules)
 
 pub returns-clause-seen : goal.returns-clause-seen
 returns-clause-seen g c =
     let i = c.self-2.inside in
     let new = live i.finder i.guessing i.prev i.last i.issued i.pusher c.seen_after-self-inside.result (length i.workers.items) i.budget in
-    visit-sees c.args.number c.changed_pages-pages.result c.args.state.now c.args.self.now new (search rules) (search rules)
+    visit-sees c.args.number c.copied-pages.result c.args.state.now c.args.self.now new (search rules) (search rules)
 
 pub make_or_pass-requires-clause-pages : goal.make_or_pass-requires-clause-pages
-make_or_pass-requires-clause-pages g c = omega (arith, c.changed_pages-pages.ensures, pages-few c.args.state.now.shape c.shape.ensures.state.shape)
+make_or_pass-requires-clause-pages g c = omega (arith, c.copied-pages.ensures.most, pages-few c.args.state.now.shape c.shape.ensures.state.shape)
 
 pub returns-clause-visits : goal.returns-clause-visits
-returns-clause-visits g c = (c.changed_pages-pages.result, c.changed_pages-pages.ensures, search rules)
+returns-clause-visits g c = (c.copied-pages.result, c.copied-pages.ensures.most, search rules)
