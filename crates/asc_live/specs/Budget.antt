@@ -17,15 +17,15 @@ pub record Budget : Type 0 where
 
 -- what a visit is charged for its jobs
 abbrev pub visit_steps : ℕ
-visit_steps = 5000
+visit_steps = 2000
 
 -- and for a look-up in the list of each worker
 abbrev pub worker_steps : ℕ
-worker_steps = 1000
+worker_steps = 500
 
 -- and for each page that it copies
 abbrev pub page_steps : ℕ
-page_steps = 64
+page_steps = 256
 
 -- each step that was jumped over counts as so many more: it was saved, and visits may cost what they save
 abbrev pub saved_steps : ℕ

@@ -4,13 +4,13 @@ ghost use Rattle.asc_live.specs.Budget.{new_budget, passes, after_visit, after_l
 use std::marker::Model;
 
 /// What a visit is charged for its jobs, in steps of the guest. It is several times what most visits take.
-const VISIT_STEPS: u64 = 5_000;
+const VISIT_STEPS: u64 = 2_000;
 
 /// What it is charged for a look-up in the list of each worker.
-const WORKER_STEPS: u64 = 1_000;
+const WORKER_STEPS: u64 = 500;
 
 /// What it is charged for each page that it copies.
-const PAGE_STEPS: u64 = 64;
+const PAGE_STEPS: u64 = 256;
 
 /// So many workers are charged for at most.
 const WORKERS: usize = 64;
@@ -18,8 +18,8 @@ const WORKERS: usize = 64;
 /// A step that was jumped over counts as so many more: it is saved, and visits may cost what they save.
 const SAVED: u64 = 3;
 
-/// So many visits that copy no page the budget pays for at most. After visits that were passed over it first grows to that again. A guess
-/// wants the states of two visits in a row, and workers that are awake.
+/// So many visits that copy no page the budget pays for at most. After visits that were passed over it first grows to that
+/// again. A guess wants the states of two visits in a row, and workers that are awake.
 const ROW: u64 = 32;
 
 /// What the visits of a walk may cost. It changes no answer of a run.

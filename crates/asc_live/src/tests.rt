@@ -44,7 +44,7 @@ type Row = (u32, u32, u32, Kind);
 /// From visit 3 on the queue had been filled up, and the share of one worker is offered: the guesses of visits of even
 /// number. So visits 4, 6 and 8 offer theirs, and 5 and 7 do not, where there is room too.
 ///
-/// With one worker a visit costs 6,000 steps, and the budget is 192,000 at most, with which it begins. So 32 visits are
+/// With one worker a visit costs 2,500 steps, and the budget is 80,000 at most, with which it begins. So 32 visits are
 /// made: the last of them finds room for one job. Visits 33 to 69 are passed over, whatever room there is. The 200,000
 /// steps fill the budget again: visit 70 keeps its state, and those after it are made. Of these 72 offers its guesses.
 static VISITS: [(u64, u64, u64, u64, u64); 14] = [
@@ -197,21 +197,21 @@ fn visits(rt: HostRuntime) -> Result<(), Fail> {
     Ok(())
 }
 
-/// Visits of a state of 1 MiB that was written as a whole before each of them. A row has the visit's number, the steps left
+/// Visits of a state of 96 KiB that was written as a whole before each of them. A row has the visit's number, the steps left
 /// at its look-up, and how many jobs were pushed after it. There is always room for one, from visit 3 on.
 ///
-/// With one worker, and 1,025 pages to copy, a visit is charged 71,600 steps. Of 192,000 the third visit takes 22,800 more
-/// than there are. So visit 4 is passed over, and so is visit 5, since 214,799 steps leave 191,999. One step more makes that
-/// a row: visit 6 keeps its state. Visit 7 offers no guess, and visit 8 two.
+/// With one worker, and 97 pages to copy, a visit is charged 27,332 steps. Of 80,000 the third visit takes 1,996 more than
+/// there are. So visit 4 is passed over, and so is visit 5, since 81,995 steps leave 79,999. One step more makes that a row:
+/// visit 6 keeps its state. Visit 7 offers no guess, and visit 8 two.
 static WRITTEN: [(u64, u64, u64); 8] = [
     (1, 500_000, 0),
     (2, 500_000, 3),
     (3, 500_000, 3),
-    (4, 285_201, 3),
-    (5, 285_200, 3),
-    (6, 285_200, 3),
-    (7, 285_200, 3),
-    (8, 285_200, 5),
+    (4, 418_005, 3),
+    (5, 418_004, 3),
+    (6, 418_004, 3),
+    (7, 418_004, 3),
+    (8, 418_004, 5),
 ];
 
 /// Writes zeros into all memory.
@@ -225,7 +225,7 @@ fn write(state: &mut State) {
 #[test]
 fn pages_are_charged(rt: HostRuntime) -> Result<(), Fail> {
     let alloc = rt.alloc();
-    let shape = Shape::new(65_536, 1 << 20).expect(&rt, "a good shape");
+    let shape = Shape::new(65_536, 98_304).expect(&rt, "a good shape");
     let mut state = State::new(alloc, shape)?;
     let (giver, mut takers) = Jobs::open(alloc, 3, 1)?;
     let mut taker = takers.pop().expect(&rt, "a taker");
@@ -342,30 +342,31 @@ fn paid<R: Abort>(rt: &R, budget: &mut Budget) -> u64 {
     visits
 }
 
-/// With 3 workers a visit costs 8,000 steps, and a row 256,000. The budget grows to that by 100,000 steps, and by 3 more for
-/// each of 52,000 that were jumped over. It never has more than a row.
+/// With 3 workers a visit costs 3,500 steps, and a row 112,000. The budget grows to that by 52,000 steps, and by 3 more for
+/// each of 20,000 that were jumped over. It never has more than a row.
 ///
-/// A visit that copies 10,000 pages costs 648,000 steps: of a whole budget it leaves 392,000 owed. Half of them are paid by
-/// 49,000 steps that were jumped over, which count four times. Then 196,000 steps pay the rest, and 256,000 fill the budget.
+/// A visit that copies 1,000 pages costs 259,500 steps: of a whole budget it leaves 147,500 owed. Of these 100,000 are paid
+/// by 25,000 steps that were jumped over, which count four times. Then 47,500 steps pay the rest, and 112,000 fill the
+/// budget.
 #[test]
 fn budget(rt: HostRuntime) -> Result<(), Fail> {
     let mut budget = Budget::new(3);
     budget.look_up(2_000_000, None);
     assert_eq!(rt; paid(&rt, &mut budget), 32);
-    budget.look_up(1_900_001, Some(52_000));
+    budget.look_up(1_948_001, Some(20_000));
     assert_eq!(rt; (budget.reach(9), paid(&rt, &mut budget)), (0, 0));
-    budget.look_up(1_900_000, None);
+    budget.look_up(1_948_000, None);
     assert_eq!(rt; paid(&rt, &mut budget), 32);
     budget.look_up(900_000, Some(1_000_000));
     assert_eq!(rt; paid(&rt, &mut budget), 32);
     assert!(rt; !budget.pay(false, false, 0) && !budget.has_paid());
     budget.look_up(3_000_000, Some(300_000));
-    assert!(rt; budget.pay(true, true, 10_000) && budget.has_paid());
+    assert!(rt; budget.pay(true, true, 1_000) && budget.has_paid());
     assert_eq!(rt; paid(&rt, &mut budget), 0);
-    budget.look_up(2_951_000, Some(49_000));
-    budget.look_up(2_499_001, None);
+    budget.look_up(2_975_000, Some(25_000));
+    budget.look_up(2_815_501, None);
     assert_eq!(rt; paid(&rt, &mut budget), 0);
-    budget.look_up(2_499_000, None);
+    budget.look_up(2_815_500, None);
     assert_eq!(rt; paid(&rt, &mut budget), 32);
     Ok(())
 }
