@@ -40,7 +40,7 @@ def share(workers, visit):
 
 
 # Inputs that are longer than those of jobs.py: laps of matrix grow with its side.
-LONGER = {"matrix": "100\n", "collatz_chunks": "20000\n"}
+LONGER = {"matrix": "200\n", "collatz_chunks": "20000\n"}
 
 
 class Crew:
@@ -75,22 +75,25 @@ class Crew:
 
 
 class Budget:
-    """What visits may cost, in steps of the guest: crates/asc_live/specs/Budget.antt. Where the steps of a lap are not
-    known, each visit is paid for."""
+    """What visits may cost, in steps of the guest: crates/asc_live/specs/Budget.antt. A visit copies two pages. Where the
+    steps of a lap are not known, each visit is paid for."""
 
     def __init__(self, workers, lap):
-        self.cost, self.lap, self.passing = (5000 + 1000 * workers if lap else 0), lap, False
-        self.steps = 32 * self.cost
+        self.cost, self.lap, self.passing = (2000 + 500 * workers if lap else 0), lap, False
+        self.steps, self.owed = 32 * self.cost, 0
 
     def passes(self, filled):
         """Whether a visit is passed over; it is charged where it is paid for."""
         pays = self.steps >= (32 * self.cost if self.passing else self.cost)
         self.passing = filled and not pays
-        self.steps -= self.cost if pays else 0
+        charge = self.cost + 2 * 256 if pays and self.cost else 0
+        self.steps, self.owed = max(0, self.steps - charge), self.owed + max(0, charge - self.steps)
         return self.passing
 
     def look_up(self, jumped):
-        self.steps = min(self.steps + self.lap * (4 if jumped else 1), 32 * self.cost)
+        gained = self.lap * (4 if jumped else 1)
+        self.steps = min(self.steps + max(0, gained - self.owed), 32 * self.cost)
+        self.owed = max(0, self.owed - gained)
 
 
 def walk(crew, offers, visits, ahead, lap=0):
