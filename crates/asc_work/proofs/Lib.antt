@@ -1,4 +1,3 @@
-pub mod Reaching
 pub mod Posts
 pub mod HaltSteps
 pub mod HaltShared

@@ -3,17 +3,18 @@ use Rattle.std.specs.Prelude.{◌≡◌, Option, Some, None}
 use Rattle.asc_model.specs.Shape.{Shape}
 use Rattle.asc_depvec.specs.Tracer.{Tracing}
 use Rattle.asc_depvec.specs.Unfilled.{Filling}
+use Rattle.asc_traj.specs.Trace.{trace_cap}
 
--- a tracer of this shape that may touch 4,096 places
+-- a tracer of this shape for the traces of guesses
 pub record IsOwn (shape : Shape) (t : Tracing) : Type 0 where
   pub shape_is : t.shape ≡ shape
   pub state : t.state.shape ≡ shape
-  pub cap : t.cap ≡ 4096
+  pub cap : t.cap ≡ trace_cap
 
 -- memory of such a tracer
 pub record IsOwnMemory (shape : Shape) (u : Filling) : Type 0 where
   pub shape_is : u.shape ≡ shape
-  pub cap : u.cap ≡ 4096
+  pub cap : u.cap ≡ trace_cap
 
 -- there is such a tracer
 abbrev pub HasTracer : Shape → Option Tracing → Type 0

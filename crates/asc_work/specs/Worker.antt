@@ -1,5 +1,5 @@
 -- Workers, and what running a job does.
-use Rattle.std.specs.Prelude.{◌≡◌, ◌⊎◌, ℕ, ◌≤◌, Bool, true, Option, Some}
+use Rattle.std.specs.Prelude.{◌≡◌, ℕ, ◌≤◌, Option, Some}
 use Rattle.asc_model.specs.Shape.{Shape}
 use Rattle.asc_model.specs.State.{State}
 use Rattle.asc_model.specs.Machine.{view_of}
@@ -7,6 +7,8 @@ use Rattle.asc_model.specs.Entry.{Entry, entry_of}
 use Rattle.asc_model.specs.Reach.{Bounds, reach_of}
 use Rattle.asc_outside.specs.Outside.{one_more}
 use Rattle.asc_guess.specs.Guess.{guess_of}
+use Rattle.asc_traj.specs.Made.{RisesAtMostOnce}
+use Rattle.asc_traj.specs.Trace.{guess_bounds}
 use Rattle.asc_shard.specs.Shard.{Shard}
 use Rattle.asc_shard.specs.declared.shard.Inserted.{Inserted}
 use Rattle.asc_shard.specs.declared.shard.Inserted.TheVariants as answers
@@ -30,9 +32,9 @@ pub record Worker (W H : Type 0) : Type 0 where
 abbrev pub guess_for : Job → State
 guess_for job = guess_of job.kind job.ahead job.prev.value job.last.value
 
--- a trace of it ends at the pc of the last visit, and touches at most 4,096 places
+-- a trace of it ends at the pc of the last visit
 abbrev pub bounds_for : (laps span : ℕ) → Job → Bounds
-bounds_for laps span job = record { pc = (view_of job.last.value).pc; laps = laps; span = span; cap = 4096 }
+bounds_for laps span job = guess_bounds (view_of job.last.value).pc laps span
 
 -- how many steps such a trace takes
 abbrev pub steps_for : (laps span : ℕ) → Job → ℕ
@@ -62,10 +64,6 @@ HasInserted Empty w job old new = new ≡ old
 HasInserted Dropped w job old new = IsOfShape w.shape job × (1 ≤ steps_for w.laps w.span job) × (new ≡ old)
 HasInserted Stopped w job old new = new ≡ old
 
--- A count of yes answers stays, or is one more.
-abbrev pub RisesAtMostOnce : (before now : ℕ) → Type 0
-RisesAtMostOnce before now = (now ≡ before) ⊎ (now ≡ one_more before)
-
 -- What a job that was noted in a column did to the count of yes answers of the worker's halt. A job that gives no entry may
 -- have been asked to stop before that was known.
 abbrev pub HasAsked : Column → (before now : ℕ) → Type 0
@@ -87,22 +85,6 @@ pub record HasRun {W H : Type 0} (count : H → ℕ) (content : W → Shard) (w 
   pub tally : v.tally ≡ noted column w.tally
 
 -- ---- words of private contracts
-
--- why no entry is made of a trace that was stopped or not, of a guess of which a trace takes so many steps
-abbrev pub Missed : Column → (stopped : Bool) → (steps : ℕ) → Type 0
-Missed Stored stopped steps = ⊥
-Missed Known stopped steps = ⊥
-Missed Empty stopped steps = steps ≡ 0
-Missed Dropped stopped steps = ⊥
-Missed Stopped stopped steps = (1 ≤ steps) × (stopped ≡ true)
-
--- why no entry was made of a guess of which a trace takes so many steps
-abbrev pub Misses : Column → (steps before now : ℕ) → Type 0
-Misses Stored steps before now = ⊥
-Misses Known steps before now = ⊥
-Misses Empty steps before now = (steps ≡ 0) × RisesAtMostOnce before now
-Misses Dropped steps before now = ⊥
-Misses Stopped steps before now = (1 ≤ steps) × (now ≡ one_more before)
 
 -- what became of an entry
 abbrev pub Ends : Column → Option Entry → (old new : Shard) → Type 0

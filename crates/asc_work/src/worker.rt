@@ -1,12 +1,13 @@
-ghost use Rattle.std.specs.Prelude.{◌≡◌, ◌⊎◌, ◌+◌, ◌<◌, ◌≤◌, ◌^◌, [], None, true, false, IfOk, IfErr, MatchBool};
+ghost use Rattle.std.specs.Prelude.{◌≡◌, ◌<◌, ◌≤◌, ◌^◌, Some, None, IfOk, IfErr};
+ghost use Rattle.std.specs.Arc.{arc_value};
 ghost use Rattle.asc_model.specs.Shape.{Shape};
-ghost use Rattle.asc_model.specs.Reach.{IsReach, reach_of};
-ghost use Rattle.asc_model.specs.Entry.{entry_of};
 ghost use Rattle.asc_jobs.specs.declared.tally.Column.TheVariants as ran;
-ghost use Rattle.asc_traj.specs.Trace.{CountsAnswer, StandsFor, MayStop, bounds_of, is_stopped, origin_of};
+ghost use Rattle.asc_traj.specs.declared.made.Made.TheVariants as made;
+ghost use Rattle.asc_traj.specs.Made.{IsMade};
+ghost use Rattle.asc_traj.specs.Trace.{CountsAnswer, trace_cap};
 ghost use Rattle.asc_jobs.specs.Tally.{no_jobs, noted, counts_of};
 ghost use Rattle.asc_work.specs.Inside.{HasOwn, HasTracer};
-ghost use Rattle.asc_work.specs.Worker.{IsOfShape, IsEmpty, HasInserted, HasAsked, Misses, Missed, Ends, guess_for, steps_for};
+ghost use Rattle.asc_work.specs.Worker.{IsOfShape, IsEmpty, HasInserted, HasAsked, Ends, bounds_for, guess_for, steps_for};
 
 use crate::Ran;
 use asc_cache::Insert;
@@ -16,12 +17,10 @@ use asc_jobs::{Job, Tally};
 use asc_outside::{Gate, Memory, Point};
 use asc_shape::Shape;
 use asc_shard::Inserted;
-use asc_traj::{Entry, Halt, Never, Stop, Traced, Why, trace};
+use asc_traj::{Entry, Halt, Made, Stop, TRACE_CAP};
 use std::alloc::Global;
 use std::marker::Model;
-
-// How many places a trace may touch.
-const CAP: usize = 4096;
+use std::sync::Arc;
 
 /// It runs jobs, one after another, and inserts the entries of their guesses. The memory of its tracer is taken when it
 /// is made, and filled later: by `work_loop` once the worker was woken, or else for its first job.
@@ -84,7 +83,7 @@ impl<W: Insert + Drop, H: Halt + Drop> Worker<W, H> {
         }) }
         ensures memory { IfErr result (λ back. (back.1 ≡ writer) × (back.2 ≡ halt)) }
     {
-        match Unfilled::new(alloc, shape, CAP) {
+        match Unfilled::new(alloc, shape, TRACE_CAP) {
             Ok(unfilled) => Ok(Worker {
                 alloc,
                 shape,
@@ -195,10 +194,18 @@ impl<W: Insert + Drop, H: Halt + Drop> Worker<W, H> {
             unreachable!()
         };
         let ticket = job.ticket;
-        let traced = trace_job(tracer, &mut self.halt, job, self.laps, self.span);
-        match traced {
-            Ok(steps) => insert(self.alloc, tracer, steps, &mut self.writer, ticket, gate),
-            Err(ran) => ran,
+        match make_entry(
+            self.alloc,
+            tracer,
+            &mut self.halt,
+            job,
+            self.laps,
+            self.span,
+        ) {
+            Made::One(entry) => insert(entry, &mut self.writer, ticket, gate),
+            Made::Empty => Ran::Empty,
+            Made::Stopped => Ran::Stopped,
+            Made::Refused => Ran::Dropped,
         }
     }
 }
@@ -213,27 +220,23 @@ fn make_tracer(unfilled: &mut Option<Unfilled>, tracer: &mut Option<Tracer>)
     }
 }
 
-// Traces the guess of a job: at least one step.
-fn trace_job<H: Halt>(
+// Traces the guess of a job, and makes the entry of the trace.
+fn make_entry<H: Halt>(
+    alloc: Global,
     tracer: &mut Tracer,
     halt: &mut H,
     job: Job,
     laps: u64,
     span: u64,
-) -> Result<u64, Ran>
+) -> Made
     requires shapes { IsOfShape tracer.old.shape job }
-    requires own_shape { tracer.old.state.shape ≡ tracer.old.shape }
-    requires cap { tracer.old.cap ≡ 4096 }
+    requires cap { tracer.old.cap ≡ trace_cap }
     requires laps { 1 ≤ laps }
     requires span { 1 ≤ span }
-    ensures some { IfOk result (λ n. 1 ≤ n) }
-    ensures reach { IfOk result (λ n. n ≡ steps_for laps span job) }
-    ensures stands { IfOk result (λ n. StandsFor n tracer.new) }
-    ensures start { IfOk result (λ n. origin_of tracer.new ≡ guess_for job) }
-    ensures halt { IfOk result (λ n. H.count halt.new ≡ H.count halt.old) }
-    ensures misses { IfErr result (λ ran. Misses ran (steps_for laps span job) (H.count halt.old) (H.count halt.new)) }
+    ensures made { IsMade (bounds_for laps span job) (guess_for job) (H.count halt.old) (H.count halt.new) result }
+    ensures empty { steps_for laps span job ≡ 0 → result ≡ made.Empty }
     ensures shape { tracer.new.shape ≡ tracer.old.shape }
-    ensures new_shape { tracer.new.state.shape ≡ tracer.old.shape }
+    ensures own_shape { tracer.new.state.shape ≡ tracer.old.shape }
     ensures same_cap { tracer.new.cap ≡ tracer.old.cap }
 {
     let stop = Stop {
@@ -242,109 +245,13 @@ fn trace_job<H: Halt>(
         span,
     };
     let guess = guess(job.kind, job.prev, job.last, job.ahead);
-    // That it is a state, of the job's shape.
-    let _ = guess.shape();
-    tracer.start(guess);
-    let traced = trace(tracer, &stop, halt);
-    settle(tracer, &stop, traced)
+    Entry::traced(alloc, tracer, guess, &stop, halt)
 }
 
-// How many steps a trace took, or why no entry is made of them.
-fn settle(tracer: &mut Tracer, stop: &Stop, traced: Traced) -> Result<u64, Ran>
-    requires own_shape { tracer.old.state.shape ≡ tracer.old.shape }
-    requires laps { 1 ≤ stop.now.laps }
-    requires span { 1 ≤ stop.now.span }
-    requires stands { StandsFor traced.steps tracer.old }
-    requires reach { is_stopped traced.why ≡ false
-        → IsReach (bounds_of stop.now tracer.old.cap) (origin_of tracer.old) traced.steps traced.why }
-    requires stopped { is_stopped traced.why ≡ true
-        → MayStop (bounds_of stop.now tracer.old.cap) (origin_of tracer.old) traced.steps }
-    ensures some { IfOk result (λ n. 1 ≤ n) }
-    ensures steps { IfOk result (λ n. n ≡ traced.steps) }
-    ensures reach { IfOk result (λ n. n ≡ reach_of (bounds_of stop.now tracer.old.cap) (origin_of tracer.old)) }
-    ensures goes_on { IfOk result (λ _. is_stopped traced.why ≡ false) }
-    ensures same { IfOk result (λ _. tracer.new ≡ tracer.old) }
-    ensures missed { IfErr result (λ ran.
-        Missed ran (is_stopped traced.why) (reach_of (bounds_of stop.now tracer.old.cap) (origin_of tracer.old))) }
-    ensures shape { tracer.new.shape ≡ tracer.old.shape }
-    ensures new_shape { tracer.new.state.shape ≡ tracer.old.shape }
-    ensures cap { tracer.new.cap ≡ tracer.old.cap }
+// Passes the gate, and inserts an entry.
+fn insert<W: Insert, G: Gate>(entry: Arc<Entry>, writer: &mut W, ticket: u64, gate: &G) -> Ran
+    ensures { Ends result (Some (arc_value entry)) (W.content writer.old) (W.content writer.new) }
 {
-    if is_stopped(traced.why) {
-        if traced.steps > 0 {
-            return Err(Ran::Stopped);
-        }
-        return Err(unstarted(tracer, stop));
-    }
-    if traced.steps == 0 {
-        return Err(Ran::Empty);
-    }
-    Ok(traced.steps)
-}
-
-// What becomes of a job whose trace was stopped at its start.
-fn unstarted(tracer: &mut Tracer, stop: &Stop) -> Ran
-    requires own_shape { tracer.old.state.shape ≡ tracer.old.shape }
-    requires laps { 1 ≤ stop.now.laps }
-    requires span { 1 ≤ stop.now.span }
-    requires stopped { MayStop (bounds_of stop.now tracer.old.cap) (origin_of tracer.old) 0 }
-    ensures missed { Missed result true (reach_of (bounds_of stop.now tracer.old.cap) (origin_of tracer.old)) }
-    ensures shape { tracer.new.shape ≡ tracer.old.shape }
-    ensures new_shape { tracer.new.state.shape ≡ tracer.old.shape }
-    ensures cap { tracer.new.cap ≡ tracer.old.cap }
-{
-    if goes_on(tracer, stop) {
-        Ran::Stopped
-    } else {
-        Ran::Empty
-    }
-}
-
-// Whether a trace ended since its halt said so.
-fn is_stopped(why: Why) -> bool
-    ensures { result ≡ is_stopped why }
-{
-    matches!(why, Why::Stopped)
-}
-
-// Whether there is a next step of the state that a tracer started from, of which a trace was stopped at its start.
-fn goes_on(tracer: &mut Tracer, stop: &Stop) -> bool
-    requires own_shape { tracer.old.state.shape ≡ tracer.old.shape }
-    requires laps { 1 ≤ stop.now.laps }
-    requires span { 1 ≤ stop.now.span }
-    requires stopped { MayStop (bounds_of stop.now tracer.old.cap) (origin_of tracer.old) 0 }
-    ensures goes { MatchBool result (1 ≤ reach_of (bounds_of stop.now tracer.old.cap) (origin_of tracer.old))
-        (reach_of (bounds_of stop.now tracer.old.cap) (origin_of tracer.old) ≡ 0) }
-    ensures shape { tracer.new.shape ≡ tracer.old.shape }
-    ensures new_shape { tracer.new.state.shape ≡ tracer.old.shape }
-    ensures cap { tracer.new.cap ≡ tracer.old.cap }
-{
-    tracer.reset();
-    let one_step = Stop {
-        pc: stop.pc,
-        laps: 1,
-        span: 1,
-    };
-    trace(tracer, &one_step, &mut Never).steps > 0
-}
-
-// Makes the entry of a trace, passes the gate, and inserts the entry.
-fn insert<W: Insert, G: Gate>(
-    alloc: Global,
-    tracer: &mut Tracer,
-    steps: u64,
-    writer: &mut W,
-    ticket: u64,
-    gate: &G,
-) -> Ran
-    requires steps { 1 ≤ steps }
-    requires stands { StandsFor steps tracer.old }
-    ensures ends { Ends result (entry_of steps (origin_of tracer.old)) (W.content writer.old) (W.content writer.new) }
-    ensures tracer { tracer.new ≡ tracer.old }
-{
-    let Ok(entry) = Entry::of(alloc, tracer, steps) else {
-        return Ran::Dropped;
-    };
     gate.pass(Point::Traced, ticket);
     match writer.insert(entry) {
         Ok(Inserted::Stored) => Ran::Stored,
