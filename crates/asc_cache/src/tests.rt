@@ -1,5 +1,4 @@
 ghost use Rattle.std.specs.Prelude.{◌≡◌, ◌≤◌, IfOk};
-ghost use Rattle.asc_traj.specs.Trace.{StandsFor};
 ghost use Rattle.asc_cache.specs.Cache.{ShardWriter as writer_model, AreLater, IsOwnReader};
 
 use crate::{Cache, Insert, ListWriter, ShardReaders, ShardWriter};
@@ -8,7 +7,7 @@ use asc_find::Finder;
 use asc_outside::Memory;
 use asc_shape::{Guess, Shape, Snapshot, State};
 use asc_shard::{Inserted, Shard};
-use asc_traj::{Entry, Never, Stop, trace};
+use asc_traj::{Entry, Made, Never, Stop};
 use std::alloc::Global;
 use std::process::Abort;
 use std::sync::{Arc, Wait};
@@ -39,25 +38,6 @@ fn counting_in(alloc: Global, size: u32, x5: u32) -> Result<State, Memory> {
     Ok(state)
 }
 
-/// A trace of so many laps.
-fn traced(alloc: Global, from: &State, laps: u64) -> Result<(u64, Tracer), Memory>
-    requires { 1 ≤ laps }
-    ensures { IfOk result (λ t. StandsFor t.0 t.1) }
-{
-    let mut tracer = Tracer::new(alloc, from.shape(), 96)?;
-    let guess = Guess::last(Snapshot::of(alloc, from)?);
-    // That it is a state, of the same shape.
-    let _ = guess.shape();
-    tracer.start(guess);
-    let stop = Stop {
-        pc: 0x10008,
-        laps,
-        span: 100,
-    };
-    let traced = trace(&mut tracer, &stop, &mut Never);
-    Ok((traced.steps, tracer))
-}
-
 /// The entry of one lap.
 fn lap_from(alloc: Global, x5: u32) -> Result<Arc<Entry>, Memory> {
     laps_from(alloc, x5, 1)
@@ -67,11 +47,18 @@ fn lap_from(alloc: Global, x5: u32) -> Result<Arc<Entry>, Memory> {
 fn laps_from(alloc: Global, x5: u32, laps: u64) -> Result<Arc<Entry>, Memory>
     requires { 1 ≤ laps }
 {
-    let (steps, mut tracer) = traced(alloc, &counting(alloc, x5)?, laps)?;
-    if steps == 0 {
-        return Err(Memory);
+    let from = counting(alloc, x5)?;
+    let mut tracer = Tracer::new(alloc, from.shape(), 96)?;
+    let guess = Guess::last(Snapshot::of(alloc, &from)?);
+    let stop = Stop {
+        pc: 0x10008,
+        laps,
+        span: 100,
+    };
+    match Entry::traced(alloc, &mut tracer, guess, &stop, &mut Never) {
+        Made::One(entry) => Ok(entry),
+        Made::Empty | Made::Stopped | Made::Refused => Err(Memory),
     }
-    Entry::of(alloc, &mut tracer, steps)
 }
 
 /// What the readers find where x5 is such, and x5 then.
