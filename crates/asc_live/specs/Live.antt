@@ -112,8 +112,8 @@ is_guessing g = g.last || g.stride
 abbrev pub is_passed_over : {F : Type 0} → Live F → Bool
 is_passed_over l = passes (is_guessing l.guessing) (is_filled l.pusher.giver) l.budget
 
--- Whether nobody needs the state of a visit: the queue had been filled up, guesses go by the last state alone, one is kept,
--- and none of the visits that are to be guessed is the workers'.
+-- Whether nobody needs the state of a visit. The queue had been filled up, guesses go by the last state alone, and one is
+-- kept. And none of the visits that are to be guessed is the workers'.
 abbrev pub is_needless : {F : Type 0} → (number : ℕ) → Live F → Bool
 is_needless number l = is_filled l.pusher.giver && not l.guessing.stride && is_some l.last
     && not (list_any (is_for_workers l.workers) (targets_of l.issued number l.guessing.ahead))

@@ -67,7 +67,7 @@ struct Ready<R: Wait + Drop> {
 ///
 /// All memory that the crew needs is taken before the first step. Later on, only states that are kept, and entries, take
 /// any: where it is wanting for these, a guess is given up. A worker fills the memory of its tracer in its own thread,
-/// once it is woken for a job, and in pieces, between which it may be stopped. So the walk waits for none of it.
+/// once it is woken for a job. It does so in pieces, between which it may be stopped. So the walk waits for none of it.
 pub fn go_beside<
     R: Threads + Wait + Sync + Copy + Drop + Send,
     G: Gate + Sync,

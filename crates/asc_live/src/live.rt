@@ -33,13 +33,13 @@ use std::sync::{Arc, Wait};
 /// is copied. What a visit takes beyond the budget is owed. The steps of the walk pay what is owed, and then the budget
 /// grows by them; steps that are jumped over count more.
 ///
-/// Once the queue had been filled up, a visit that the budget does not pay for is passed over, and so are those after it
-/// until the budget is whole again. Where no kind of guess is on, each visit is passed over. At such a visit no state is
-/// kept, nothing is pushed, and the finder is asked for no step. Which visits are passed over changes no answer of a run.
+/// Once the queue had been filled up, a visit that the budget does not pay for is passed over. So are those after it, until
+/// the budget is whole again. Where no kind of guess is on, each visit is passed over. At such a visit no state is kept,
+/// nothing is pushed, and the finder is asked for no step. Which visits are passed over changes no answer of a run.
 ///
 /// Of the guesses that are then due at the other visits, the workers' share is offered to them (`Share`). Those that are
 /// left to the walk count as full. Where guesses go by the last state alone, a visit at which none is offered keeps no
-/// state, and later guesses go by the one before.
+/// state.
 ///
 /// Want of memory is counted, and changes no jump's being one.
 #[derive(Drop)]
