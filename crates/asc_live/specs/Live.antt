@@ -155,7 +155,7 @@ pub record BeginsRow {F : Type 0} (number pages : ℕ) (now : State) (old new : 
   pub rest : new ≡ given_up number (Some now) (charged pages old)
 
 -- A visit keeps no state, since nobody needs it. It copies no page, and the guesses that are due are left to the walk.
-pub record Leaves {F : Type 0} (number : ℕ) (now : State) (old new : Live F) : Type 0 where
+pub record KeepsNone {F : Type 0} (number : ℕ) (now : State) (old new : Live F) : Type 0 where
   pub made : is_passed_over old ≡ false
   pub needless : is_needless number old ≡ true
   pub rest : new ≡ record (charged 0 old) {
@@ -188,7 +188,7 @@ pub record Refuses {F : Type 0} (number pages : ℕ) (old new : Live F) : Type 0
 -- what a visit does, where so many pages of its state were written since the last one was kept
 abbrev pub Visits : {F : Type 0} → (number pages : ℕ) → State → (old new : Live F) → Type 0
 Visits number pages now old new = PassesOver number pages old new
-    ⊎ (Leaves number now old new
+    ⊎ (KeepsNone number now old new
     ⊎ (BeginsRow number pages now old new ⊎ (Keeps number pages now old new ⊎ Refuses number pages old new)))
 
 -- and where these are some of the pages of its shape

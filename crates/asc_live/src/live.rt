@@ -209,7 +209,7 @@ impl<'a, F, G, R> Live<'a, F, G, R> {
         self.share(true).offers_none(due.start, due.end)
     }
 
-    // Leaves the guesses that are due at a visit to the walk, and keeps no state.
+    // KeepsNone the guesses that are due at a visit to the walk, and keeps no state.
     fn leave(&mut self, number: u64)
         requires needless { is_needless number self.old ≡ true }
         requires guesses { is_guessing self.old.guessing ≡ true }
