@@ -1,5 +1,5 @@
 #!/usr/bin/env python3
-"""Times runs that jumps can't help beside plain ones, outside the gate.
+"""Times runs that workers may burden beside plain ones, outside the gate.
 
     python3 bench/burdens.py [--program PROGRAM] [--rounds N] [--workers W..] [--kinds KIND..] [--only NAME..] [--all]
 
@@ -19,6 +19,7 @@ import os
 import sys
 import tempfile
 from importlib.machinery import SourceFileLoader
+from importlib.util import module_from_spec, spec_from_loader
 from pathlib import Path
 
 sys.dont_write_bytecode = True
@@ -51,14 +52,16 @@ def own_cases(folder):
 def cases(folder):
     """Each program: its name, words of a command line, input, and addresses."""
     yield from own_cases(folder)
-    heads_of = SourceFileLoader("asc_pc", str(ROOT / "tools/asc-pc")).load_module().heads_of
+    loader = SourceFileLoader("asc_pc", str(ROOT / "tools/asc-pc"))
+    tool = module_from_spec(spec_from_loader("asc_pc", loader))
+    loader.exec_module(tool)
     for name, (text, options) in CASES.items():
         short = name.split("/")[-1]
         path = str((EXAMPLES / name).parent / "images" / short)
         own = EXAMPLES / name / "input"
         text = LONGER.get(short, text)
         text = text if text is not None else own.read_bytes() if own.exists() else b""
-        yield short, [path, *options], text, [f"{head:x}" for head in heads_of(path)]
+        yield short, [path, *options], text, [f"{head:x}" for head in tool.heads_of(path)]
 
 
 class Case:
