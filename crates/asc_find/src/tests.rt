@@ -1,18 +1,20 @@
 use crate::{Finder, ListFinder, Noted, Nothing};
 use asc_depvec::Tracer;
 use asc_shape::{Guess, Shape, Snapshot, State};
-use asc_traj::{Entry, Never, Stop, trace};
+use asc_traj::{Entry, Made, Never, Stop};
 use std::alloc::Global;
 use std::process::Abort;
 use std::sync::Arc;
 
-/// A state at the head of a loop that counts x5 up to x6, two steps a lap. It is at 0x10008.
+/// The loop `addi x5, x5, 1` and `bne x5, x6, -4`.
+const LOOP: [u8; 8] = [0x93, 0x82, 0x12, 0x00, 0xE3, 0x9E, 0x62, 0xFE];
+
+/// A state at the head of that loop, which counts x5 up to x6. It is at 0x10008.
 fn counting<R: Abort>(rt: &R, alloc: Global, x6: u32) -> State {
     let shape = Shape::new(0x10000, 65_536).expect(rt, "a good shape");
     let mut state = State::new(alloc, shape).expect(rt, "memory");
     assert!(rt; state.holds(0x10008, 8));
-    state.write(0x10008, &0x0012_8293_u32.to_le_bytes());
-    state.write(0x1000C, &0xFE62_9EE3_u32.to_le_bytes());
+    state.write(0x10008, &LOOP);
     state.set_pc(0x10008);
     state.set_reg(6, x6);
     state
@@ -27,10 +29,11 @@ fn entry_of<R: Abort>(rt: &R, alloc: Global, state: &State, laps: u64) -> Arc<En
     };
     assert!(rt; laps >= 1);
     let mut tracer = Tracer::new(alloc, state.shape(), 96).expect(rt, "memory");
-    tracer.start(Guess::last(Snapshot::of(alloc, state).expect(rt, "memory")));
-    let traced = trace(&mut tracer, &stop, &mut Never);
-    assert!(rt; traced.steps >= 1);
-    Entry::of(alloc, &mut tracer, traced.steps).expect(rt, "memory")
+    let guess = Guess::last(Snapshot::of(alloc, state).expect(rt, "memory"));
+    match Entry::traced(alloc, &mut tracer, guess, &stop, &mut Never) {
+        Made::One(entry) => entry,
+        _ => panic!(rt; "no entry"),
+    }
 }
 
 /// Asks a finder for a jump.
