@@ -10,8 +10,6 @@ pub record Budget : Type 0 where
   pub owed : ℕ
   -- how many steps were left to do at the last look-up
   pub left : ℕ
-  -- whether the last visit was paid for
-  pub paid : Bool
   -- whether the last visit was passed over
   pub passing : Bool
 
@@ -40,13 +38,13 @@ abbrev pub row_cost : (cost : ℕ) → ℕ
 row_cost cost = 32 * cost
 
 -- a budget of these numbers
-abbrev pub budget : (cost steps owed left : ℕ) → (paid passing : Bool) → Budget
-budget cost steps owed left paid passing =
-    record { cost = cost; steps = steps; owed = owed; left = left; paid = paid; passing = passing }
+abbrev pub budget : (cost steps owed left : ℕ) → (passing : Bool) → Budget
+budget cost steps owed left passing =
+    record { cost = cost; steps = steps; owed = owed; left = left; passing = passing }
 
 -- that of a walk which begins: it pays for a row
 abbrev pub new_budget : (workers : ℕ) → Budget
-new_budget workers = budget (visit_cost workers) (row_cost (visit_cost workers)) 0 0 false false
+new_budget workers = budget (visit_cost workers) (row_cost (visit_cost workers)) 0 0 false
 
 -- what a visit is charged that copies so many pages
 abbrev pub charge : Budget → (pages : ℕ) → ℕ
@@ -71,7 +69,6 @@ abbrev pub after_visit : (guesses filled : Bool) → (pages : ℕ) → Budget �
 after_visit guesses filled pages b = record b {
   steps = b.steps - taken guesses pages b;
   owed = b.owed + (taken guesses pages b - b.steps);
-  paid = guesses && pays b;
   passing = passes guesses filled b;
 }
 

@@ -31,8 +31,7 @@ pub(crate) struct Budget {
     owed: u64,
     // How many steps were left to do at the last look-up.
     left: u64,
-    // Whether the last visit was paid for, and whether it was passed over.
-    paid: bool,
+    // Whether the last visit was passed over.
     passing: bool,
 }
 
@@ -41,9 +40,9 @@ impl Model for Budget {
 
     ghost Value = { model.Budget };
 
-    ghost view = { λ b. model.budget b.cost b.steps b.owed b.left b.paid b.passing };
+    ghost view = { λ b. model.budget b.cost b.steps b.owed b.left b.passing };
 
-    ghost invariant = { λ b. model.IsBudget (model.budget b.cost b.steps b.owed b.left b.paid b.passing) };
+    ghost invariant = { λ b. model.IsBudget (model.budget b.cost b.steps b.owed b.left b.passing) };
 }
 
 impl Budget {
@@ -57,7 +56,6 @@ impl Budget {
             steps: ROW * cost,
             owed: 0,
             left: 0,
-            paid: false,
             passing: false,
         }
     }
@@ -75,21 +73,14 @@ impl Budget {
         } else {
             self.cost
         };
-        self.paid = guesses && wanted <= self.steps;
-        self.passing = !guesses || filled && !self.paid;
-        if self.paid {
+        let paid = guesses && wanted <= self.steps;
+        self.passing = !guesses || filled && !paid;
+        if paid {
             let charge = self.cost + PAGE_STEPS * pages as u64;
             self.owed += charge.saturating_sub(self.steps);
             self.steps = self.steps.saturating_sub(charge);
         }
         !self.passing
-    }
-
-    /// Whether the last visit was paid for.
-    pub(crate) fn has_paid(&self) -> bool
-        ensures { result ≡ self.now.paid }
-    {
-        self.paid
     }
 
     /// How many steps a look-up may jump over, where so many are left: none at a visit that was passed over.

@@ -268,8 +268,7 @@ impl<'a, F, G, R: Wait> Live<'a, F, G, R> {
         }
     }
 
-    // Where two states are kept, pushes the jobs of a visit that are offered. It wakes a worker for each if the visit is
-    // paid for.
+    // Where two states are kept, pushes the jobs of a visit that are offered, and wakes a worker for each.
     fn push_due(&mut self, number: u64, filled: bool)
         requires seen { self.old.seen ≡ None }
         requires filled { filled ≡ is_filled self.old.pusher.giver }
@@ -293,9 +292,7 @@ impl<'a, F, G, R: Wait> Live<'a, F, G, R> {
         self.pusher
             .offer_visit(share, prev, last, &self.guessing, self.issued, number);
         self.issued = number + u64::from(self.guessing.ahead);
-        if self.budget.has_paid() {
-            self.wake_for(before, self.pusher.pushed());
-        }
+        self.wake_for(before, self.pusher.pushed());
     }
 }
 
@@ -366,8 +363,8 @@ impl<'a, F: Finder, G, R> Finder for Live<'a, F, G, R> {
 }
 
 impl<'a, F: Finder, G: Gate, R: Wait> Helper for Live<'a, F, G, R> {
-    /// Pushes the jobs that are due, and wakes a worker for each if the budget pays for the visit. Once the queue had been
-    /// filled up it pushes the workers' share of them; the others count as full. A visit costs a copy of what
+    /// Pushes the jobs that are due, and wakes a worker for each. Once the queue had been filled up it pushes the workers'
+    /// share of them; the others count as full. A visit costs a copy of what
     /// changed in the state since the last one, and two owners more of a copy for each job. The budget is charged for each
     /// page of that copy.
     ///

