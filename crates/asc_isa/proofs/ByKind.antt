@@ -12,7 +12,7 @@ use Rattle.asc_isa.specs.declared.kind.Kind.{Kind}
 use Rattle.asc_isa.specs.Kinds.{key_of, IsFor, IsOfKind}
 use Rattle.asc_isa.specs.Rows.{is_at, rows_for}
 use Rattle.asc_isa.specs.Likely.{is_likely, likely}
-use Rattle.asc_isa.proofs.Rows.{fits-at, find-rows_for, decode-for}
+use Rattle.asc_isa.proofs.Rows.{fits-at, decode-for}
 use Rattle.asc_model.proofs.Registers.{op_of-operands}
 use Rattle.asc_isa.proofs.Frequent.{likely-none}
 
@@ -165,10 +165,6 @@ likely-chosen format (choice ∷ more) dropped word k d = elim (cases_Bool (eqb 
       ∙ ap likely (sym (cond-false _ (Some (operands format choice.1 word)) _ f))
 ]
 
-pub decode-likely : (format : Format) (major minor word : ℕ) (kept dropped : List (ℕ × Op)) → all_likely kept ≡ true → none_likely dropped ≡ true → rows_for (Minor major minor) (table (version_of true)) ≡ rows_for (Minor major minor) base_table → rows_for (Minor major minor) base_table ≡ by_funct7 format major minor (kept ++ dropped) → fits (Minor major minor) word ≡ true → chosen format kept word ≡ likely (decode (version_of false) word)
-decode-likely format major minor word kept dropped k d e rows h =
-    likely-chosen format kept dropped word k d ∙ ap likely (decode-chosen false format major minor word (kept ++ dropped) e rows h)
-
 -- no row is for a likely operation
 abbrev pub none_of : List Row → Bool
 none_of [] = true
@@ -185,12 +181,6 @@ abbrev pub unlikely_key : Option Key → Bool
 unlikely_key None = true
 unlikely_key (Some key) = none_of (rows_for key base_table)
 
-unlikely-key : (key : Option Key) (word : ℕ) → unlikely_key key ≡ true → IsFor key word → None ≡ likely (decode (version_of false) word)
-unfolding decode
-unlikely-key None word u h = ap likely (decode-none false word h)
-unlikely-key (Some key) word u h =
-    find-none_of (rows_for key base_table) word u ∙ ap likely (find-rows_for key base_table word h)
-
 -- one of these kinds
 abbrev pub OneOf : Kind → Kind → List Kind → Type 0
 OneOf kind first [] = kind ≡ first
@@ -199,10 +189,3 @@ OneOf kind first (second ∷ more) = (kind ≡ first) ⊎ OneOf kind second more
 abbrev pub unlikely_kinds : Kind → List Kind → Bool
 unlikely_kinds first [] = unlikely_key (key_of first)
 unlikely_kinds first (second ∷ more) = unlikely_key (key_of first) && unlikely_kinds second more
-
--- a word of one of these kinds is none of a likely operation
-pub decode-unlikely : (kind first : Kind) (more : List Kind) (word : ℕ) → unlikely_kinds first more ≡ true → OneOf kind first more → IsOfKind kind word → None ≡ likely (decode (version_of false) word)
-decode-unlikely kind first [] word u e h = unlikely-key (key_of kind) word (ap (λ k. unlikely_key (key_of k)) e ∙ u) h
-decode-unlikely kind first (second ∷ more) word u (inl e) h =
-    unlikely-key (key_of kind) word (ap (λ k. unlikely_key (key_of k)) e ∙ (and_parts _ _ u).0) h
-decode-unlikely kind first (second ∷ more) word u (inr e) h = decode-unlikely kind second more word (and_parts _ _ u).1 e h

@@ -1,29 +1,17 @@
 -- Lemmas on the operations that programs do most.
-use Rattle.std.proofs.Common.{◌≡◌, ℕ, false, List, [], ◌∷◌, ◌++◌, Option, Some, None, IfSome, ap, ◌∙◌, sym, refl, inl, inr, subst}
+use Rattle.std.proofs.Common.{◌≡◌, ℕ, false, List, [], ◌∷◌, ◌++◌, Option, Some, None, ap, ◌∙◌, sym, inl, inr}
 use Rattle.std.proofs.lemmas.Bool.{cases_Bool, cond-true, cond-false}
 use Rattle.asc_model.specs.declared.version.Version.{Version}
 use Rattle.asc_model.specs.declared.version.Version.TheVariants.{One, Two}
 use Rattle.asc_model.specs.declared.instruction.Op.{Op}
 use Rattle.asc_model.specs.declared.instruction.Instr.{Instr}
-use Rattle.asc_model.specs.Instruction.{Row, Format, U, J, I, Shift, S, B, R, Plain, decode, find, base_table, atomic_table, fits, operands, op_of}
-use Rattle.asc_isa.specs.Decode.{version_of, HasRegisters}
+use Rattle.asc_model.specs.Instruction.{Row, decode, find, base_table, atomic_table, fits, operands, op_of}
+use Rattle.asc_isa.specs.Decode.{version_of}
 use Rattle.asc_isa.specs.Likely.{is_likely, likely}
-use Rattle.asc_isa.proofs.Rows.{decode-registers}
 
 -- what is not likely
 pub likely-none : (op : Op) (i : Instr) → op_of i ≡ op → is_likely op ≡ false → None ≡ likely (Some i)
 likely-none op i e h = sym (cond-false (is_likely (op_of i)) (Some i) None (ap is_likely e ∙ h))
-
-registers-likely : (found : Option Instr) → IfSome found HasRegisters → IfSome (likely found) HasRegisters
-registers-likely None h = tt
-registers-likely (Some i) h = elim (cases_Bool (is_likely (op_of i))) [
-  | inl l ↦ subst (λ o. IfSome o HasRegisters) (sym (cond-true _ (Some i) None l)) h
-  | inr l ↦ subst (λ o. IfSome o HasRegisters) (sym (cond-false _ (Some i) None l)) tt
-]
-
--- their registers are registers
-pub likely-registers : (version : Version) (word : ℕ) → IfSome (likely (decode version word)) HasRegisters
-likely-registers version word = registers-likely (decode version word) (decode-registers version word)
 
 none-some : (i : Instr) → Some i ≡ None → ⊥
 none-some i h = cc

@@ -1,6 +1,6 @@
 -- Lemmas on which instruction a word is.
 use Rattle.std.proofs.Common.{◌≡◌, ℕ, Bool, true, false, cond, ◌||◌, ◌&&◌, eqb, List, [], ◌∷◌, ◌++◌, Some, None, IfSome, ap, ◌∙◌, sym, refl, subst, inl, inr, arith}
-use Rattle.std.proofs.lemmas.Bool.{and_parts, or_parts, eqb-true, eq-eqb, cases_Bool, both_ways, cond-true, cond-false}
+use Rattle.std.proofs.lemmas.Bool.{and_parts, eqb-true, eq-eqb, cases_Bool, both_ways, cond-true, cond-false}
 use Rattle.asc_model.specs.declared.version.Version.{Version}
 use Rattle.asc_model.specs.declared.instruction.Op.{Op}
 use Rattle.asc_model.specs.Instruction.{Key, Major, Minor, Full, Atomic, AtomicLoad, Whole, Row, Format, U, J, I, Shift, S, B, R, Plain, decode, find, table, base_table, atomic_table, fits, opcode, funct3, operands}
@@ -97,12 +97,6 @@ base_opcodes =
 
 abbrev pub all_opcodes : List ℕ
 all_opcodes = 0b0101111 ∷ base_opcodes
-
--- a word of another opcode is no instruction
-pub decode-other : (atomics : Bool) (word : ℕ) → is_one_of (opcode word) all_opcodes ≡ false → None ≡ decode (version_of atomics) word
-unfolding decode
-decode-other false word h = sym (find-other base_opcodes base_table word refl (or_parts _ _ h).1)
-decode-other true word h = sym (find-other all_opcodes (base_table ++ atomic_table) word refl h)
 
 -- without the atomics a word of their opcode is no instruction
 pub decode-no_atomic : (atomics : Bool) (word : ℕ) → atomics ≡ false → opcode word ≡ 0b0101111 → None ≡ decode (version_of atomics) word

@@ -1,10 +1,11 @@
 //! Which instruction a word is (RISC-V unprivileged manual 20191213, chapter 24).
-ghost use Rattle.std.specs.Prelude.{◌≡◌, IfSome};
-ghost use Rattle.asc_model.specs.Instruction.{decode, opcode, find, base_table, atomic_table, Major};
+ghost use Rattle.std.specs.Prelude.{◌≡◌, ◌==◌, IfSome, None, Some, true, if◌then◌else◌};
+ghost use Rattle.asc_model.specs.Instruction.{decode, find, fits, opcode, operands, base_table, atomic_table, funct7, Major, Minor, R};
 ghost use Rattle.asc_isa.specs.Decode.{version_of, HasRegisters};
 ghost use Rattle.asc_isa.specs.Rows.{rows_for};
 
-use crate::fields::{funct3, funct5, funct7, opcode, rs2};
+use crate::fields::{funct5, funct7, rs2};
+use crate::kind::{Kind, kind_of};
 use crate::operands::{b_type, i_type, j_type, r_type, s_type, shift, u_type};
 use asc_model::{Instr, Op};
 
@@ -12,192 +13,129 @@ use asc_model::{Instr, Op};
 /// manual 20191213, chapter 24).
 ///
 /// It is `None` where the word is none of these.
+///
+/// It has an arm for each operation, which builds its instruction itself. From each of these arms a compiler can lead to
+/// code for that operation alone, which makes a step cheaper.
+///
+/// `K` is any type. It tells callers apart: each has a copy of all this that is called by it alone, and which the compiler
+/// then takes into it. A decoder that is called from two places would be taken into neither.
 #[inline(always)]
-pub fn decode(word: u32, atomics: bool) -> Option<Instr>
+pub fn decode<K>(word: u32, atomics: bool) -> Option<Instr>
     ensures instruction { result ≡ decode (version_of atomics) word }
     ensures registers { IfSome result HasRegisters }
 {
-    instruction(word, atomics)
+    instruction::<K>(word, atomics)
 }
 
-/// The instruction of a word, by its opcode. It is not in `decode`, so that what is said of registers is shown once.
+/// The instruction of a word, by its kind. It is not in `decode`, so that what is said of registers is shown once.
 #[inline(always)]
-fn instruction(word: u32, atomics: bool) -> Option<Instr>
+fn instruction<K>(word: u32, atomics: bool) -> Option<Instr>
     ensures { result ≡ decode (version_of atomics) word }
 {
-    match opcode(word) {
-        0b0110111 => lui(word),
-        0b0010111 => auipc(word),
-        0b1101111 => jal(word),
-        0b1100111 => jalr(word),
-        0b1100011 => branch(word),
-        0b0000011 => load(word),
-        0b0100011 => store(word),
-        0b0010011 => op_imm(word),
-        0b0110011 => op(word),
-        0b0001111 => misc_mem(word),
-        0b1110011 => system(word),
-        0b0101111 => if atomics { amo(word) } else { None },
+    match kind_of(word) {
+        Kind::Lui => Some(u_type(Op::Lui, word)),
+        Kind::Auipc => Some(u_type(Op::Auipc, word)),
+        Kind::Jal => Some(j_type(Op::Jal, word)),
+        Kind::Jalr => Some(i_type(Op::Jalr, word)),
+        Kind::Beq => Some(b_type(Op::Beq, word)),
+        Kind::Bne => Some(b_type(Op::Bne, word)),
+        Kind::Blt => Some(b_type(Op::Blt, word)),
+        Kind::Bge => Some(b_type(Op::Bge, word)),
+        Kind::Bltu => Some(b_type(Op::Bltu, word)),
+        Kind::Bgeu => Some(b_type(Op::Bgeu, word)),
+        Kind::Lb => Some(i_type(Op::Lb, word)),
+        Kind::Lh => Some(i_type(Op::Lh, word)),
+        Kind::Lw => Some(i_type(Op::Lw, word)),
+        Kind::Lbu => Some(i_type(Op::Lbu, word)),
+        Kind::Lhu => Some(i_type(Op::Lhu, word)),
+        Kind::Sb => Some(s_type(Op::Sb, word)),
+        Kind::Sh => Some(s_type(Op::Sh, word)),
+        Kind::Sw => Some(s_type(Op::Sw, word)),
+        Kind::Addi => Some(i_type(Op::Addi, word)),
+        Kind::Slti => Some(i_type(Op::Slti, word)),
+        Kind::Sltiu => Some(i_type(Op::Sltiu, word)),
+        Kind::Xori => Some(i_type(Op::Xori, word)),
+        Kind::Ori => Some(i_type(Op::Ori, word)),
+        Kind::Andi => Some(i_type(Op::Andi, word)),
+        Kind::Slli => slli(word),
+        Kind::Srli => srli_or_srai(word),
+        Kind::Add => op_or(word, Op::Add, Op::Sub, Op::Mul),
+        Kind::Sll => op(word, Op::Sll, Op::Mulh),
+        Kind::Slt => op(word, Op::Slt, Op::Mulhsu),
+        Kind::Sltu => op(word, Op::Sltu, Op::Mulhu),
+        Kind::Xor => op(word, Op::Xor, Op::Div),
+        Kind::Srl => op_or(word, Op::Srl, Op::Sra, Op::Divu),
+        Kind::Or => op(word, Op::Or, Op::Rem),
+        Kind::And => op(word, Op::And, Op::Remu),
+        Kind::Fence => Some(Instr::Plain { op: Op::Fence }),
+        Kind::FenceI => Some(Instr::Plain { op: Op::FenceI }),
+        Kind::System => system(word),
+        Kind::Atomic => if atomics { amo(word) } else { None },
+        Kind::Other => None,
+    }
+}
+
+/// SLLI, whose words have 0 in funct7.
+#[inline(always)]
+fn slli(word: u32) -> Option<Instr>
+    requires { fits (Minor 0b0010011 0b001) word ≡ true }
+    ensures { result ≡ find (rows_for (Minor 0b0010011 0b001) base_table) word }
+{
+    match funct7(word) {
+        0b0000000 => Some(shift(Op::Slli, word)),
         _ => None,
     }
 }
 
-/// LUI.
-#[inline]
-fn lui(word: u32) -> Option<Instr>
-    requires { opcode word ≡ 0b0110111 }
-    ensures { result ≡ find (rows_for (Major 0b0110111) base_table) word }
+/// SRLI and SRAI, which funct7 tells apart.
+#[inline(always)]
+fn srli_or_srai(word: u32) -> Option<Instr>
+    requires { fits (Minor 0b0010011 0b101) word ≡ true }
+    ensures { result ≡ find (rows_for (Minor 0b0010011 0b101) base_table) word }
 {
-    Some(u_type(Op::Lui, word))
-}
-
-/// AUIPC.
-#[inline]
-fn auipc(word: u32) -> Option<Instr>
-    requires { opcode word ≡ 0b0010111 }
-    ensures { result ≡ find (rows_for (Major 0b0010111) base_table) word }
-{
-    Some(u_type(Op::Auipc, word))
-}
-
-/// JAL.
-#[inline]
-fn jal(word: u32) -> Option<Instr>
-    requires { opcode word ≡ 0b1101111 }
-    ensures { result ≡ find (rows_for (Major 0b1101111) base_table) word }
-{
-    Some(j_type(Op::Jal, word))
-}
-
-/// JALR.
-#[inline]
-fn jalr(word: u32) -> Option<Instr>
-    requires { opcode word ≡ 0b1100111 }
-    ensures { result ≡ find (rows_for (Major 0b1100111) base_table) word }
-{
-    match funct3(word) {
-        0b000 => Some(i_type(Op::Jalr, word)),
+    match funct7(word) {
+        0b0000000 => Some(shift(Op::Srli, word)),
+        0b0100000 => Some(shift(Op::Srai, word)),
         _ => None,
     }
 }
 
-/// BRANCH: the conditional branches.
-#[inline]
-fn branch(word: u32) -> Option<Instr>
-    requires { opcode word ≡ 0b1100011 }
-    ensures { result ≡ find (rows_for (Major 0b1100011) base_table) word }
+/// An operation on two registers: this one of RV32I where funct7 is 0, and this one of RV32M where it is 1.
+#[inline(always)]
+fn op(word: u32, base: Op, multiply: Op) -> Option<Instr>
+    ensures { result ≡ (if funct7 word == 0b0000000 then Some (operands R base word)
+        else if funct7 word == 0b0000001 then Some (operands R multiply word) else None) }
 {
-    let op = match funct3(word) {
-        0b000 => Op::Beq,
-        0b001 => Op::Bne,
-        0b100 => Op::Blt,
-        0b101 => Op::Bge,
-        0b110 => Op::Bltu,
-        0b111 => Op::Bgeu,
-        _ => return None,
-    };
-    Some(b_type(op, word))
+    // Most words of it have 0 in the seven bits of funct7.
+    if word < 1 << 25 {
+        return Some(r_type(base, word));
+    }
+    match funct7(word) {
+        0b0000001 => Some(r_type(multiply, word)),
+        _ => None,
+    }
 }
 
-/// LOAD.
-#[inline]
-fn load(word: u32) -> Option<Instr>
-    requires { opcode word ≡ 0b0000011 }
-    ensures { result ≡ find (rows_for (Major 0b0000011) base_table) word }
+/// An operation on two registers as `op` has it, and this other one of RV32I where funct7 is 32.
+#[inline(always)]
+fn op_or(word: u32, base: Op, other: Op, multiply: Op) -> Option<Instr>
+    ensures { result ≡ (if funct7 word == 0b0000000 then Some (operands R base word)
+        else if funct7 word == 0b0100000 then Some (operands R other word)
+        else if funct7 word == 0b0000001 then Some (operands R multiply word) else None) }
 {
-    let op = match funct3(word) {
-        0b000 => Op::Lb,
-        0b001 => Op::Lh,
-        0b010 => Op::Lw,
-        0b100 => Op::Lbu,
-        0b101 => Op::Lhu,
-        _ => return None,
-    };
-    Some(i_type(op, word))
-}
-
-/// STORE.
-#[inline]
-fn store(word: u32) -> Option<Instr>
-    requires { opcode word ≡ 0b0100011 }
-    ensures { result ≡ find (rows_for (Major 0b0100011) base_table) word }
-{
-    let op = match funct3(word) {
-        0b000 => Op::Sb,
-        0b001 => Op::Sh,
-        0b010 => Op::Sw,
-        _ => return None,
-    };
-    Some(s_type(op, word))
-}
-
-/// OP-IMM: the operations on a register and an immediate.
-#[inline]
-fn op_imm(word: u32) -> Option<Instr>
-    requires { opcode word ≡ 0b0010011 }
-    ensures { result ≡ find (rows_for (Major 0b0010011) base_table) word }
-{
-    let op = match (funct3(word), funct7(word)) {
-        (0b000, _) => Op::Addi,
-        (0b010, _) => Op::Slti,
-        (0b011, _) => Op::Sltiu,
-        (0b100, _) => Op::Xori,
-        (0b110, _) => Op::Ori,
-        (0b111, _) => Op::Andi,
-        (0b001, 0b0000000) => return Some(shift(Op::Slli, word)),
-        (0b101, 0b0000000) => return Some(shift(Op::Srli, word)),
-        (0b101, 0b0100000) => return Some(shift(Op::Srai, word)),
-        _ => return None,
-    };
-    Some(i_type(op, word))
-}
-
-/// OP: the operations on two registers.
-#[inline]
-fn op(word: u32) -> Option<Instr>
-    requires { opcode word ≡ 0b0110011 }
-    ensures { result ≡ find (rows_for (Major 0b0110011) base_table) word }
-{
-    let op = match (funct7(word), funct3(word)) {
-        (0b0000000, 0b000) => Op::Add,
-        (0b0100000, 0b000) => Op::Sub,
-        (0b0000000, 0b001) => Op::Sll,
-        (0b0000000, 0b010) => Op::Slt,
-        (0b0000000, 0b011) => Op::Sltu,
-        (0b0000000, 0b100) => Op::Xor,
-        (0b0000000, 0b101) => Op::Srl,
-        (0b0100000, 0b101) => Op::Sra,
-        (0b0000000, 0b110) => Op::Or,
-        (0b0000000, 0b111) => Op::And,
-        (0b0000001, 0b000) => Op::Mul,
-        (0b0000001, 0b001) => Op::Mulh,
-        (0b0000001, 0b010) => Op::Mulhsu,
-        (0b0000001, 0b011) => Op::Mulhu,
-        (0b0000001, 0b100) => Op::Div,
-        (0b0000001, 0b101) => Op::Divu,
-        (0b0000001, 0b110) => Op::Rem,
-        (0b0000001, 0b111) => Op::Remu,
-        _ => return None,
-    };
-    Some(r_type(op, word))
-}
-
-/// MISC-MEM: the fences.
-#[inline]
-fn misc_mem(word: u32) -> Option<Instr>
-    requires { opcode word ≡ 0b0001111 }
-    ensures { result ≡ find (rows_for (Major 0b0001111) base_table) word }
-{
-    match funct3(word) {
-        0b000 => Some(Instr::Plain { op: Op::Fence }),
-        0b001 => Some(Instr::Plain { op: Op::FenceI }),
+    if word < 1 << 25 {
+        return Some(r_type(base, word));
+    }
+    match funct7(word) {
+        0b0100000 => Some(r_type(other, word)),
+        0b0000001 => Some(r_type(multiply, word)),
         _ => None,
     }
 }
 
 /// SYSTEM: the words that call the environment.
-#[inline]
-pub(crate) fn system(word: u32) -> Option<Instr>
+#[inline(always)]
+fn system(word: u32) -> Option<Instr>
     requires { opcode word ≡ 0b1110011 }
     ensures { result ≡ find (rows_for (Major 0b1110011) base_table) word }
 {
@@ -209,27 +147,25 @@ pub(crate) fn system(word: u32) -> Option<Instr>
 }
 
 /// AMO: the atomics on words.
-#[inline]
+///
+/// It is always taken into its caller. Else its answer would lie in memory, and then no arm leads to its own code.
+#[inline(always)]
 fn amo(word: u32) -> Option<Instr>
-    requires { opcode word ≡ 0b0101111 }
-    ensures { result ≡ find (rows_for (Major 0b0101111) atomic_table) word }
+    requires { fits (Minor 0b0101111 0b010) word ≡ true }
+    ensures { result ≡ find (rows_for (Minor 0b0101111 0b010) atomic_table) word }
 {
-    if funct3(word) != 0b010 {
-        return None;
+    match funct5(word) {
+        0b00010 if rs2(word) == 0 => Some(r_type(Op::LrW, word)),
+        0b00011 => Some(r_type(Op::ScW, word)),
+        0b00001 => Some(r_type(Op::AmoswapW, word)),
+        0b00000 => Some(r_type(Op::AmoaddW, word)),
+        0b00100 => Some(r_type(Op::AmoxorW, word)),
+        0b01100 => Some(r_type(Op::AmoandW, word)),
+        0b01000 => Some(r_type(Op::AmoorW, word)),
+        0b10000 => Some(r_type(Op::AmominW, word)),
+        0b10100 => Some(r_type(Op::AmomaxW, word)),
+        0b11000 => Some(r_type(Op::AmominuW, word)),
+        0b11100 => Some(r_type(Op::AmomaxuW, word)),
+        _ => None,
     }
-    let op = match funct5(word) {
-        0b00010 if rs2(word) == 0 => Op::LrW,
-        0b00011 => Op::ScW,
-        0b00001 => Op::AmoswapW,
-        0b00000 => Op::AmoaddW,
-        0b00100 => Op::AmoxorW,
-        0b01100 => Op::AmoandW,
-        0b01000 => Op::AmoorW,
-        0b10000 => Op::AmominW,
-        0b10100 => Op::AmomaxW,
-        0b11000 => Op::AmominuW,
-        0b11100 => Op::AmomaxuW,
-        _ => return None,
-    };
-    Some(r_type(op, word))
 }

@@ -6,11 +6,9 @@ mod fields;
 mod kind;
 mod likely;
 mod operands;
-mod specialized;
 #[cfg(test)]
 mod tests;
 
 pub use asc_model::{Instr, Op};
 pub use decoding::decode;
-pub use likely::decode_likely;
-pub use specialized::decode_specialized;
+pub use likely::{decode_likely, operation};

@@ -1,22 +1,15 @@
 //! Words and the instructions that they are. Where an instruction stands beside a word, llvm-mc (LLVM 14.0.6) made the
 //! word of it; the other words are written after the manual's encoding.
-use crate::{Instr, Op, decode, decode_likely, decode_specialized};
+use crate::{Instr, Op, decode, decode_likely};
 use std::process::Abort;
 
-/// Both decoders answer this instruction for a word with the atomics, and that one without. The one of operations that
+/// The decoder answers this instruction for a word with the atomics, and that one without. The one of operations that
 /// programs do most answers it too, or none.
 fn assert_decoded<R: Abort>(rt: &R, word: u32, with: Option<Instr>, without: Option<Instr>) {
     for (atomics, want) in [(true, with), (false, without)] {
-        assert_eq!(rt;
-            (
-                decode(word, atomics),
-                decode_specialized::<false>(word, atomics)
-            ),
-            (want, want),
-            "{word}"
-        );
+        assert_eq!(rt; decode::<()>(word, atomics), want, "{word}");
     }
-    let likely = decode_likely(word);
+    let likely = decode_likely::<()>(word);
     assert!(rt; likely.is_none() || likely == without, "{word}");
 }
 
@@ -24,7 +17,7 @@ fn assert_decoded<R: Abort>(rt: &R, word: u32, with: Option<Instr>, without: Opt
 fn likely_operations(rt: HostRuntime) {
     // lui x5, 0x12345
     assert_eq!(rt;
-        decode_likely(0x1234_52B7),
+        decode_likely::<()>(0x1234_52B7),
         Some(Instr::U {
             op: Op::Lui,
             rd: 5,
@@ -32,7 +25,7 @@ fn likely_operations(rt: HostRuntime) {
         })
     );
     // ecall
-    assert_eq!(rt; decode_likely(0x0000_0073), None);
+    assert_eq!(rt; decode_likely::<()>(0x0000_0073), None);
 }
 
 #[test]

@@ -11,6 +11,12 @@ use crate::stepping::step_of;
 use asc_shape::{State, Steps};
 use std::sync::ledger::Ledger;
 
+/// The loop of `step_many`.
+struct Many;
+
+/// The loop of `step_until`.
+struct Until;
+
 /// Takes steps of a state until `most` are done, or the next one would be a guest call or a fault. It answers how many
 /// were done, and what the last attempt answered: `Went` where all were.
 ///
@@ -27,7 +33,7 @@ pub fn step_many<L: Ledger>(state: &mut State, most: u64, steps: &mut Steps<L>) 
     let shape = state.shape();
     let mut count = 0;
     while count < most {
-        match step_of::<State, L, false>(state, shape, steps) {
+        match step_of::<State, L, Many>(state, shape, steps) {
             Stepped::Went => count += 1,
             ended => return (count, ended),
         }
@@ -53,19 +59,14 @@ pub fn step_until<L: Ledger>(
     ensures ends { result.1 ≢ Went → result.1 ≡ stepped_of (next state.new) }
 {
     let shape = state.shape();
-    // The first step is on its own, so that the pc is tested at the head of the loop, where the next step reads it anyway.
-    let (first, ended) = step_many(state, most.min(1), steps);
-    if first == 0 {
-        return (0, ended);
-    }
-    let mut done = 1;
+    let mut done = 0;
     while done < most {
-        if state.pc() == pc {
-            return (done, Stepped::Went);
-        }
-        match step_of::<State, L, true>(state, shape, steps) {
+        match step_of::<State, L, Until>(state, shape, steps) {
             Stepped::Went => done += 1,
             ended => return (done, ended),
+        }
+        if state.pc() == pc {
+            break;
         }
     }
     (done, Stepped::Went)

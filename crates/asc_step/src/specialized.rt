@@ -18,15 +18,27 @@ use crate::faults::{fault, word_fault};
 use crate::places::read_word;
 use crate::version::has_atomics;
 use crate::{FaultKind, Stepped};
-use asc_isa::{Instr, Op, decode_specialized};
+use asc_isa::{Instr, Op, decode, operation};
 use asc_shape::{Shape, Words};
+
+/// A match with an arm for each of these operations, all of which do the same.
+///
+/// So the compiler makes code of its own for each operation, to which decoding leads at once.
+macro_rules! each_operation {
+    ($operation:expr => $execute:expr; $($op:ident)*) => {
+        match $operation { $(Op::$op => $execute),* }
+    };
+    ($operation:expr => $execute:expr; $($op:ident)*; _ => $rest:expr) => {
+        match $operation { $(Op::$op => $execute,)* _ => $rest }
+    };
+}
 
 /// Takes one step of a state of this shape as `try_step` does, with code of its own for each operation.
 ///
-/// `UNTIL` tells the two loops of steps apart. So each of them has a copy of this that is called there alone, which the
-/// compiler then takes into the loop.
+/// `K` is any type. It tells the two loops of steps apart: each of them has a copy of this that is called there alone,
+/// which the compiler then takes into the loop.
 #[inline]
-pub(crate) fn step_specialized<B: Words, const UNTIL: bool>(bytes: &mut B, shape: Shape) -> Stepped
+pub(crate) fn step_specialized<B: Words, K>(bytes: &mut B, shape: Shape) -> Stepped
     requires shape { shape ≡ (B.face bytes.old).state.shape }
     requires room { step_room ≤ room_of (B.face bytes.old).marks }
     ensures { Attempts (B.face bytes.old) (B.face bytes.new) result }
@@ -38,17 +50,15 @@ pub(crate) fn step_specialized<B: Words, const UNTIL: bool>(bytes: &mut B, shape
         return fault(kind, pc, pc);
     }
     let word = read_word(bytes, shape.place_of(pc));
-    match decode_specialized::<UNTIL>(word, has_atomics(shape.version())) {
-        Some(instruction) => execute_specialized::<B, UNTIL>(bytes, shape, pc, instruction),
+    match decode::<K>(word, has_atomics(shape.version())) {
+        Some(instruction) => execute_specialized::<B, K>(bytes, shape, pc, instruction),
         None => fault(FaultKind::Illegal, pc, word),
     }
 }
 
 /// Carries out the instruction at this pc, as `execute` does.
-///
-/// Each arm does the same: so the compiler makes code of its own for each operation, to which decoding leads at once.
 #[inline]
-fn execute_specialized<B: Words, const UNTIL: bool>(
+fn execute_specialized<B: Words, K>(
     bytes: &mut B,
     shape: Shape,
     pc: u32,
@@ -67,74 +77,19 @@ fn execute_specialized<B: Words, const UNTIL: bool>(
         (operand_places s.shape (view_of s) (Some instruction))
         (outcome_of_word s.shape (view_of s) (Some instruction)) }
 {
-    match operation(instruction) {
-        Op::Lui => execute::<B, false>(bytes, shape, pc, instruction),
-        Op::Auipc => execute::<B, false>(bytes, shape, pc, instruction),
-        Op::Jal => execute::<B, false>(bytes, shape, pc, instruction),
-        Op::Jalr => execute::<B, false>(bytes, shape, pc, instruction),
-        Op::Beq => execute::<B, false>(bytes, shape, pc, instruction),
-        Op::Bne => execute::<B, false>(bytes, shape, pc, instruction),
-        Op::Blt => execute::<B, false>(bytes, shape, pc, instruction),
-        Op::Bge => execute::<B, false>(bytes, shape, pc, instruction),
-        Op::Bltu => execute::<B, false>(bytes, shape, pc, instruction),
-        Op::Bgeu => execute::<B, false>(bytes, shape, pc, instruction),
-        Op::Lb => execute::<B, false>(bytes, shape, pc, instruction),
-        Op::Lh => execute::<B, false>(bytes, shape, pc, instruction),
-        Op::Lw => execute::<B, false>(bytes, shape, pc, instruction),
-        Op::Lbu => execute::<B, false>(bytes, shape, pc, instruction),
-        Op::Lhu => execute::<B, false>(bytes, shape, pc, instruction),
-        Op::Sb => execute::<B, false>(bytes, shape, pc, instruction),
-        Op::Sh => execute::<B, false>(bytes, shape, pc, instruction),
-        Op::Sw => execute::<B, false>(bytes, shape, pc, instruction),
-        Op::Addi => execute::<B, false>(bytes, shape, pc, instruction),
-        Op::Slti => execute::<B, false>(bytes, shape, pc, instruction),
-        Op::Sltiu => execute::<B, false>(bytes, shape, pc, instruction),
-        Op::Xori => execute::<B, false>(bytes, shape, pc, instruction),
-        Op::Ori => execute::<B, false>(bytes, shape, pc, instruction),
-        Op::Andi => execute::<B, false>(bytes, shape, pc, instruction),
-        Op::Slli => execute::<B, false>(bytes, shape, pc, instruction),
-        Op::Srli => execute::<B, false>(bytes, shape, pc, instruction),
-        Op::Srai => execute::<B, false>(bytes, shape, pc, instruction),
-        Op::Add => execute::<B, false>(bytes, shape, pc, instruction),
-        Op::Sub => execute::<B, false>(bytes, shape, pc, instruction),
-        Op::Sll => execute::<B, false>(bytes, shape, pc, instruction),
-        Op::Slt => execute::<B, false>(bytes, shape, pc, instruction),
-        Op::Sltu => execute::<B, false>(bytes, shape, pc, instruction),
-        Op::Xor => execute::<B, false>(bytes, shape, pc, instruction),
-        Op::Srl => execute::<B, false>(bytes, shape, pc, instruction),
-        Op::Sra => execute::<B, false>(bytes, shape, pc, instruction),
-        Op::Or => execute::<B, false>(bytes, shape, pc, instruction),
-        Op::And => execute::<B, false>(bytes, shape, pc, instruction),
-        Op::Fence => execute::<B, false>(bytes, shape, pc, instruction),
-        Op::FenceI => execute::<B, false>(bytes, shape, pc, instruction),
-        Op::Ecall => execute::<B, false>(bytes, shape, pc, instruction),
-        Op::Ebreak => execute::<B, false>(bytes, shape, pc, instruction),
-        Op::Mul => execute::<B, false>(bytes, shape, pc, instruction),
-        Op::Mulh => execute::<B, false>(bytes, shape, pc, instruction),
-        Op::Mulhsu => execute::<B, false>(bytes, shape, pc, instruction),
-        Op::Mulhu => execute::<B, false>(bytes, shape, pc, instruction),
-        Op::Div => execute::<B, false>(bytes, shape, pc, instruction),
-        Op::Divu => execute::<B, false>(bytes, shape, pc, instruction),
-        Op::Rem => execute::<B, false>(bytes, shape, pc, instruction),
-        Op::Remu => execute::<B, false>(bytes, shape, pc, instruction),
-        Op::LrW => execute::<B, false>(bytes, shape, pc, instruction),
-        Op::ScW => execute::<B, false>(bytes, shape, pc, instruction),
-        Op::AmoswapW => execute::<B, false>(bytes, shape, pc, instruction),
-        Op::AmoaddW => execute::<B, false>(bytes, shape, pc, instruction),
-        Op::AmoxorW => execute::<B, false>(bytes, shape, pc, instruction),
-        Op::AmoandW => execute::<B, false>(bytes, shape, pc, instruction),
-        Op::AmoorW => execute::<B, false>(bytes, shape, pc, instruction),
-        Op::AmominW => execute::<B, false>(bytes, shape, pc, instruction),
-        Op::AmomaxW => execute::<B, false>(bytes, shape, pc, instruction),
-        Op::AmominuW => execute::<B, false>(bytes, shape, pc, instruction),
-        Op::AmomaxuW => execute::<B, false>(bytes, shape, pc, instruction),
-    }
+    each_operation!(
+        operation(instruction) => execute::<B, false>(bytes, shape, pc, instruction);
+        Lui Auipc Jal Jalr Beq Bne Blt Bge Bltu Bgeu Lb Lh Lw Lbu Lhu Sb Sh Sw Addi Slti Sltiu Xori
+        Ori Andi Slli Srli Srai Add Sub Sll Slt Sltu Xor Srl Sra Or And Fence FenceI Ecall Ebreak
+        Mul Mulh Mulhsu Mulhu Div Divu Rem Remu LrW ScW AmoswapW AmoaddW AmoxorW AmoandW AmoorW
+        AmominW AmomaxW AmominuW AmomaxuW
+    )
 }
 
 /// Carries out the instruction at this pc, as `execute` does, with code of its own for the operations that programs do
 /// most. The registers of the instruction are settled where `SETTLED` says so.
 ///
-/// Each arm does the same, as in `execute_specialized`. With many more arms the compiler no longer takes this into the
+/// With many more arms the compiler no longer takes this into the
 /// loop of a trace, which then is slower. The last arm is for none of the operations that `decode_likely` answers, and is
 /// a call, so that it takes no room here. What it came to is in `rare`, which the caller's caller keeps: memory for it
 /// here would be filled anew at each step.
@@ -160,40 +115,15 @@ pub(crate) fn execute_likely<B: Words, K, const SETTLED: bool>(
         (operand_places s.shape (view_of s) (Some instruction))
         (outcome_of_word s.shape (view_of s) (Some instruction)) }
 {
-    match operation(instruction) {
-        Op::Lui => execute::<B, SETTLED>(bytes, shape, pc, instruction),
-        Op::Jal => execute::<B, SETTLED>(bytes, shape, pc, instruction),
-        Op::Jalr => execute::<B, SETTLED>(bytes, shape, pc, instruction),
-        Op::Beq => execute::<B, SETTLED>(bytes, shape, pc, instruction),
-        Op::Bne => execute::<B, SETTLED>(bytes, shape, pc, instruction),
-        Op::Blt => execute::<B, SETTLED>(bytes, shape, pc, instruction),
-        Op::Bge => execute::<B, SETTLED>(bytes, shape, pc, instruction),
-        Op::Bltu => execute::<B, SETTLED>(bytes, shape, pc, instruction),
-        Op::Bgeu => execute::<B, SETTLED>(bytes, shape, pc, instruction),
-        Op::Lb => execute::<B, SETTLED>(bytes, shape, pc, instruction),
-        Op::Lw => execute::<B, SETTLED>(bytes, shape, pc, instruction),
-        Op::Lbu => execute::<B, SETTLED>(bytes, shape, pc, instruction),
-        Op::Sb => execute::<B, SETTLED>(bytes, shape, pc, instruction),
-        Op::Sw => execute::<B, SETTLED>(bytes, shape, pc, instruction),
-        Op::Addi => execute::<B, SETTLED>(bytes, shape, pc, instruction),
-        Op::Xori => execute::<B, SETTLED>(bytes, shape, pc, instruction),
-        Op::Ori => execute::<B, SETTLED>(bytes, shape, pc, instruction),
-        Op::Andi => execute::<B, SETTLED>(bytes, shape, pc, instruction),
-        Op::Slli => execute::<B, SETTLED>(bytes, shape, pc, instruction),
-        Op::Srli => execute::<B, SETTLED>(bytes, shape, pc, instruction),
-        Op::Srai => execute::<B, SETTLED>(bytes, shape, pc, instruction),
-        Op::Add => execute::<B, SETTLED>(bytes, shape, pc, instruction),
-        Op::Sub => execute::<B, SETTLED>(bytes, shape, pc, instruction),
-        Op::Sltu => execute::<B, SETTLED>(bytes, shape, pc, instruction),
-        Op::Xor => execute::<B, SETTLED>(bytes, shape, pc, instruction),
-        Op::Or => execute::<B, SETTLED>(bytes, shape, pc, instruction),
-        Op::And => execute::<B, SETTLED>(bytes, shape, pc, instruction),
-        Op::Mul => execute::<B, SETTLED>(bytes, shape, pc, instruction),
+    each_operation!(
+        operation(instruction) => execute::<B, SETTLED>(bytes, shape, pc, instruction);
+        Lui Jal Jalr Beq Bne Blt Bge Bltu Bgeu Lb Lw Lbu Sb Sw Addi Xori Ori Andi Slli Srli Srai Add
+        Sub Sltu Xor Or And Mul;
         _ => {
             execute_rest(bytes, shape, pc, instruction, rare);
             *rare
         }
-    }
+    )
 }
 
 /// Carries out the instruction at this pc, as `execute` does, out of line: so `execute_likely` stays small enough to be
@@ -221,20 +151,4 @@ fn execute_rest<B: Words>(
         (outcome_of_word s.shape (view_of s) (Some instruction)) }
 {
     *rare = execute::<B, false>(bytes, shape, pc, instruction);
-}
-
-/// The operation of an instruction.
-#[inline(always)]
-fn operation(instruction: Instr) -> Op
-    ensures { result ≡ op_of instruction }
-{
-    match instruction {
-        Instr::U { op, .. }
-        | Instr::J { op, .. }
-        | Instr::I { op, .. }
-        | Instr::S { op, .. }
-        | Instr::B { op, .. }
-        | Instr::R { op, .. }
-        | Instr::Plain { op } => op,
-    }
 }

@@ -116,7 +116,7 @@ fn execute_fetched<B: Words, K, const SETTLED: bool>(
         (operand_places s.shape (view_of s) (decode s.shape.version word))
         (outcome_of_word s.shape (view_of s) (decode s.shape.version word)) }
 {
-    match decode_likely(word) {
+    match decode_likely::<K>(word) {
         Some(instruction) => {
             execute_likely::<B, K, SETTLED>(bytes, shape, pc, instruction, rare)
         }
@@ -126,6 +126,9 @@ fn execute_fetched<B: Words, K, const SETTLED: bool>(
         }
     }
 }
+
+/// The copy of the decoder for words that are not likely.
+struct Rest;
 
 /// Carries out the word that was fetched from this pc, whatever it is. It is not handed the shape, which a loop would
 /// keep in memory for it alone. What it came to is put into `rare`.
@@ -143,16 +146,16 @@ fn execute_word<B: Words>(bytes: &mut B, pc: u32, word: u32, rare: &mut Stepped)
         (outcome_of_word s.shape (view_of s) (decode s.shape.version word)) }
 {
     let shape = bytes.shape();
-    *rare = match decode(word, has_atomics(shape.version())) {
+    *rare = match decode::<Rest>(word, has_atomics(shape.version())) {
         Some(instruction) => execute::<B, false>(bytes, shape, pc, instruction),
         None => fault(FaultKind::Illegal, pc, word),
     };
 }
 
-/// Takes one step of a state of this shape as `try_step` does, and counts it where the program went on. `UNTIL` tells the
-/// two loops of steps apart, as in `step_specialized`.
+/// Takes one step of a state of this shape as `try_step` does, and counts it where the program went on. `K` tells
+/// the two loops of steps apart, as in `step_specialized`.
 #[inline]
-pub(crate) fn step_of<B: Words, L: Ledger, const UNTIL: bool>(
+pub(crate) fn step_of<B: Words, L: Ledger, K>(
     bytes: &mut B,
     shape: Shape,
     steps: &mut Steps<L>,
@@ -162,7 +165,7 @@ pub(crate) fn step_of<B: Words, L: Ledger, const UNTIL: bool>(
     ensures step { Attempts (B.face bytes.old) (B.face bytes.new) result }
     ensures counter { steps.new ≡ steps.old + counted_steps result }
 {
-    let stepped = step_specialized::<B, UNTIL>(bytes, shape);
+    let stepped = step_specialized::<B, K>(bytes, shape);
     if let Stepped::Went = stepped {
         steps.tick();
     }
@@ -177,5 +180,5 @@ pub fn step<B: Words, L: Ledger>(bytes: &mut B, steps: &mut Steps<L>) -> Stepped
     ensures counter { steps.new ≡ steps.old + counted_steps result }
 {
     let shape = bytes.shape();
-    step_of::<B, L, false>(bytes, shape, steps)
+    step_of::<B, L, ()>(bytes, shape, steps)
 }

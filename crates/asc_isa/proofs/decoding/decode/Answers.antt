@@ -4,5 +4,5 @@ use Rattle.asc_isa.proofs.Rows.{decode-registers}
 use Rattle.asc_isa.proofs.decoding.decode.Goals as goal
 
 pub returns-clause-registers : goal.returns-clause-registers
-returns-clause-registers c =
+returns-clause-registers g c =
     subst (λ i. IfSome i HasRegisters) (sym c.instruction.ensures) (decode-registers _ c.args.word)

@@ -26,14 +26,14 @@ execute_specialized-requires-clause-version g c =
     let same = c.read_word-word.ensures.state ∙ c.read_word-pc.ensures.state in
     effect_of_version _ _ _ _ (subst IsState (sym same) c.shape.ensures.state)
     (c.has_atomics.ensures ∙ c.version.ensures ∙ ap (λ (x : Shape). x.version) (c.requires.shape ∙ ap (λ (s : State). s.shape) (sym same)))
-    c.in-Some-decode_specialized.ensures.instruction
+    c.in-Some-decode.ensures.instruction
 
-pub returns-in-Some-decode_specialized : goal.returns-in-Some-decode_specialized
-returns-in-Some-decode_specialized g c =
+pub returns-in-Some-decode : goal.returns-in-Some-decode
+returns-in-Some-decode g c =
     let pc = c.read_word-pc.ensures in
     let word = c.read_word-word.ensures in
     let known = fetched _ _ _ _ _ _ _ _ _ c.shape.ensures.state c.shape.ensures.marks c.requires.shape pc.value pc.face
-    c.in_default.ensures c.place_of.ensures word.value word.face (c.has_atomics.ensures ∙ c.version.ensures) c.in-Some-decode_specialized.ensures.instruction in
+    c.in_default.ensures c.place_of.ensures word.value word.face (c.has_atomics.ensures ∙ c.version.ensures) c.in-Some-decode.ensures.instruction in
     step_fetched _ _ _ _ _ _ known _ _ c.execute_specialized.ensures.answer c.execute_specialized.ensures.face
 
 pub returns-in-None : goal.returns-in-None
