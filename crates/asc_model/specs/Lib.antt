@@ -10,5 +10,6 @@ pub mod Places
 pub mod Plain
 pub mod DependencyVector
 pub mod Entry
+pub mod EntryFile
 pub mod Reach
 pub mod Laws

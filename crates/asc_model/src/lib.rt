@@ -7,6 +7,7 @@
 mod fault;
 mod instruction;
 mod laws;
+mod save_fault;
 mod status;
 mod version;
 mod why;
@@ -19,6 +20,7 @@ pub use laws::{
     repeated_words_touch_no_new_register, rows_differ, states_determine_views, step_writes_bytes,
     steps_keep_states, steps_touch_places, views_determine_states,
 };
+pub use save_fault::SaveFault;
 pub use status::Status;
 pub use version::Version;
 pub use why::Why;
