@@ -1,12 +1,39 @@
 -- Lemmas on pages.
-use Rattle.std.proofs.Common.{◌≡◌, inl, inr, ℕ, ◌+◌, ◌*◌, ◌-◌, ◌/◌, ◌%◌, ◌≤◌, ◌<◌, Bool, true, Option, None, List, [], ◌++◌, length, take, drop, replicate, refl, sym, ap, ◌∙◌, arith, max, min, slice_index, slice_index_or, length-append, length-take}
+use Rattle.std.proofs.Common.{◌≡◌, ◌≢◌, ◌⊎◌, inl, inr, ℕ, zero, suc, ◌+◌, ◌*◌, ◌-◌, ◌/◌, ◌%◌, ◌≤◌, ◌<◌, Bool, true, false, nat_eq, Option, None, Some, List, [], ◌∷◌, ◌++◌, length, take, drop, replicate, refl, sym, ap, ◌∙◌, arith, max, min, slice_index, slice_index_or, map, length-append, length-take, eq-eqb}
 use Rattle.std.proofs.lemmas.List.{get_or_past, get_or_append_left, get_or-append_right, get_or-replicate, get_or-take, get_or-drop, length-replicate}
 use Rattle.std.proofs.lemmas.List.FromFn.{length-map-range_with_len, get_or-map-range_with_len}
-use Rattle.std.proofs.lemmas.Bool.{cases_lt}
+use Rattle.std.proofs.lemmas.List.Sums.{position_or_len_is, fails_before_first, passes_at_first}
+use Rattle.std.proofs.lemmas.Bool.{cases_lt, eqb-true, lt-ltb, le-ltb}
+use Rattle.std.proofs.lemmas.Bool.Decides.{nat_tests}
+use Rattle.std.specs.List.{range_with_len}
+use Rattle.std.specs.declared.sync.Arc.{Arc}
+use Rattle.std.specs.Global.{Vec, Global}
 use Rattle.asc_model.specs.Number.{word_at}
 use Rattle.asc_model.proofs.Numbers.{word_at-from_le_bytes}
-use Rattle.asc_pages.specs.Marks.{IsUnmarked}
-use Rattle.asc_pages.specs.Pages.{Page, Group, held, page_bytes, page_in, with_gap, group_in, byte_in, bytes_in, IsPage, ArePages, KeptPages, Tells, Keeps}
+use Rattle.asc_pages.specs.Marks.{IsUnlisted, IsUnmarked}
+use Rattle.asc_pages.specs.Pages.{Page, Group, held, page_bytes, page_in, with_gap, group_in, IsPage, ArePages, AreGroups, IsShared, Tells, Keeps}
+use Rattle.asc_pages.specs.Tops.{bytes_in, end_of, groups_in, page_of, place_of}
+use Rattle.asc_pages.specs.declared.pages.Top.{Top}
+
+-- ---- what is shared
+
+pub held_shared : (group was : Option Group) → IsShared group was → held group ≡ held was
+held_shared None None shared = refl
+held_shared None (Some was) shared = absurd shared
+held_shared (Some group) None shared = absurd shared
+held_shared (Some group) (Some was) shared = ap (λ (v : Vec (Option Page)). v.items) shared
+
+pub page_shared : (page was : Option Page) → IsShared page was → page_bytes page ≡ page_bytes was
+page_shared None None shared = refl
+page_shared None (Some was) shared = absurd shared
+page_shared (Some page) None shared = absurd shared
+page_shared (Some page) (Some was) shared = shared
+
+pub groups_shared : (groups was : Option (Arc (List (Option Group)) Global)) → IsShared groups was → groups_in groups ≡ groups_in was
+groups_shared None None shared = refl
+groups_shared None (Some was) shared = absurd shared
+groups_shared (Some groups) None shared = absurd shared
+groups_shared (Some groups) (Some was) shared = shared
 
 -- ---- what is left out
 
@@ -41,30 +68,126 @@ group_high groups low gap g inside above =
     ∙ get_or-drop low groups (g - low - gap) None
     ∙ ap (λ k. slice_index_or groups k None) (let e : low + (g - low - gap) ≡ g - gap = omega arith in e)
 
--- the byte at a place, also behind the last group
-byte_past : (groups : List (Option Group)) (i : ℕ) → 32768 * length groups ≤ i → byte_in groups i ≡ 0
-byte_past groups i past =
-    ap (λ (group : Option Group). slice_index (page_in (held group) (i / 1024 % 32)) (i % 1024)) (get_or_past groups (i / 1024 / 32) None (omega arith))
-    ∙ ap (λ (l : List ℕ). slice_index l (i % 1024)) (none_in (i / 1024 % 32)) ∙ get_or_past [] (i % 1024) 0 (omega arith)
+-- ---- pages that stand in the place of others
 
-pub byte-bytes_in : (groups : List (Option Group)) (i : ℕ) → slice_index (bytes_in groups) i ≡ byte_in groups i
+pub place_is : (patched : List ℕ) (p k : ℕ) → k ≤ length patched → ((j : ℕ) → j < k → slice_index patched j ≢ p) → (k < length patched → slice_index patched k ≡ p) → place_of patched p ≡ k
+unfolding place_of
+place_is patched p k most others here = position_or_len_is (λ n. nat_eq n p) patched k 0 most (λ j below. let h = others j below in grind (arith, nat_tests)) (λ inside. eq-eqb _ _ (here inside))
+
+pub place_found : (patched : List ℕ) (p : ℕ) → place_of patched p < length patched → slice_index patched (place_of patched p) ≡ p
+unfolding place_of
+place_found patched p found = eqb-true _ _ (passes_at_first (λ n. nat_eq n p) patched 0 found)
+
+pub place_past : (patched : List ℕ) (p : ℕ) → IsUnlisted patched p → length patched ≤ place_of patched p
+place_past patched p other = elim (cases_lt (place_of patched p) (length patched)) [
+  | inl found ↦ absurd (other (place_of patched p) found (place_found patched p found))
+  | inr past ↦ past
+]
+
+pub past_unlisted : (patched : List ℕ) (p : ℕ) → length patched ≤ place_of patched p → IsUnlisted patched p
+unfolding place_of
+past_unlisted patched p past j below same =
+    let no : nat_eq (slice_index patched j) p ≡ false = fails_before_first (λ n. nat_eq n p) patched j 0 (omega arith) in
+    let yes : nat_eq (slice_index patched j) p ≡ true = eq-eqb _ _ same in
+    cc
+
+end_each : (patched : List ℕ) (k : ℕ) → k < length patched → slice_index patched k < end_of patched
+end_each [] k below = absurd (omega arith)
+end_each (p ∷ patched) zero below = omega arith
+end_each (p ∷ patched) (suc k) below = let h = end_each patched k (omega arith) in omega arith
+
+-- ---- pages
+
+-- one that stands in the place of another
+pub page_patched : (top : Top) (p : ℕ) → place_of top.patched.items p < length top.patched.items → page_of top p ≡ page_in top.patches.items (place_of top.patched.items p)
+unfolding page_of
+page_patched top p found = rw lt-ltb
+
+-- one of a group
+pub page_plain : (top : Top) (p : ℕ) → length top.patched.items ≤ place_of top.patched.items p → page_of top p ≡ page_in (group_in (groups_in top.groups) (p / 32)) (p % 32)
+unfolding page_of
+page_plain top p past = rw le-ltb
+
+-- one behind the last
+page_past : (top : Top) (p : ℕ) → 32 * length (groups_in top.groups) ≤ p → end_of top.patched.items ≤ p → page_of top p ≡ []
+page_past top p behind higher = elim (cases_lt (place_of top.patched.items p) (length top.patched.items)) [
+  | inl found ↦ absurd (omega (arith, end_each top.patched.items (place_of top.patched.items p) found, place_found top.patched.items p found))
+  | inr past ↦ page_plain top p past
+      ∙ ap (λ (group : Option Group). page_in (held group) (p % 32)) (get_or_past (groups_in top.groups) (p / 32) None (omega arith))
+      ∙ none_in (p % 32)
+]
+
+-- ---- bytes
+
+pub byte-bytes_in : (top : Top) (i : ℕ) → slice_index (bytes_in top) i ≡ slice_index (page_of top (i / 1024)) (i % 1024)
 unfolding bytes_in
-byte-bytes_in groups i =
-    let n = 32768 * length groups in
+byte-bytes_in top i =
+    let byte = λ (j : ℕ). slice_index (page_of top (j / 1024)) (j % 1024) in
+    let n = 1024 * max (32 * length (groups_in top.groups)) (end_of top.patched.items) in
     elim (cases_lt i n) [
-      | inl within ↦ get_or-map-range_with_len (byte_in groups) 0 n i i 0 within (omega arith)
-      | inr past ↦ get_or_past (bytes_in groups) i 0 (omega (arith, length-map-range_with_len (byte_in groups) 0 n)) ∙ sym (byte_past groups i past)
+      | inl within ↦ get_or-map-range_with_len byte 0 n i i 0 within (omega arith)
+      | inr past ↦ get_or_past (bytes_in top) i 0 (omega (arith, length-map-range_with_len byte 0 n))
+          ∙ sym (ap (λ (l : List ℕ). slice_index l (i % 1024)) (page_past top (i / 1024) (omega arith) (omega arith)) ∙ get_or_past [] (i % 1024) 0 (omega arith))
     ]
 
 -- a page as it is read
-pub page_read : (bytes : List ℕ) (groups : List (Option Group)) (pages : List (Option Page)) (page : List ℕ) (p : ℕ)
-    → bytes_in groups ≡ bytes → pages ≡ group_in groups (p / 32) → page ≡ page_in pages (p % 32)
+pub page_read : (bytes : List ℕ) (top : Top) (page : List ℕ) (p : ℕ) → bytes_in top ≡ bytes → page ≡ page_of top p
     → (i : ℕ) → i / 1024 ≡ p → slice_index bytes i ≡ slice_index page (i % 1024)
-page_read bytes groups pages page p is group here i at =
-    ap (λ (l : List ℕ). slice_index l i) (sym is) ∙ byte-bytes_in groups i
-    ∙ ap (λ q. slice_index (page_in (group_in groups (q / 32)) (q % 32)) (i % 1024)) at
-    ∙ ap (λ (l : List (Option Page)). slice_index (page_in l (p % 32)) (i % 1024)) (sym group)
+page_read bytes top page p is here i at =
+    ap (λ (l : List ℕ). slice_index l i) (sym is) ∙ byte-bytes_in top i
+    ∙ ap (λ q. slice_index (page_of top q) (i % 1024)) at
     ∙ ap (λ (l : List ℕ). slice_index l (i % 1024)) (sym here)
+
+-- a page that is kept
+pub kept_page : (marks : List Bool) (bytes : List ℕ) (top : Top) (p : ℕ) → Keeps marks (bytes_in top) bytes → slice_index_or marks p true ≡ false → IsPage bytes p (page_of top p)
+kept_page marks bytes top p kept free i far inside here =
+    kept i far inside (ap (λ q. slice_index_or marks q true) here ∙ free) ∙ byte-bytes_in top i ∙ ap (λ q. slice_index (page_of top q) (i % 1024)) here
+
+-- and one of a group
+pub kept_plain : (marks : List Bool) (bytes : List ℕ) (top : Top) (g k : ℕ) → Keeps marks (bytes_in top) bytes → k < 32 → slice_index_or marks (32 * g + k) true ≡ false
+    → IsUnlisted top.patched.items (32 * g + k) → IsPage bytes (32 * g + k) (page_in (group_in (groups_in top.groups) g) k)
+kept_plain marks bytes top g k kept within free other i far inside here =
+    let groups = groups_in top.groups in
+    kept_page marks bytes top (32 * g + k) kept free i far inside here
+    ∙ ap (λ (l : List ℕ). slice_index l (i % 1024)) (page_plain top (32 * g + k) (place_past top.patched.items (32 * g + k) other)
+    ∙ ap (λ h. page_in (group_in groups h) ((32 * g + k) % 32)) (let e : (32 * g + k) / 32 ≡ g = omega arith in e)
+    ∙ ap (λ j. page_in (group_in groups g) j) (let e : (32 * g + k) % 32 ≡ k = omega arith in e))
+
+-- pages that are told one by one
+told : (bytes : List ℕ) (top : Top) → ((p : ℕ) → IsPage bytes p (page_of top p)) → Tells (bytes_in top) bytes
+told bytes top each i far inside = each (i / 1024) i far inside refl ∙ sym (byte-bytes_in top i)
+
+-- groups alone
+pub told_whole : (bytes : List ℕ) (top : Top) → AreGroups bytes (groups_in top.groups) → top.patched.items ≡ [] → Tells (bytes_in top) bytes
+told_whole bytes top each none = told bytes top
+    (λ p i far inside here. each (p / 32) (p % 32) (omega arith) i far inside (omega arith)
+    ∙ ap (λ (l : List ℕ). slice_index l (i % 1024)) (sym (page_plain top p (let e = ap (λ (l : List ℕ). length l) none in omega arith))))
+
+-- those of a base, and pages that stand in the place of theirs
+pub told_patched : (marks : List Bool) (bytes : List ℕ) (base top : Top) → length marks ≡ length bytes / 1024 + 1 → Keeps marks (bytes_in base) bytes
+    → groups_in top.groups ≡ groups_in base.groups
+    → ((p : ℕ) → IsUnlisted top.patched.items p → IsUnlisted base.patched.items p × (p < length marks → slice_index_or marks p true ≡ false))
+    → ((k : ℕ) → k < length top.patched.items → IsPage bytes (slice_index top.patched.items k) (page_in top.patches.items k)) → Tells (bytes_in top) bytes
+told_patched marks bytes base top size kept same others each = told bytes top
+    (λ p. elim (cases_lt (place_of top.patched.items p) (length top.patched.items)) [
+      | inl found ↦ λ i far inside here. each (place_of top.patched.items p) found i far inside (here ∙ sym (place_found top.patched.items p found))
+          ∙ ap (λ (l : List ℕ). slice_index l (i % 1024)) (sym (page_patched top p found))
+      | inr past ↦ λ i far inside here.
+          let other = others p (past_unlisted top.patched.items p past) in
+          kept_page marks bytes base p kept (other.1 (omega arith)) i far inside here
+          ∙ ap (λ (l : List ℕ). slice_index l (i % 1024)) (page_plain base p (place_past base.patched.items p other.0)
+          ∙ ap (λ (groups : List (Option Group)). page_in (group_in groups (p / 32)) (p % 32)) (sym same)
+          ∙ sym (page_plain top p past))
+    ])
+
+-- no pages have no bytes
+pub bytes_of_none : (top : Top) → groups_in top.groups ≡ [] → top.patched.items ≡ [] → bytes_in top ≡ []
+unfolding bytes_in
+bytes_of_none top groups patched =
+    let byte = λ (j : ℕ). slice_index (page_of top (j / 1024)) (j % 1024) in
+    let none : 1024 * max (32 * length (groups_in top.groups)) (end_of top.patched.items) ≡ 0 =
+    omega (arith, ap (λ (l : List (Option Group)). length l) groups, ap (λ (l : List ℕ). end_of l) patched) in
+    ap (λ n. map byte (range_with_len 0 n)) none
 
 -- ---- words
 
@@ -111,57 +234,48 @@ written_over bytes new zeros rest behind n k m least same is count blank i withi
           ∙ ap (λ (l : List ℕ). slice_index l (i - n)) blank ∙ zeros-at m (i - n) ∙ sym (get_or_past bytes i 0 (omega arith))
     ]
 
--- no groups have no bytes
-pub bytes_of_none : bytes_in [] ≡ []
-unfolding bytes_in
-bytes_of_none = refl
+-- a group that is shared
+pub group_shared : (marks : List Bool) (bytes : List ℕ) (top : Top) (g : ℕ) (group : Option Group) → length marks ≡ length bytes / 1024 + 1 → Keeps marks (bytes_in top) bytes
+    → IsUnmarked marks (32 * g) 32 → ((k : ℕ) → k < 32 → IsUnlisted top.patched.items (32 * g + k)) → IsShared group (slice_index_or (groups_in top.groups) g None)
+    → ArePages bytes (32 * g) (held group)
+group_shared marks bytes top g group size kept free others shared k within i far inside here =
+    kept_plain marks bytes top g k kept within (free (32 * g + k) (omega arith) (omega arith) (omega arith)) (others k within) i far inside here
+    ∙ ap (λ pages. slice_index (page_in pages k) (i % 1024)) (sym (held_shared group (slice_index_or (groups_in top.groups) g None) shared))
 
--- pages that are kept, as a group of them is read
-pub kept_pages : (marks : List Bool) (bytes : List ℕ) (groups : List (Option Group)) (g : ℕ) → Keeps marks (bytes_in groups) bytes
-    → KeptPages marks bytes (32 * g) (group_in groups g)
-kept_pages marks bytes groups g kept k within free i far inside here =
-    kept i far inside (ap (λ p. slice_index_or marks p true) here ∙ free)
-    ∙ page_read (bytes_in groups) groups (group_in groups g) (page_in (group_in groups g) k) (32 * g + k) refl
-    (ap (λ h. group_in groups h) (let e : g ≡ (32 * g + k) / 32 = omega arith in e))
-    (ap (λ j. page_in (group_in groups g) j) (let e : k ≡ (32 * g + k) % 32 = omega arith in e)) i here
-
--- a page behind those that are copied
-pub page_behind : (marks : List Bool) (bytes : List ℕ) (g used k : ℕ) (kept pages : List (Option Page)) → length marks ≡ length bytes / 1024 + 1
-    → IsUnmarked marks (32 * g + used) (32 - used) → KeptPages marks bytes (32 * g) kept → k < 32
-    → length pages ≤ k → length pages ≡ min (max used (length kept)) (min (32 * g + 32) (length marks) - 32 * g) → IsPage bytes (32 * g + k) (page_in pages k)
-page_behind marks bytes g used k kept pages size free so within past count i far inside here =
-    so k within (free (32 * g + k) (omega arith) (omega arith) (omega arith)) i far inside here
-    ∙ ap (λ (l : List ℕ). slice_index l (i % 1024)) (past_in kept k (omega arith) ∙ sym (past_in pages k past))
+-- a page behind those that are written
+pub page_behind : (marks : List Bool) (bytes : List ℕ) (top : Top) (g used k : ℕ) (pages : List (Option Page)) → length marks ≡ length bytes / 1024 + 1 → Keeps marks (bytes_in top) bytes
+    → IsUnmarked marks (32 * g + used) (32 - used) → ((k : ℕ) → used ≤ k → k < 32 → IsUnlisted top.patched.items (32 * g + k)) → k < 32
+    → length pages ≤ k → length pages ≡ min (max used (length (group_in (groups_in top.groups) g))) (min (32 * g + 32) (length marks) - 32 * g) → IsPage bytes (32 * g + k) (page_in pages k)
+page_behind marks bytes top g used k pages size kept free others within past count i far inside here =
+    kept_plain marks bytes top g k kept within (free (32 * g + k) (omega arith) (omega arith) (omega arith)) (others k (omega arith) within) i far inside here
+    ∙ ap (λ (l : List ℕ). slice_index l (i % 1024)) (past_in (group_in (groups_in top.groups) g) k (omega arith) ∙ sym (past_in pages k past))
 
 -- the pages of a group
-pub group_made : (marks : List Bool) (bytes : List ℕ) (g used : ℕ) (kept pages : List (Option Page)) → length marks ≡ length bytes / 1024 + 1
-    → IsUnmarked marks (32 * g + used) (32 - used) → KeptPages marks bytes (32 * g) kept
-    → length pages ≡ min (max used (length kept)) (min (32 * g + 32) (length marks) - 32 * g)
+pub group_made : (marks : List Bool) (bytes : List ℕ) (top : Top) (g used : ℕ) (pages : List (Option Page)) → length marks ≡ length bytes / 1024 + 1 → Keeps marks (bytes_in top) bytes
+    → IsUnmarked marks (32 * g + used) (32 - used) → ((k : ℕ) → used ≤ k → k < 32 → IsUnlisted top.patched.items (32 * g + k))
+    → length pages ≡ min (max used (length (group_in (groups_in top.groups) g))) (min (32 * g + 32) (length marks) - 32 * g)
     → ((k : ℕ) → k < length pages → IsPage bytes (32 * g + k) (page_bytes (slice_index_or pages k None))) → ArePages bytes (32 * g) pages
-group_made marks bytes g used kept pages size free so count each k within = elim (cases_lt k (length pages)) [
+group_made marks bytes top g used pages size kept free others count each k within = elim (cases_lt k (length pages)) [
   | inl inside ↦ each k inside
-  | inr past ↦ page_behind marks bytes g used k kept pages size free so within past count
+  | inr past ↦ page_behind marks bytes top g used k pages size kept free others within past count
 ]
 
--- the bytes of groups that are told one by one
-groups_told : (bytes : List ℕ) (groups : List (Option Group)) → ((g : ℕ) → ArePages bytes (32 * g) (group_in groups g)) → Tells (bytes_in groups) bytes
-groups_told bytes groups each i far inside = each (i / 1024 / 32) (i / 1024 % 32) (omega arith) i far inside (omega arith) ∙ sym (byte-bytes_in groups i)
-
--- the bytes of groups of which a run is left out
-pub groups_made : (marks : List Bool) (bytes : List ℕ) (before groups : List (Option Group)) (low gap : ℕ) → length marks ≡ length bytes / 1024 + 1
-    → Keeps marks (bytes_in before) bytes → IsUnmarked marks (32 * low) (32 * gap)
-    → ((g : ℕ) → low ≤ g → g < low + gap → slice_index_or before g None ≡ None)
+-- groups of which a run is left out
+pub groups_made : (marks : List Bool) (bytes : List ℕ) (top : Top) (groups : List (Option Group)) (low gap : ℕ) → length marks ≡ length bytes / 1024 + 1
+    → Keeps marks (bytes_in top) bytes → IsUnmarked marks (32 * low) (32 * gap)
+    → ((j : ℕ) → j < length top.patched.items → (slice_index top.patched.items j / 32 < low) ⊎ (low + gap ≤ slice_index top.patched.items j / 32))
+    → ((g : ℕ) → low ≤ g → g < low + gap → slice_index_or (groups_in top.groups) g None ≡ None)
     → low ≤ length groups → length marks ≤ 32 * (length groups + gap)
     → ((k : ℕ) → k < length groups → k < low → ArePages bytes (32 * k) (group_in groups k))
-    → ((k : ℕ) → k < length groups → low ≤ k → ArePages bytes (32 * (k + gap)) (group_in groups k)) → Tells (bytes_in (with_gap groups low gap)) bytes
-groups_made marks bytes before groups low gap size kept unmarked blank inner all lows highs = groups_told bytes (with_gap groups low gap)
-    (λ g k within i far inside here. elim (cases_lt g low) [
-      | inl below ↦ lows g (omega arith) below k within i far inside here
-          ∙ ap (λ (group : Option Group). slice_index (page_in (held group) k) (i % 1024)) (sym (group_low groups low gap g inner below))
-      | inr above ↦ elim (cases_lt g (low + gap)) [
-        | inl left ↦ kept_pages marks bytes before g kept k within (unmarked (32 * g + k) (omega arith) (omega arith) (omega arith)) i far inside here
-            ∙ ap (λ (group : Option Group). slice_index (page_in (held group) k) (i % 1024)) (blank g above left ∙ sym (group_left groups low gap g inner above left))
-        | inr high ↦ highs (g - gap) (omega arith) (omega arith) k within i far inside (omega arith)
-            ∙ ap (λ (group : Option Group). slice_index (page_in (held group) k) (i % 1024)) (sym (group_high groups low gap g inner high))
-      ]
-    ])
+    → ((k : ℕ) → k < length groups → low ≤ k → ArePages bytes (32 * (k + gap)) (group_in groups k)) → AreGroups bytes (with_gap groups low gap)
+groups_made marks bytes top groups low gap size kept unmarked others blank inner all lows highs g k within i far inside here = elim (cases_lt g low) [
+  | inl below ↦ lows g (omega arith) below k within i far inside here
+      ∙ ap (λ (group : Option Group). slice_index (page_in (held group) k) (i % 1024)) (sym (group_low groups low gap g inner below))
+  | inr above ↦ elim (cases_lt g (low + gap)) [
+    | inl left ↦ kept_plain marks bytes top g k kept within (unmarked (32 * g + k) (omega arith) (omega arith) (omega arith))
+        (λ j below same. elim (others j below) [ inl lower ↦ absurd (omega arith) | inr higher ↦ absurd (omega arith) ]) i far inside here
+        ∙ ap (λ (group : Option Group). slice_index (page_in (held group) k) (i % 1024)) (blank g above left ∙ sym (group_left groups low gap g inner above left))
+    | inr high ↦ highs (g - gap) (omega arith) (omega arith) k within i far inside (omega arith)
+        ∙ ap (λ (group : Option Group). slice_index (page_in (held group) k) (i % 1024)) (sym (group_high groups low gap g inner high))
+  ]
+]

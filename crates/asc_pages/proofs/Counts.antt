@@ -1,10 +1,9 @@
 -- Lemmas on how many pages and which groups may have marks.
-use Rattle.std.proofs.Common.{◌≡◌, ◌≢◌, ◌⊎◌, inl, inr, cond, subst, false, ℕ, ◌+◌, ◌*◌, ◌-◌, ◌/◌, ◌%◌, ◌≤◌, ◌<◌, Bool, true, List, [], ◌∷◌, ◌++◌, length, take, drop, length-take, length-drop, replicate, max, sym, ap, ◌∙◌, arith, slice_index, slice_index_or, slice_set, length-append, refl}
-use Rattle.std.proofs.lemmas.List.{get_or-take, get_or-drop, get_or-replicate, length-replicate, get_or-set_same, get_or-set_other, length-set, ext_get_or, get_or_append_left, get_or-append_right}
-use borrow.Rule.Slice.PartMut.{put_mid}
+use Rattle.std.proofs.Common.{◌≡◌, ◌≢◌, inl, inr, cond, false, ℕ, ◌+◌, ◌*◌, ◌-◌, ◌/◌, ◌%◌, ◌≤◌, ◌<◌, Bool, true, List, [], ◌∷◌, ◌++◌, length, replicate, max, sym, ap, ◌∙◌, arith, slice_index, slice_index_or, slice_set, length-append, refl}
+use Rattle.std.proofs.lemmas.List.{get_or-replicate, length-replicate, get_or-set_same, get_or-set_other, length-set, ext_get_or, get_or_append_left, get_or-append_right}
 use Rattle.std.proofs.lemmas.Bool.{cases_eq, cases_lt}
 use Rattle.std.proofs.lemmas.List.Sums.{sum_by-set}
-use Rattle.asc_pages.specs.Marks.{AreMarks, IsUnlisted, IsUnmarked, marked_in}
+use Rattle.asc_pages.specs.Marks.{AreMarks, IsGroupUnlisted, IsUnlisted, IsUnmarked, marked_in}
 
 -- ---- how many are marked
 
@@ -15,45 +14,48 @@ one_marked pages p within unmarked =
     let none : f (slice_index_or pages p true) ≡ 0 = ap f unmarked in
     omega (arith, sum_by-set f pages p true true within, none)
 
--- ---- listed groups
+-- ---- listed pages
 
 -- the last one
-last_listed : (listed new : List ℕ) (g j : ℕ) → new ≡ listed ++ g ∷ [] → j ≡ length listed → slice_index new j ≡ g
-last_listed listed new g j is last =
-    ap (λ (l : List ℕ). slice_index l j) is ∙ get_or-append_right listed (g ∷ []) (length listed) j 0 refl (omega arith)
-    ∙ ap (λ k. slice_index (g ∷ []) k) (let e : j - length listed ≡ 0 = omega arith in e)
+last_listed : (listed new : List ℕ) (p j : ℕ) → new ≡ listed ++ p ∷ [] → j ≡ length listed → slice_index new j ≡ p
+last_listed listed new p j is last =
+    ap (λ (l : List ℕ). slice_index l j) is ∙ get_or-append_right listed (p ∷ []) (length listed) j 0 refl (omega arith)
+    ∙ ap (λ k. slice_index (p ∷ []) k) (let e : j - length listed ≡ 0 = omega arith in e)
 
--- the groups that are listed, where one more may be
-listed_within : (is_first : Bool) (listed new : List ℕ) (g count : ℕ) → new ≡ cond is_first (listed ++ g ∷ []) listed → g < count → ((j : ℕ) → j < length listed → slice_index listed j < count)
-    → (j : ℕ) → j < length new → slice_index new j < count
-listed_within false listed new g count is inside each j below = let e = ap (λ (l : List ℕ). length l) is in let f = ap (λ (l : List ℕ). slice_index l j) is in let h = each j (omega arith) in omega arith
-listed_within true listed new g count is inside each j below =
-    let size : length new ≡ length listed + 1 = ap (λ (l : List ℕ). length l) is ∙ length-append listed (g ∷ []) in
-    elim (cases_lt j (length listed)) [
-      | inl old ↦ let e = ap (λ (l : List ℕ). slice_index l j) is ∙ get_or_append_left listed (g ∷ []) 0 j old in let h = each j old in omega arith
-      | inr last ↦ let e = last_listed listed new g j is (omega arith) in omega arith
-    ]
+-- one of those before it
+listed_first : (listed new : List ℕ) (p j : ℕ) → new ≡ listed ++ p ∷ [] → j < length listed → slice_index new j ≡ slice_index listed j
+listed_first listed new p j is below = ap (λ (l : List ℕ). slice_index l j) is ∙ get_or_append_left listed (p ∷ []) 0 j below
 
--- a group that is not listed then was not before, and is another one
-listed_before : (is_first : Bool) (listed new : List ℕ) (g h : ℕ) → new ≡ cond is_first (listed ++ g ∷ []) listed → IsUnlisted new h → IsUnlisted listed h
-listed_before false listed new g h is other j below = let e = ap (λ (l : List ℕ). length l) is in λ same. other j (omega arith) (ap (λ (l : List ℕ). slice_index l j) is ∙ same)
-listed_before true listed new g h is other j below =
-    let size : length new ≡ length listed + 1 = ap (λ (l : List ℕ). length l) is ∙ length-append listed (g ∷ []) in
-    λ same. other j (omega arith) (ap (λ (l : List ℕ). slice_index l j) is ∙ get_or_append_left listed (g ∷ []) 0 j below ∙ same)
+listed_size : (listed new : List ℕ) (p : ℕ) → new ≡ listed ++ p ∷ [] → length new ≡ length listed + 1
+listed_size listed new p is = ap (λ (l : List ℕ). length l) is ∙ length-append listed (p ∷ [])
 
-listed_apart : (is_first : Bool) (listed new groups : List ℕ) (g h : ℕ) → new ≡ cond is_first (listed ++ g ∷ []) listed → (is_first ≡ false → slice_index groups g ≢ 0)
-    → ((k : ℕ) → IsUnlisted listed k → slice_index groups k ≡ 0) → IsUnlisted new h → h ≢ g
-listed_apart false listed new groups g h is first few other same = first refl (ap (λ k. slice_index groups k) (sym same) ∙ few h (listed_before false listed new g h is other))
-listed_apart true listed new groups g h is first few other same =
-    let size : length new ≡ length listed + 1 = ap (λ (l : List ℕ). length l) is ∙ length-append listed (g ∷ []) in
-    other (length listed) (omega arith) (last_listed listed new g (length listed) is refl ∙ sym same)
+-- a page that is not listed then was not before, and is another one
+pub listed_before : (listed new : List ℕ) (p q : ℕ) → new ≡ listed ++ p ∷ [] → IsUnlisted new q → IsUnlisted listed q
+listed_before listed new p q is other j below =
+    let size = listed_size listed new p is in
+    λ same. other j (omega arith) (listed_first listed new p j is below ∙ same)
 
--- where page p is marked, and its group listed
-pub marked_more : (was more is_first : Bool) (listed new groups : List ℕ) (pages : List Bool) (p g many : ℕ) → AreMarks was listed groups pages → p < length pages → g ≡ p / 32
-    → many ≡ max (slice_index groups g) (p % 32 + 1) → (is_first ≡ false → slice_index groups g ≢ 0)
-    → (more ≡ false → (was ≡ false) × (new ≡ cond is_first (listed ++ g ∷ []) listed))
+pub listed_apart : (listed new : List ℕ) (p q : ℕ) → new ≡ listed ++ p ∷ [] → IsUnlisted new q → p ≢ q
+listed_apart listed new p q is other same =
+    let size = listed_size listed new p is in
+    other (length listed) (omega arith) (last_listed listed new p (length listed) is refl ∙ same)
+
+-- and so for a group
+group_before : (listed new : List ℕ) (p g : ℕ) → new ≡ listed ++ p ∷ [] → IsGroupUnlisted new g → IsGroupUnlisted listed g
+group_before listed new p g is other j below =
+    let size = listed_size listed new p is in
+    λ same. other j (omega arith) (ap (λ q. q / 32) (listed_first listed new p j is below) ∙ same)
+
+group_apart : (listed new : List ℕ) (p g : ℕ) → new ≡ listed ++ p ∷ [] → IsGroupUnlisted new g → p / 32 ≢ g
+group_apart listed new p g is other same =
+    let size = listed_size listed new p is in
+    other (length listed) (omega arith) (ap (λ q. q / 32) (last_listed listed new p (length listed) is refl) ∙ same)
+
+-- where page p is marked and listed
+pub marked_more : (was more : Bool) (listed new groups : List ℕ) (pages : List Bool) (p g many : ℕ) → AreMarks was listed groups pages → p < length pages → g ≡ p / 32
+    → many ≡ max (slice_index groups g) (p % 32 + 1) → (more ≡ false → (was ≡ false) × (new ≡ listed ++ p ∷ []))
     → AreMarks more new (slice_set groups g many) (slice_set pages p true)
-marked_more was more is_first listed new groups pages p g many so inside group far first list =
+marked_more was more listed new groups pages p g many so inside group far list =
     let count : length (slice_set pages p true) ≡ length pages = length-set pages p true in
     let size : length (slice_set groups g many) ≡ length groups = length-set groups g many in
     let known : g < length groups = let h = so.least in omega arith in
@@ -70,10 +72,17 @@ marked_more was more is_first listed new groups pages p g many so inside group f
             get_or-set_other pages p q true true (omega arith) ∙ so.free q (omega arith) (omega arith)
       ];
       within = λ none j below. let l = list none in
-          subst (λ n. slice_index new j < n) (sym size) (listed_within is_first listed new g (length groups) l.1 known (so.within l.0) j below);
-      few = λ none h other. let l = list none in
-          let apart : h ≢ g = listed_apart is_first listed new groups g h l.1 first (so.few l.0) other in
-          get_or-set_other groups g h many 0 apart ∙ so.few l.0 h (listed_before is_first listed new g h l.1 other);
+          let longer = listed_size listed new p l.1 in
+          elim (cases_lt j (length listed)) [
+            | inl old ↦ let e = listed_first listed new p j l.1 old in let h = so.within l.0 j old in omega arith
+            | inr last ↦ let e = last_listed listed new p j l.1 (omega arith) in omega arith
+          ];
+      few = λ none q within other. let l = list none in
+          let apart : p ≢ q = listed_apart listed new p q l.1 other in
+          get_or-set_other pages p q true true (λ same. apart (sym same)) ∙ so.few l.0 q (omega arith) (listed_before listed new p q l.1 other);
+      blank = λ none h other. let l = list none in
+          let apart : p / 32 ≢ h = group_apart listed new p h l.1 other in
+          get_or-set_other groups g h many 0 (λ same. apart (sym (same ∙ group))) ∙ so.blank l.0 h (group_before listed new p h l.1 other);
     }
 
 -- the pages of a group behind those that count are not marked
@@ -91,34 +100,17 @@ all_same list item other count size each =
 
 -- ---- marks that are taken away
 
--- a group that is not among the listed ones from k on, where it is not behind k either
-pub one_less : (listed : List ℕ) (k h : ℕ) → h ≢ slice_index listed k → ((j : ℕ) → k + 1 ≤ j → j < length listed → slice_index listed j ≢ h)
-    → (j : ℕ) → k ≤ j → j < length listed → slice_index listed j ≢ h
-one_less listed k h apart other j least below = elim (cases_eq j k) [
+-- a page that is not among the listed ones from k on, where it is not behind k either
+pub one_less : (listed : List ℕ) (k q : ℕ) → q ≢ slice_index listed k → ((j : ℕ) → k + 1 ≤ j → j < length listed → slice_index listed j ≢ q)
+    → (j : ℕ) → k ≤ j → j < length listed → slice_index listed j ≢ q
+one_less listed k q apart other j least below = elim (cases_eq j k) [
   | inl here ↦ λ same. apart (sym same ∙ ap (λ i. slice_index listed i) here)
   | inr later ↦ other j (omega arith) below
 ]
 
-pub put_size : (pages new : List Bool) (from k : ℕ) → from + k ≤ length pages → length new ≡ k → length (put_mid from k pages new) ≡ length pages
-put_size pages new from k fits size =
-    let parts : length (put_mid from k pages new) ≡ length (take from pages ++ (new ++ drop k (drop from pages))) = refl in
-    omega (arith, parts, length-append (take from pages) (new ++ drop k (drop from pages)), length-append new (drop k (drop from pages)), length-take from pages, length-drop k (drop from pages), length-drop from pages)
-
-pub put_within : (pages new : List Bool) (from k p : ℕ) (item : Bool) (m : ℕ) → length new ≡ k → new ≡ replicate m item → from + k ≤ length pages → from ≤ p → p < from + k
-    → slice_index_or (put_mid from k pages new) p true ≡ item
-put_within pages new from k p item m size all fits above below =
-    get_or-append_right (take from pages) (new ++ drop k (drop from pages)) from p true (let e : length (take from pages) ≡ from = omega (arith, length-take from pages) in e) above
-    ∙ get_or_append_left new (drop k (drop from pages)) true (p - from) (omega arith)
-    ∙ ap (λ (l : List Bool). slice_index_or l (p - from) true) all
-    ∙ get_or-replicate m (p - from) item true (omega (arith, ap (λ (l : List Bool). length l) all, length-replicate m item))
-
-pub put_outside : (pages new : List Bool) (from k p : ℕ) → from + k ≤ length pages → length new ≡ k → (p < from) ⊎ (from + k ≤ p)
-    → slice_index_or (put_mid from k pages new) p true ≡ slice_index_or pages p true
-put_outside pages new from k p fits size (inl below) =
-    get_or_append_left (take from pages) (new ++ drop k (drop from pages)) true p (omega (arith, length-take from pages)) ∙ get_or-take from pages p true below
-put_outside pages new from k p fits size (inr above) =
-    get_or-append_right (take from pages) (new ++ drop k (drop from pages)) from p true (let e : length (take from pages) ≡ from = omega (arith, length-take from pages) in e) (omega arith)
-    ∙ get_or-append_right new (drop k (drop from pages)) k (p - from) true size (omega arith)
-    ∙ get_or-drop k (drop from pages) (p - from - k) true
-    ∙ get_or-drop from pages (k + (p - from - k)) true
-    ∙ ap (λ j. slice_index_or pages j true) (let e : from + (k + (p - from - k)) ≡ p = omega arith in e)
+pub one_less_group : (listed : List ℕ) (k h : ℕ) → h ≢ slice_index listed k / 32 → ((j : ℕ) → k + 1 ≤ j → j < length listed → slice_index listed j / 32 ≢ h)
+    → (j : ℕ) → k ≤ j → j < length listed → slice_index listed j / 32 ≢ h
+one_less_group listed k h apart other j least below = elim (cases_eq j k) [
+  | inl here ↦ λ same. apart (sym same ∙ ap (λ i. slice_index listed i / 32) here)
+  | inr later ↦ other j (omega arith) below
+]

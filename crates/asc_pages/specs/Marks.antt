@@ -11,15 +11,20 @@ abbrev pub IsUnmarked : List Bool → ℕ → ℕ → Type 0
 IsUnmarked marks from count =
     (p : ℕ) → from ≤ p → p < from + count → p < length marks → slice_index_or marks p true ≡ false
 
--- a group is not among those that are listed
+-- a page is not among those that are listed
 abbrev pub IsUnlisted : List ℕ → ℕ → Type 0
-IsUnlisted listed g = (j : ℕ) → j < length listed → slice_index listed j ≢ g
+IsUnlisted listed p = (j : ℕ) → j < length listed → slice_index listed j ≢ p
 
--- It is told up to which page of each group one may be marked. And each group that has a mark is listed, unless there are
+-- no page of a group is
+abbrev pub IsGroupUnlisted : List ℕ → ℕ → Type 0
+IsGroupUnlisted listed g = (j : ℕ) → j < length listed → slice_index listed j / 32 ≢ g
+
+-- It is told up to which page of each group one may be marked. And each page that has a mark is listed, unless there are
 -- more than the list holds.
 pub record AreMarks (more : Bool) (listed groups : List ℕ) (pages : List Bool) : Type 0 where
   pub least : length pages ≤ 32 * length groups
   pub most : 32 * length groups < length pages + 32
   pub free : (p : ℕ) → p < length pages → slice_index groups (p / 32) ≤ p % 32 → slice_index_or pages p true ≡ false
-  pub within : more ≡ false → (j : ℕ) → j < length listed → slice_index listed j < length groups
-  pub few : more ≡ false → (g : ℕ) → IsUnlisted listed g → slice_index groups g ≡ 0
+  pub within : more ≡ false → (j : ℕ) → j < length listed → slice_index listed j < length pages
+  pub few : more ≡ false → (p : ℕ) → p < length pages → IsUnlisted listed p → slice_index_or pages p true ≡ false
+  pub blank : more ≡ false → (g : ℕ) → IsGroupUnlisted listed g → slice_index groups g ≡ 0

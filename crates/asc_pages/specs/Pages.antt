@@ -1,6 +1,5 @@
 -- Pages: 1024 places each. Groups: 32 pages each. The first 136 places are of no account.
-use Rattle.std.specs.Prelude.{◌≡◌, ℕ, ◌+◌, ◌*◌, ◌/◌, ◌%◌, ◌<◌, ◌≤◌, Bool, true, false, List, [], ◌++◌, length, map, take, drop, replicate, slice_index, slice_index_or, Option, Some, None}
-use Rattle.std.specs.List.{range_with_len}
+use Rattle.std.specs.Prelude.{◌≡◌, ℕ, ◌+◌, ◌*◌, ◌/◌, ◌%◌, ◌<◌, ◌≤◌, Bool, true, false, List, [], ◌++◌, length, take, drop, replicate, slice_index, slice_index_or, Option, Some, None}
 use Rattle.std.specs.declared.sync.Arc.{Arc}
 use Rattle.std.specs.Global.{Vec, Global}
 
@@ -34,14 +33,6 @@ with_gap groups low gap = take low groups ++ (replicate gap None ++ drop low gro
 abbrev pub group_in : List (Option Group) → ℕ → List (Option Page)
 group_in groups g = held (slice_index_or groups g None)
 
--- the byte at a place of groups
-abbrev pub byte_in : List (Option Group) → ℕ → ℕ
-byte_in groups i = slice_index (page_in (group_in groups (i / 1024 / 32)) (i / 1024 % 32)) (i % 1024)
-
--- the bytes of groups
-unfoldable pub bytes_in : List (Option Group) → List ℕ
-bytes_in groups = map (byte_in groups) (range_with_len 0 (32768 * length groups))
-
 -- this is page p of these bytes
 abbrev pub IsPage : List ℕ → ℕ → List ℕ → Type 0
 IsPage bytes p page = (i : ℕ) → 136 ≤ i → i < length bytes → i / 1024 ≡ p → slice_index bytes i ≡ slice_index page (i % 1024)
@@ -50,10 +41,9 @@ IsPage bytes p page = (i : ℕ) → 136 ≤ i → i < length bytes → i / 1024 
 abbrev pub ArePages : List ℕ → ℕ → List (Option Page) → Type 0
 ArePages bytes from pages = (k : ℕ) → k < 32 → IsPage bytes (from + k) (page_in pages k)
 
--- where they are not marked
-abbrev pub KeptPages : List Bool → List ℕ → ℕ → List (Option Page) → Type 0
-KeptPages marks bytes from pages =
-    (k : ℕ) → k < 32 → slice_index_or marks (from + k) true ≡ false → IsPage bytes (from + k) (page_in pages k)
+-- these are the groups of these bytes
+abbrev pub AreGroups : List ℕ → List (Option Group) → Type 0
+AreGroups bytes groups = (g : ℕ) → ArePages bytes (32 * g) (group_in groups g)
 
 -- pages have these bytes, from place 136 on
 abbrev pub Tells : List ℕ → List ℕ → Type 0

@@ -1,12 +1,12 @@
-ghost use Rattle.std.specs.Prelude.{◌≡◌, ◌⊎◌, ◌+◌, ◌*◌, ◌-◌, ◌^◌, ◌<◌, ◌≤◌, [], ◌∷◌, ◌++◌, true, false, if◌then◌else◌, IfOk, length, replicate, slice_index_or, slice_set};
-ghost use Rattle.asc_pages.specs.Marks.{AreMarks, IsUnmarked, marked_in};
+ghost use Rattle.std.specs.Prelude.{◌≡◌, ◌⊎◌, ◌+◌, ◌*◌, ◌-◌, ◌/◌, ◌^◌, ◌<◌, ◌≤◌, ℕ, [], ◌∷◌, ◌++◌, true, false, IfOk, IfSome, length, replicate, slice_index, slice_index_or, slice_set};
+ghost use Rattle.asc_pages.specs.Marks.{AreMarks, IsUnlisted, IsUnmarked, marked_in};
 
 use crate::pages::GROUP;
 use asc_outside::Memory;
 use std::alloc::Global;
 use std::marker::Model;
 
-/// A mark for each page. Up to where there are marks is told group by group, and the groups that have some are listed.
+/// A mark for each page. Up to where there are marks is told group by group, and the pages that have one are listed.
 ///
 /// Contracts see it as the list of marks.
 #[derive(Drop)]
@@ -14,7 +14,7 @@ pub struct Marks {
     pages: Vec<bool>,
     // For each group, up to which of its pages one may be marked.
     groups: Vec<usize>,
-    // The groups that have marks, as they got the first one, and whether there are more.
+    // The pages that have marks, as they got them, and whether there are more.
     listed: Vec<usize>,
     more: bool,
     // How many pages are marked.
@@ -43,7 +43,7 @@ impl Marks {
         Ok(Marks {
             pages: vec![in alloc; false; count]?,
             groups: vec![in alloc; 0; groups]?,
-            listed: Vec::with_capacity(alloc, groups)?,
+            listed: Vec::with_capacity(alloc, count)?,
             more: false,
             marked: 0,
         })
@@ -82,6 +82,15 @@ impl Marks {
         !self.more && self.listed.is_empty()
     }
 
+    /// The pages that are marked, each where it got its mark, unless there are more than are listed.
+    #[inline]
+    pub(crate) fn listed(&self) -> Option<&[usize]>
+        ensures { IfSome result (λ pages. (p : ℕ) → p < length self.now → IsUnlisted pages.now p
+            → slice_index_or self.now p true ≡ false) }
+    {
+        if self.more { None } else { Some(&self.listed) }
+    }
+
     /// A part of the groups from one on up to another one in which no page is marked.
     #[inline]
     pub(crate) fn free_run(&self, from: usize, to: usize) -> (usize, usize)
@@ -91,13 +100,10 @@ impl Marks {
         ensures free { IsUnmarked self.now (32 * result.0) (32 * (result.1 - result.0)) }
     {
         if self.more {
-            return (to, to);
+            (to, to)
+        } else {
+            without_pages(from, to, &self.listed)
         }
-        let mut run = (from, to);
-        for g in &self.listed {
-            run = without_group(run.0, run.1, *g);
-        }
-        run
     }
 
     /// How many pages of group g there are up to the last one that may be marked.
@@ -132,9 +138,8 @@ impl Marks {
         let g = p / GROUP;
         self.pages[p] = true;
         self.marked += 1;
-        let pages = self.groups[g];
-        self.groups[g] = pages.max(p % GROUP + 1);
-        list_group(&mut self.listed, &mut self.more, g, pages == 0);
+        self.groups[g] = self.groups[g].max(p % GROUP + 1);
+        list_page(&mut self.listed, &mut self.more, p);
     }
 
     /// Marks all pages.
@@ -159,6 +164,22 @@ impl Marks {
     }
 }
 
+/// A part of the groups from one on up to another one in which none of these pages lies.
+#[inline]
+pub(crate) fn without_pages(from: usize, to: usize, pages: &[usize]) -> (usize, usize)
+    requires { from ≤ to }
+    ensures order { result.0 ≤ result.1 }
+    ensures within { (from ≤ result.0) × (result.1 ≤ to) }
+    ensures other { (j : ℕ) → j < length pages.now
+        → (slice_index pages.now j / 32 < result.0) ⊎ (result.1 ≤ slice_index pages.now j / 32) }
+{
+    let mut run = (from, to);
+    for p in pages {
+        run = without_group(run.0, run.1, *p / GROUP);
+    }
+    run
+}
+
 // The longer one of the parts of a run of groups before and behind group g.
 #[inline]
 fn without_group(from: usize, to: usize, g: usize) -> (usize, usize)
@@ -176,25 +197,21 @@ fn without_group(from: usize, to: usize, g: usize) -> (usize, usize)
     }
 }
 
-// Lists a group that has its first mark, or says that there are more where the list is full.
+// Lists a page that has its mark, or says that there are more where the list is full.
 #[inline]
-fn list_group(listed: &mut Vec<usize>, more: &mut bool, g: usize, is_first: bool)
-    ensures { more.new ≡ false
-        → (more.old ≡ false) × (listed.new.items ≡ (if is_first then listed.old.items ++ g ∷ [] else listed.old.items)) }
+fn list_page(listed: &mut Vec<usize>, more: &mut bool, p: usize)
+    ensures { more.new ≡ false → (more.old ≡ false) × (listed.new.items ≡ listed.old.items ++ p ∷ []) }
 {
-    if is_first {
-        if listed.len() < listed.capacity() {
-            listed.push_reserved(g);
-        } else {
-            *more = true;
-        }
+    if listed.len() < listed.capacity() {
+        listed.push_reserved(p);
+    } else {
+        *more = true;
     }
 }
 
-// Takes all marks away: those of the listed groups, or where there are more, every one.
+// Takes all marks away: those of the listed pages, or where there are more, every one.
 #[inline]
 fn unmark(pages: &mut [bool], groups: &mut [usize], listed: &[usize], more: bool)
-    requires size { length pages.old < 2 ^ 32 }
     requires marks { AreMarks more listed.now groups.old pages.old }
     ensures pages { pages.new ≡ replicate (length pages.old) false }
     ensures groups { groups.new ≡ replicate (length groups.old) 0 }
@@ -204,10 +221,8 @@ fn unmark(pages: &mut [bool], groups: &mut [usize], listed: &[usize], more: bool
         groups.fill(0);
         return;
     }
-    for g in listed {
-        let from = *g * GROUP;
-        let to = pages.len().min(from + GROUP);
-        pages[from..to].fill(false);
-        groups[*g] = 0;
+    for p in listed {
+        pages[*p] = false;
+        groups[*p / GROUP] = 0;
     }
 }

@@ -1,8 +1,11 @@
-ghost use Rattle.std.specs.Prelude.{◌≡◌, ◌⊎◌, ◌+◌, ◌*◌, ◌/◌, ◌%◌, ◌^◌, ◌<◌, ◌≤◌, ℕ, List, [], Option, max, min, false, IfOk, MatchResult, None, length, slice_index, slice_index_or};
+ghost use Rattle.std.specs.Prelude.{◌≡◌, ◌≢◌, ◌⊎◌, ◌+◌, ◌-◌, ◌*◌, ◌/◌, ◌%◌, ◌^◌, ◌<◌, ◌≤◌, ℕ, List, [], Option, max, min, true, false, IfOk, MatchResult, None, length, slice_index, slice_index_or};
 ghost use Rattle.asc_model.specs.Number.{word_at};
-ghost use Rattle.asc_pages.specs.Pages.{Group, IsPage, ArePages, KeptPages, Keeps, Tells, IsShared, base_bytes, bytes_in, group_in, held, page_bytes, page_in, with_gap};
+ghost use Rattle.asc_pages.specs.Marks.{IsUnlisted, IsUnmarked};
+ghost use Rattle.asc_pages.specs.Pages.{Group, IsPage, ArePages, AreGroups, Keeps, Tells, IsShared, base_bytes, group_in, held, page_bytes, page_in, with_gap};
+ghost use Rattle.asc_pages.specs.Tops.{bytes_in, groups_in, page_of, place_of};
 
 use crate::Marks;
+use crate::marks::without_pages;
 use asc_outside::Memory;
 use std::alloc::Global;
 use std::marker::Model;
@@ -17,6 +20,9 @@ pub const GROUP: usize = 32;
 
 /// So many places at the front are of no account here: who keeps pages keeps those himself.
 pub const FRONT: usize = 136;
+
+// At most so many pages stand in the place of their groups'.
+const MOST_PATCHES: usize = 4;
 
 // A page that is left out is blank.
 type Page = Option<Arc<[u8; PAGE]>>;
@@ -47,17 +53,27 @@ impl Model for Groups {
     ghost invariant = { λ s. s.low ≤ length s.list.items };
 }
 
+// Groups, and a few pages that stand in the place of theirs. So copies that differ in a few pages share their groups.
+#[derive(Drop)]
+struct Top {
+    // Where they are left out they are blank.
+    groups: Option<Arc<Groups>>,
+    // The numbers of those pages, and the pages.
+    patched: Vec<usize>,
+    patches: Vec<Page>,
+}
+
 /// Pages of bytes that do not change. They can be shared, also by threads, and share what they have in common with
 /// others.
 ///
 /// Contracts see them as their bytes. Behind the last one all are 0.
 #[derive(Drop)]
 pub struct Pages {
-    top: Arc<Groups>,
+    top: Arc<Top>,
 }
 
 impl Model for Pages {
-    ghost use Rattle.asc_pages.specs.Pages.{bytes_in};
+    ghost use Rattle.asc_pages.specs.Tops.{bytes_in};
     ghost use Rattle.std.specs.Prelude.{ℕ, List};
 
     ghost Value = { List ℕ };
@@ -71,7 +87,7 @@ impl Pages {
         ensures { IfOk result (λ pages. pages ≡ []) }
     {
         Ok(Pages {
-            top: Arc::new(alloc, no_groups(alloc))?,
+            top: Arc::new(alloc, no_top(alloc))?,
         })
     }
 
@@ -150,13 +166,16 @@ impl Pages {
     {
         match Arc::get_mut(&mut self.top) {
             Some(top) => {
-                let spare = mem::replace(top, no_groups(alloc));
-                *top = groups_of(alloc, bytes, changed, &base.top, spare)?;
-                Ok(())
+                let done = put_top(alloc, bytes, changed, &base.top, top);
+                if done.is_err() {
+                    *top = no_top(alloc);
+                }
+                done
             }
             None => {
-                let groups = groups_of(alloc, bytes, changed, &base.top, no_groups(alloc))?;
-                self.top = Arc::new(alloc, groups)?;
+                let mut top = no_top(alloc);
+                put_top(alloc, bytes, changed, &base.top, &mut top)?;
+                self.top = Arc::new(alloc, top)?;
                 Ok(())
             }
         }
@@ -181,7 +200,7 @@ impl Pages {
         ensures page { (i : ℕ) → i / 1024 ≡ p → slice_index self.now i ≡ slice_index result.now (i % 1024) }
         ensures size { 0 < length result.now → length result.now ≡ 1024 }
     {
-        page_at(pages_in(&self.top, p / GROUP), p % GROUP)
+        top_page(&self.top, p)
     }
 }
 
@@ -195,9 +214,47 @@ pub fn word_in(bytes: &[u8], at: usize) -> u32
     u32::from_le_bytes([part[0], part[1], part[2], part[3]])
 }
 
+// The place of page p among those that stand in the place of others, or their count where it is none of them.
+#[inline]
+fn place_in(patched: &[usize], p: usize) -> usize
+    ensures { result ≡ place_of patched.now p }
+{
+    for (k, number) in patched.iter().enumerate() {
+        if *number == p {
+            return k;
+        }
+    }
+    patched.len()
+}
+
+// Page p, or nothing where it is blank and left out.
+#[inline]
+fn top_page(top: &Top, p: usize) -> &[u8]
+    ensures page { result.now ≡ page_of top.now p }
+    ensures size { 0 < length result.now → length result.now ≡ 1024 }
+{
+    let k = place_in(&top.patched, p);
+    if k < top.patched.len() {
+        page_at(&top.patches, k)
+    } else {
+        page_at(pages_in(&top.groups, p / GROUP), p % GROUP)
+    }
+}
+
 // The pages of group g, or none where it is left out.
 #[inline]
-fn pages_in(groups: &Groups, g: usize) -> &[Page]
+fn pages_in(groups: &Option<Arc<Groups>>, g: usize) -> &[Page]
+    ensures { result.now ≡ group_in (groups_in groups.now) g }
+{
+    match groups {
+        Some(groups) => pages_among(groups, g),
+        None => &[],
+    }
+}
+
+// The same of groups that are not left out.
+#[inline]
+fn pages_among(groups: &Groups, g: usize) -> &[Page]
     ensures { result.now ≡ group_in groups.now g }
 {
     if g < groups.low {
@@ -259,19 +316,77 @@ fn page_at(pages: &[Page], k: usize) -> &[u8]
     }
 }
 
+// A part, shared.
+#[inline]
+fn share<T>(part: &Option<Arc<T>>) -> Result<Option<Arc<T>>, Memory>
+    ensures { IfOk result (λ share. IsShared share part.now) }
+{
+    match part {
+        Some(part) => Ok(Some(Arc::try_clone(part)?)),
+        None => Ok(None),
+    }
+}
+
 // Part k of a list, shared.
 #[inline]
 fn share_part<T>(parts: &[Option<Arc<T>>], k: usize) -> Result<Option<Arc<T>>, Memory>
     ensures { IfOk result (λ part. IsShared part (slice_index_or parts.now k None)) }
 {
     match parts.get(k) {
-        Some(Some(part)) => Ok(Some(Arc::try_clone(part)?)),
-        _ => Ok(None),
+        Some(part) => share(part),
+        None => Ok(None),
     }
 }
 
+// Page p, shared, where these are the pages of its group.
+#[inline]
+fn share_page(top: &Top, kept: &[Page], p: usize) -> Result<Page, Memory>
+    requires { kept.now ≡ group_in (groups_in top.now.groups) (p / 32) }
+    ensures { IfOk result (λ page. page_bytes page ≡ page_of top.now p) }
+{
+    let k = place_in(&top.patched, p);
+    if k < top.patched.len() {
+        share_part(&top.patches, k)
+    } else {
+        share_part(kept, p % GROUP)
+    }
+}
+
+// Group g, shared.
+#[inline]
+fn share_group(groups: &Option<Arc<Groups>>, g: usize) -> Result<Group, Memory>
+    ensures { IfOk result (λ group. IsShared group (slice_index_or (groups_in groups.now) g None)) }
+{
+    match groups {
+        Some(groups) => share_among(groups, g),
+        None => Ok(None),
+    }
+}
+
+// The same of groups that are not left out.
+#[inline]
+fn share_among(groups: &Groups, g: usize) -> Result<Group, Memory>
+    ensures { IfOk result (λ group. IsShared group (slice_index_or groups.now g None)) }
+{
+    let place = position(groups.low, groups.gap, groups.list.len(), g);
+    share_part(&groups.list, place)
+}
+
 // A run of groups of `count` that are blank.
-fn blank_run(groups: &Groups, count: usize) -> (usize, usize)
+#[inline]
+fn blank_run(groups: &Option<Arc<Groups>>, count: usize) -> (usize, usize)
+    ensures order { result.0 ≤ result.1 }
+    ensures most { result.1 ≤ count }
+    ensures blank { (g : ℕ) → result.0 ≤ g → g < result.1 → slice_index_or (groups_in groups.now) g None ≡ None }
+{
+    match groups {
+        Some(groups) => blank_among(groups, count),
+        None => (0, count),
+    }
+}
+
+// The same of groups that are not left out.
+fn blank_among(groups: &Groups, count: usize) -> (usize, usize)
     ensures order { result.0 ≤ result.1 }
     ensures most { result.1 ≤ count }
     ensures blank { (g : ℕ) → result.0 ≤ g → g < result.1 → slice_index_or groups.now g None ≡ None }
@@ -296,11 +411,21 @@ fn number(low: usize, gap: usize, k: usize) -> usize
     if k < low { k } else { k + gap }
 }
 
-// No groups. They take no memory.
+// No pages. They take no memory.
 #[inline]
-fn no_groups(alloc: Global) -> Groups
+fn no_top(alloc: Global) -> Top
     ensures { bytes_in result ≡ [] }
 {
+    Top {
+        groups: None,
+        patched: Vec::new(alloc),
+        patches: Vec::new(alloc),
+    }
+}
+
+// No groups. They take no memory.
+#[inline]
+fn no_groups(alloc: Global) -> Groups {
     Groups {
         list: Vec::new(alloc),
         low: 0,
@@ -321,28 +446,163 @@ fn sized<T: Drop>(
     Ok(parts)
 }
 
+// Puts the pages of bytes in the place of others. Where few are changed since the base got its groups, they share those.
+#[inline]
+fn put_top(
+    alloc: Global,
+    bytes: &[u8],
+    changed: &Marks,
+    base: &Top,
+    top: &mut Top,
+) -> Result<(), Memory>
+    requires most { length bytes.now < 2 ^ 32 }
+    requires marks { length changed.now ≡ length bytes.now / 1024 + 1 }
+    requires kept { Keeps changed.now (bytes_in base.now) bytes.now }
+    ensures { IfOk result (λ _. Tells (bytes_in top.new) bytes.now) }
+{
+    if list_patched(&mut top.patched, &base.patched, changed)? {
+        top.groups = share(&base.groups)?;
+        let spare = mem::replace(&mut top.patches, Vec::new(alloc));
+        top.patches = patches_of(alloc, bytes, changed, base, &top.patched, spare)?;
+        Ok(())
+    } else {
+        top.patched.clear();
+        put_groups(alloc, bytes, changed, base, &mut top.groups)
+    }
+}
+
+// Lists the pages that stand in the place of others in the base, and those that are changed, and answers whether it did:
+// they may be too many.
+#[inline]
+fn list_patched(patched: &mut Vec<usize>, base: &[usize], changed: &Marks) -> Result<bool, Memory>
+    ensures { IfOk result (λ few. few ≡ true → (p : ℕ) → IsUnlisted patched.new.items p
+        → IsUnlisted base.now p × (p < length changed.now → slice_index_or changed.now p true ≡ false)) }
+{
+    let Some(marked) = changed.listed() else {
+        return Ok(false);
+    };
+    patched.clear();
+    patched.extend_from_slice(base)?;
+    for p in marked {
+        if !list_changed(patched, base, *p)? {
+            return Ok(false);
+        }
+    }
+    Ok(true)
+}
+
+// Lists a page that is changed, unless it is one of the base's, and answers whether there was room.
+#[inline]
+fn list_changed(patched: &mut Vec<usize>, base: &[usize], p: usize) -> Result<bool, Memory>
+    ensures { IfOk result (λ few. few ≡ true → (q : ℕ) → IsUnlisted patched.new.items q
+        → IsUnlisted patched.old.items q × (IsUnlisted base.now q → p ≢ q)) }
+{
+    if place_in(base, p) < base.len() {
+        return Ok(true);
+    }
+    if patched.len() >= MOST_PATCHES {
+        return Ok(false);
+    }
+    patched.push(p)?;
+    Ok(true)
+}
+
+// The pages of bytes of these numbers, in the memory of spare ones.
+#[inline]
+fn patches_of(
+    alloc: Global,
+    bytes: &[u8],
+    changed: &Marks,
+    base: &Top,
+    patched: &[usize],
+    spare: Vec<Page>,
+) -> Result<Vec<Page>, Memory>
+    requires most { length bytes.now < 2 ^ 32 }
+    requires marks { length changed.now ≡ length bytes.now / 1024 + 1 }
+    requires kept { Keeps changed.now (bytes_in base.now) bytes.now }
+    ensures { IfOk result (λ pages. (k : ℕ) → k < length patched.now
+        → IsPage bytes.now (slice_index patched.now k) (page_in pages.items k)) }
+{
+    let mut pages = sized(spare, patched.len())?;
+    for k in 0..patched.len() {
+        put_patch(alloc, bytes, changed, base, patched[k], &mut pages[k])?;
+    }
+    Ok(pages)
+}
+
+// Puts page p of bytes in the place of another one. Behind the bytes it is of no account.
+#[inline]
+fn put_patch(
+    alloc: Global,
+    bytes: &[u8],
+    changed: &Marks,
+    base: &Top,
+    p: usize,
+    page: &mut Page,
+) -> Result<(), Memory>
+    requires most { length bytes.now < 2 ^ 32 }
+    requires marks { length changed.now ≡ length bytes.now / 1024 + 1 }
+    requires kept { Keeps changed.now (bytes_in base.now) bytes.now }
+    ensures { IfOk result (λ _. IsPage bytes.now p (page_bytes page.new)) }
+{
+    if p < changed.len() {
+        let kept = pages_in(&base.groups, p / GROUP);
+        put_page(alloc, bytes, changed, base, kept, p, page)
+    } else {
+        *page = None;
+        Ok(())
+    }
+}
+
+// Writes the groups of bytes over others where those are nobody else's, and else puts them in their place.
+#[inline(never)]
+fn put_groups(
+    alloc: Global,
+    bytes: &[u8],
+    changed: &Marks,
+    base: &Top,
+    groups: &mut Option<Arc<Groups>>,
+) -> Result<(), Memory>
+    requires most { length bytes.now < 2 ^ 32 }
+    requires marks { length changed.now ≡ length bytes.now / 1024 + 1 }
+    requires kept { Keeps changed.now (bytes_in base.now) bytes.now }
+    ensures { IfOk result (λ _. AreGroups bytes.now (groups_in groups.new)) }
+{
+    if let Some(part) = groups {
+        if let Some(old) = Arc::get_mut(part) {
+            let spare = mem::replace(old, no_groups(alloc));
+            *old = groups_of(alloc, bytes, changed, base, spare)?;
+            return Ok(());
+        }
+    }
+    let made = groups_of(alloc, bytes, changed, base, no_groups(alloc))?;
+    *groups = Some(Arc::new(alloc, made)?);
+    Ok(())
+}
+
 // The groups of bytes, in the memory of spare ones.
 #[inline]
 fn groups_of(
     alloc: Global,
     bytes: &[u8],
     changed: &Marks,
-    kept: &Groups,
+    base: &Top,
     spare: Groups,
 ) -> Result<Groups, Memory>
     requires most { length bytes.now < 2 ^ 32 }
     requires marks { length changed.now ≡ length bytes.now / 1024 + 1 }
-    requires kept { Keeps changed.now (bytes_in kept.now) bytes.now }
-    ensures { IfOk result (λ groups. Tells (bytes_in groups) bytes.now) }
+    requires kept { Keeps changed.now (bytes_in base.now) bytes.now }
+    ensures { IfOk result (λ groups. AreGroups bytes.now groups) }
 {
     let count = changed.len().div_ceil(GROUP);
-    let blank = blank_run(kept, count);
-    let (low, end) = changed.free_run(blank.0, blank.1);
+    let blank = blank_run(&base.groups, count);
+    let free = changed.free_run(blank.0, blank.1);
+    let (low, end) = without_pages(free.0, free.1, &base.patched);
     let used = low + (count - end);
     let mut list = sized(spare.list, used)?;
     for k in 0..used {
         let g = number(low, end - low, k);
-        put_group(alloc, bytes, changed, kept, g, &mut list[k])?;
+        put_group(alloc, bytes, changed, base, g, &mut list[k])?;
     }
     Ok(Groups {
         list,
@@ -351,116 +611,124 @@ fn groups_of(
     })
 }
 
-// Puts group g of bytes in the place of another one: that of those that are kept, shared, where no page of it is changed.
+// How many pages of group g there are up to the last one that may be changed, or stand in the place of its own.
+#[inline]
+fn used_pages(changed: &Marks, patched: &[usize], g: usize) -> usize
+    requires { 32 * g < length changed.now }
+    ensures unmarked { IsUnmarked changed.now (32 * g + result) (32 - result) }
+    ensures unlisted { (k : ℕ) → result ≤ k → k < 32 → IsUnlisted patched.now (32 * g + k) }
+{
+    for p in patched {
+        if *p / GROUP == g {
+            return GROUP;
+        }
+    }
+    changed.used_pages(g)
+}
+
+// Puts group g of bytes in the place of another one: that of the base, shared, where no page of it is another one.
 #[inline]
 fn put_group(
     alloc: Global,
     bytes: &[u8],
     changed: &Marks,
-    kept: &Groups,
+    base: &Top,
     g: usize,
     group: &mut Group,
 ) -> Result<(), Memory>
     requires most { length bytes.now < 2 ^ 32 }
     requires marks { length changed.now ≡ length bytes.now / 1024 + 1 }
     requires group { 32 * g < length changed.now }
-    requires kept { KeptPages changed.now bytes.now (32 * g) (group_in kept.now g) }
+    requires kept { Keeps changed.now (bytes_in base.now) bytes.now }
     ensures { IfOk result (λ _. ArePages bytes.now (32 * g) (held group.new)) }
 {
-    if changed.used_pages(g) == 0 {
-        let place = position(kept.low, kept.gap, kept.list.len(), g);
-        *group = share_part(&kept.list, place)?;
+    if used_pages(changed, &base.patched, g) == 0 {
+        *group = share_group(&base.groups, g)?;
         Ok(())
     } else {
-        write_group(alloc, bytes, changed, pages_in(kept, g), g, group)
+        write_group(alloc, bytes, changed, base, g, group)
     }
 }
 
-// Writes group g of bytes over another one where that is nobody else's, and else puts it in its place. The pages of `kept`
-// are kept.
+// Writes group g of bytes over another one where that is nobody else's, and else puts it in its place.
 #[inline]
 fn write_group(
     alloc: Global,
     bytes: &[u8],
     changed: &Marks,
-    kept: &[Page],
+    base: &Top,
     g: usize,
     group: &mut Group,
 ) -> Result<(), Memory>
     requires most { length bytes.now < 2 ^ 32 }
     requires marks { length changed.now ≡ length bytes.now / 1024 + 1 }
     requires group { 32 * g < length changed.now }
-    requires kept { KeptPages changed.now bytes.now (32 * g) kept.now }
+    requires kept { Keeps changed.now (bytes_in base.now) bytes.now }
     ensures { IfOk result (λ _. ArePages bytes.now (32 * g) (held group.new)) }
 {
     if let Some(part) = group {
         if let Some(pages) = Arc::get_mut(part) {
             let spare = mem::replace(pages, Vec::new(alloc));
-            *pages = pages_of(alloc, bytes, changed, kept, g, spare)?;
+            *pages = pages_of(alloc, bytes, changed, base, g, spare)?;
             return Ok(());
         }
     }
-    let pages = pages_of(alloc, bytes, changed, kept, g, Vec::new(alloc))?;
+    let pages = pages_of(alloc, bytes, changed, base, g, Vec::new(alloc))?;
     *group = Some(Arc::new(alloc, pages)?);
     Ok(())
 }
 
-// The pages of group g of bytes, in the memory of spare ones: copies of those that are changed, and the others of those that
-// are kept, shared.
+// The pages of group g of bytes, in the memory of spare ones: copies of those that are changed, and the others of the base,
+// shared.
 #[inline(never)]
 fn pages_of(
     alloc: Global,
     bytes: &[u8],
     changed: &Marks,
-    kept: &[Page],
+    base: &Top,
     g: usize,
     spare: Vec<Page>,
 ) -> Result<Vec<Page>, Memory>
     requires most { length bytes.now < 2 ^ 32 }
     requires marks { length changed.now ≡ length bytes.now / 1024 + 1 }
     requires group { 32 * g < length changed.now }
-    requires kept { KeptPages changed.now bytes.now (32 * g) kept.now }
+    requires kept { Keeps changed.now (bytes_in base.now) bytes.now }
     ensures { IfOk result (λ pages. ArePages bytes.now (32 * g) pages.items) }
 {
+    let kept = pages_in(&base.groups, g);
     let from = g * GROUP;
     let room = GROUP.min(changed.len() - from);
-    let used = room.min(kept.len().max(changed.used_pages(g)));
+    let used = room.min(kept.len().max(used_pages(changed, &base.patched, g)));
     let mut pages = sized(spare, used)?;
     for k in 0..used {
-        put_page(
-            alloc,
-            bytes,
-            from + k,
-            changed.is_marked(from + k),
-            kept,
-            k,
-            &mut pages[k],
-        )?;
+        put_page(alloc, bytes, changed, base, kept, from + k, &mut pages[k])?;
     }
     Ok(pages)
 }
 
-// Puts page p of bytes in the place of another one: a copy where it is changed, and else page k of those that are kept,
-// shared.
+// Puts page p of bytes in the place of another one: a copy where it is changed, and else that of the base, shared, of whose
+// group these are the pages.
 #[inline]
 fn put_page(
     alloc: Global,
     bytes: &[u8],
-    p: usize,
-    changed: bool,
+    changed: &Marks,
+    base: &Top,
     kept: &[Page],
-    k: usize,
+    p: usize,
     page: &mut Page,
 ) -> Result<(), Memory>
-    requires length { length bytes.now < 2 ^ 32 }
-    requires page { p < length bytes.now / 1024 + 1 }
-    requires kept { changed ≡ false → IsPage bytes.now p (page_in kept.now k) }
+    requires most { length bytes.now < 2 ^ 32 }
+    requires marks { length changed.now ≡ length bytes.now / 1024 + 1 }
+    requires page { p < length changed.now }
+    requires group { kept.now ≡ group_in (groups_in base.now.groups) (p / 32) }
+    requires kept { Keeps changed.now (bytes_in base.now) bytes.now }
     ensures { IfOk result (λ _. IsPage bytes.now p (page_bytes page.new)) }
 {
-    if changed {
+    if changed.is_marked(p) {
         copy_to(alloc, &bytes[p * PAGE..], page)
     } else {
-        *page = share_part(kept, k)?;
+        *page = share_page(base, kept, p)?;
         Ok(())
     }
 }

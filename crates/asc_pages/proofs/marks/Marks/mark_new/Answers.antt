@@ -1,6 +1,5 @@
-use Rattle.std.proofs.Common.{◌≡◌, ◌+◌, ◌/◌, ◌<◌, Bool, List, length, true, false, nat_eq, slice_index, slice_index_or, ap, refl, sym, ◌∙◌, subst, arith}
+use Rattle.std.proofs.Common.{◌≡◌, ◌+◌, ◌/◌, ◌<◌, Bool, List, length, true, false, slice_index, slice_index_or, ap, refl, sym, ◌∙◌, subst, arith}
 use Rattle.std.proofs.lemmas.List.{get_or_read}
-use Rattle.std.proofs.lemmas.Bool.Decides.{nat_tests}
 use Rattle.asc_pages.proofs.Counts.{marked_more, one_marked}
 use Rattle.asc_pages.proofs.marks.Marks.mark_new.Goals as goal
 
@@ -10,9 +9,8 @@ invariant_of-self c =
     let groups = inside.groups.items in
     let p = c.args.p in
     let within : p < length inside.pages.items = subst (λ (l : List Bool). p < length l) (sym c.self.view_is) c.requires.page in
-    let first : c.index-pages.result.now ≡ slice_index groups (p / 32) = get_or_read groups (p / 32) c.index-pages.result.now (omega (arith, c.self.invariant.0.least)) c.index-pages.ensures 0 in
+    let first : c.index.result.now ≡ slice_index groups (p / 32) = get_or_read groups (p / 32) c.index.result.now (omega (arith, c.self.invariant.0.least)) c.index.ensures 0 in
     let unmarked : slice_index_or inside.pages.items p true ≡ false = subst (λ (l : List Bool). slice_index_or l p true ≡ false) (sym c.self.view_is) c.requires.unmarked in (
-      marked_more inside.more _ _ inside.listed.items _ groups inside.pages.items p (p / 32) c.max.result c.self.invariant.0 within refl (omega (arith, first, c.max.ensures))
-          (λ no none. let other : nat_eq c.index-pages.result.now 0 ≡ false = no in let same : c.index-pages.result.now ≡ 0 = first ∙ none in grind (arith, nat_tests)) c.list_group.ensures,
+      marked_more inside.more _ inside.listed.items _ groups inside.pages.items p (p / 32) c.max.result c.self.invariant.0 within refl (omega (arith, first, c.max.ensures)) c.list_page.ensures,
       ap (λ n. n + 1) c.self.invariant.1 ∙ sym (one_marked inside.pages.items p within unmarked),
     )

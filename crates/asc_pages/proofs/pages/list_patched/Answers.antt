@@ -1,0 +1,16 @@
+use Rattle.std.proofs.Common.{below_more, arith}
+use Rattle.asc_pages.proofs.pages.list_patched.Goals as goal
+
+pub loop-p-preserved : goal.loop-p-preserved
+loop-p-preserved c =
+    let so = c.loop-p.invariant in
+    let one = c.in_ok-list_changed.ensures c.if-not-branch.false in
+    record {
+      first = λ q other. so.first q (one q other).0;
+      marked = λ q other. below_more _ _ (so.marked q (one q other).0) ((one q other).1 (so.first q (one q other).0));
+    }
+
+pub returns : goal.returns
+returns c few p other =
+    let so = c.loop-p.invariant in
+    (so.first p other, λ inside. c.in-Some.ensures p inside (λ j below. so.marked p other j (omega arith)))
