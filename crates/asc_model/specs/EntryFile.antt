@@ -1,5 +1,5 @@
 -- The file of saved entries: its bytes, and what the bytes of any file mean. Its numbers are little-endian.
-use Rattle.std.specs.Prelude.{◌≡◌, ℕ, zero, suc, ◌+◌, ◌*◌, ◌≤◌, Bool, true, false, not, ◌==◌, ◌&&◌, ◌||◌, nat_eq, nat_lt, nat_le, List, [], ◌∷◌, ◌++◌, All, map, length, take, drop, slice_index, Option, Some, None, Result, Ok, Err, if◌then◌else◌}
+use Rattle.std.specs.Prelude.{◌≡◌, ℕ, zero, suc, ◌+◌, ◌*◌, ◌≤◌, Bool, true, false, not, ◌==◌, ◌&&◌, ◌||◌, nat_eq, nat_lt, nat_le, List, [], ◌∷◌, ◌++◌, All, map, length, drop, slice_index, Option, Some, None, Result, Ok, Err, if◌then◌else◌}
 use Rattle.std.specs.List.{flat_map, list_all, starts_with}
 use lib.Pointwise.{pointwise}
 use Rattle.asc_model.specs.declared.version.Version.{Version}
@@ -48,7 +48,7 @@ most_entries = 1024
 abbrev pub most_steps : ℕ
 most_steps = 1000000000
 
--- of the reads of an entry, and of its writes
+-- how many reads an entry may have, and how many writes
 abbrev pub most_cells : ℕ
 most_cells = 4096
 
@@ -92,7 +92,7 @@ shape_in file = record {
   version = if slice_index file 5 == 1 then One else Two;
 }
 
--- how many entries it tells of
+-- how many entries a header tells of
 abbrev pub count_in : List ℕ → ℕ
 count_in file = word_at file 16
 
@@ -145,7 +145,7 @@ abbrev pub is_out_of_bounds : List ℕ → Bool
 is_out_of_bounds bytes = (steps_in bytes == 0) || nat_lt most_steps (steps_in bytes)
     || nat_lt most_cells (read_count bytes) || nat_lt most_cells (write_count bytes)
 
--- whether places rise, the first being this one or a later one
+-- whether places rise, the first of them being at least this one
 abbrev pub rise_from : ℕ → List ℕ → Bool
 rise_from least [] = true
 rise_from least (place ∷ places) = nat_le least place && rise_from (place + 1) places
@@ -184,11 +184,11 @@ abbrev pub entries_in : Shape → (n : ℕ) → List ℕ → List Entry
 entries_in shape zero bytes = []
 entries_in shape (suc n) bytes = entry_in shape bytes ∷ entries_in shape n (drop (writes_end bytes) bytes)
 
--- the test of two lists of cells
+-- whether two lists of places and bytes are the same
 abbrev pub are_same_cells : (cells others : List (ℕ × ℕ)) → Bool
 are_same_cells cells others = pointwise (λ a b. (a.0 == b.0) && (a.1 == b.1)) cells others
 
--- the test of IsCanonical
+-- The test of IsCanonical. The entry that tracing gives has its shape and its steps.
 unfoldable pub is_canonical : Entry → Bool
 is_canonical e = elim (entry_of e.steps (own_start e)) [
   | Some made ↦ are_same_cells made.reads e.reads && are_same_cells made.writes e.writes

@@ -1,23 +1,24 @@
-/// Why a file is none of saved entries: the first of these that is met, read from its front.
+/// Why a file is not one of saved entries. It is read from its front, and the first fault that is met is told. `Untrue` is
+/// looked for where there is none of the others.
 #[derive(Clone, Copy, Debug, PartialEq, Eq)]
 pub enum SaveFault {
     /// Fewer than 20 bytes, or the next part of an entry passes the end of the file.
     Short,
     /// The first four bytes are not `ASCE`.
     Magic,
-    /// Not of format 1.
+    /// Byte 4 is not 1.
     Version,
-    /// Not of machine 1 or 2, or the two bytes behind that are not 0.
+    /// Byte 5 is neither 1 nor 2, or one of bytes 6 and 7 is not 0.
     Machine,
     /// No shape has this base and this size of memory.
     Shape,
     /// More than 1,024 entries.
     Count,
-    /// The entry of this index has too many steps or none, too many places, or places that do not rise or are past the
-    /// last one.
+    /// The entry of this index has too many steps or none, or too many places. Or its places do not rise, or are not
+    /// below the length of a state.
     Entry(usize),
     /// Bytes follow the last entry.
     Long,
-    /// The entry of this index, the first such, is not what tracing it anew gives.
+    /// The entry of this index is the first that is not what tracing it anew gives.
     Untrue(usize),
 }
