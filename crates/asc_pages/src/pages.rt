@@ -460,7 +460,7 @@ fn put_top(
     requires kept { Keeps changed.now (bytes_in base.now) bytes.now }
     ensures { IfOk result (λ _. Tells (bytes_in top.new) bytes.now) }
 {
-    if list_patched(&mut top.patched, &base.patched, changed)? {
+    if list_patched(&mut top.patched, base, changed)? {
         top.groups = share(&base.groups)?;
         let spare = mem::replace(&mut top.patches, Vec::new(alloc));
         top.patches = patches_of(alloc, bytes, changed, base, &top.patched, spare)?;
@@ -472,19 +472,22 @@ fn put_top(
 }
 
 // Lists the pages that stand in the place of others in the base, and those that are changed, and answers whether it did:
-// they may be too many.
+// they may be too many, and the base may have no groups.
 #[inline]
-fn list_patched(patched: &mut Vec<usize>, base: &[usize], changed: &Marks) -> Result<bool, Memory>
+fn list_patched(patched: &mut Vec<usize>, base: &Top, changed: &Marks) -> Result<bool, Memory>
     ensures { IfOk result (λ few. few ≡ true → (p : ℕ) → IsUnlisted patched.new.items p
-        → IsUnlisted base.now p × (p < length changed.now → slice_index_or changed.now p true ≡ false)) }
+        → IsUnlisted base.now.patched.items p × (p < length changed.now → slice_index_or changed.now p true ≡ false)) }
 {
+    if base.groups.is_none() {
+        return Ok(false);
+    }
     let Some(marked) = changed.listed() else {
         return Ok(false);
     };
     patched.clear();
-    patched.extend_from_slice(base)?;
+    patched.extend_from_slice(&base.patched)?;
     for p in marked {
-        if !list_changed(patched, base, *p)? {
+        if !list_changed(patched, &base.patched, *p)? {
             return Ok(false);
         }
     }

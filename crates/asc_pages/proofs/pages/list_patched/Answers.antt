@@ -1,4 +1,5 @@
-use Rattle.std.proofs.Common.{below_more, arith}
+use Rattle.std.proofs.Common.{List, ℕ, arith, below_more, subst, sym}
+use Rattle.asc_pages.specs.Marks.{IsUnlisted}
 use Rattle.asc_pages.proofs.pages.list_patched.Goals as goal
 
 pub loop-p-preserved : goal.loop-p-preserved
@@ -7,7 +8,8 @@ loop-p-preserved c =
     let one = c.in_ok-list_changed.ensures c.if-not-branch.false in
     record {
       first = λ q other. so.first q (one q other).0;
-      marked = λ q other. below_more _ _ (so.marked q (one q other).0) ((one q other).1 (so.first q (one q other).0));
+      marked = λ q other. below_more _ _ (so.marked q (one q other).0)
+          ((one q other).1 (subst (λ (l : List ℕ). IsUnlisted l q) (sym c.deref-in-loop-p.ensures.value) (so.first q (one q other).0)));
     }
 
 pub returns : goal.returns

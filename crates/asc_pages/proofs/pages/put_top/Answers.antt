@@ -1,6 +1,5 @@
 use Rattle.std.proofs.Common.{◌<◌, ℕ, List, length, slice_index, subst}
 use Rattle.std.proofs.lemmas.Result.{IfOk-weaker}
-use Rattle.asc_pages.specs.Marks.{IsUnlisted}
 use Rattle.asc_pages.specs.Pages.{AreGroups, IsPage, Tells, page_in}
 use Rattle.asc_pages.specs.Tops.{bytes_in, groups_in}
 use Rattle.asc_pages.proofs.Copies.{told_whole, told_patched, groups_shared}
@@ -10,9 +9,8 @@ pub returns-in_ok-top-2 : goal.returns-in_ok-top-2
 returns-in_ok-top-2 c =
     told_patched c.args.changed.now c.args.bytes.now c.args.base.now _ c.requires.marks c.requires.kept
     (groups_shared c.in_ok-top.field-0 c.args.base.now.groups c.in_ok-top.ensures)
-    (λ p other. let others = c.in_ok-list_patched.ensures c.if-branch.true p other in
-    (subst (λ (l : List ℕ). IsUnlisted l p) c.deref.ensures.value others.0, others.1))
-    (λ k below. subst (λ (l : List ℕ). k < length l → IsPage c.args.bytes.now (slice_index l k) (page_in c.in_ok-top-2.field-0.items k)) c.deref-then-branch.ensures.value (c.in_ok-top-2.ensures k) below)
+    (c.in_ok-list_patched.ensures c.if-branch.true)
+    (λ k below. subst (λ (l : List ℕ). k < length l → IsPage c.args.bytes.now (slice_index l k) (page_in c.in_ok-top-2.field-0.items k)) c.deref.ensures.value (c.in_ok-top-2.ensures k) below)
 
 pub returns-else-branch : goal.returns-else-branch
 returns-else-branch c =
