@@ -3,7 +3,7 @@ use Rattle.std.proofs.Common.{◌≡◌, ◌≢◌, ◌⊎◌, inl, inr, ℕ, ze
 use Rattle.std.proofs.lemmas.List.{get_or_past, get_or_append_left, get_or-append_right, get_or-replicate, get_or-take, get_or-drop, length-replicate}
 use Rattle.std.proofs.lemmas.List.FromFn.{length-map-range_with_len, get_or-map-range_with_len}
 use Rattle.std.proofs.lemmas.List.Sums.{position_or_len_is, fails_before_first, passes_at_first}
-use Rattle.std.proofs.lemmas.Bool.{cases_lt, eqb-true, lt-ltb, le-ltb}
+use Rattle.std.proofs.lemmas.Bool.{cases_Bool, cases_lt, cond-true, cond-false, eqb-true, lt-ltb, le-ltb}
 use Rattle.std.proofs.lemmas.Bool.Decides.{nat_tests}
 use Rattle.std.specs.List.{range_with_len}
 use Rattle.std.specs.declared.sync.Arc.{Arc}
@@ -12,7 +12,7 @@ use Rattle.asc_model.specs.Number.{word_at}
 use Rattle.asc_model.proofs.Numbers.{word_at-from_le_bytes}
 use Rattle.asc_pages.specs.Marks.{IsUnlisted, IsUnmarked}
 use Rattle.asc_pages.specs.Pages.{Page, Group, held, page_bytes, page_in, with_gap, group_in, IsPage, ArePages, AreGroups, IsShared, Tells, Keeps}
-use Rattle.asc_pages.specs.Tops.{bytes_in, end_of, groups_in, page_of, place_of}
+use Rattle.asc_pages.specs.Tops.{HasRemainders, bytes_in, end_of, groups_in, page_of, patch_of, place_of}
 use Rattle.asc_pages.specs.declared.pages.Top.{Top}
 
 -- ---- what is shared
@@ -91,6 +91,31 @@ past_unlisted patched p past j below same =
     let yes : nat_eq (slice_index patched j) p ≡ true = eq-eqb _ _ same in
     cc
 
+-- ---- patches
+
+pub patch_found : (top : Top) (p : ℕ) → patch_of top p < length top.patched.items → slice_index top.patched.items (patch_of top p) ≡ p
+unfolding patch_of
+patch_found top p found = elim (cases_Bool (slice_index_or top.has (p % 32) false)) [
+  | inl there ↦
+      let at : patch_of top p ≡ place_of top.patched.items p = cond-true _ _ _ there in
+      ap (λ k. slice_index top.patched.items k) at ∙ place_found top.patched.items p (omega (arith, at, found))
+  | inr apart ↦ let at : patch_of top p ≡ length top.patched.items = cond-false _ _ _ apart in absurd (omega (arith, at, found))
+]
+
+pub patch_past : (top : Top) (p : ℕ) → IsUnlisted top.patched.items p → length top.patched.items ≤ patch_of top p
+unfolding patch_of
+patch_past top p other = elim (cases_Bool (slice_index_or top.has (p % 32) false)) [
+  | inl there ↦ let at : patch_of top p ≡ place_of top.patched.items p = cond-true _ _ _ there in omega (arith, at, place_past top.patched.items p other)
+  | inr apart ↦ let at : patch_of top p ≡ length top.patched.items = cond-false _ _ _ apart in omega (arith, at)
+]
+
+pub patch_past_unlisted : (top : Top) (p : ℕ) → HasRemainders top.has top.patched.items → length top.patched.items ≤ patch_of top p → IsUnlisted top.patched.items p
+unfolding patch_of
+patch_past_unlisted top p has past j below same =
+    let there : slice_index_or top.has (p % 32) false ≡ true = ap (λ q. slice_index_or top.has (q % 32) false) (sym same) ∙ has j below in
+    let at : patch_of top p ≡ place_of top.patched.items p = cond-true _ _ _ there in
+    past_unlisted top.patched.items p (omega (arith, at, past)) j below same
+
 end_each : (patched : List ℕ) (k : ℕ) → k < length patched → slice_index patched k < end_of patched
 end_each [] k below = absurd (omega arith)
 end_each (p ∷ patched) zero below = omega arith
@@ -99,19 +124,19 @@ end_each (p ∷ patched) (suc k) below = let h = end_each patched k (omega arith
 -- ---- pages
 
 -- one that stands in the place of another
-pub page_patched : (top : Top) (p : ℕ) → place_of top.patched.items p < length top.patched.items → page_of top p ≡ page_in top.patches.items (place_of top.patched.items p)
+pub page_patched : (top : Top) (p : ℕ) → patch_of top p < length top.patched.items → page_of top p ≡ page_in top.patches.items (patch_of top p)
 unfolding page_of
 page_patched top p found = rw lt-ltb
 
 -- one of a group
-pub page_plain : (top : Top) (p : ℕ) → length top.patched.items ≤ place_of top.patched.items p → page_of top p ≡ page_in (group_in (groups_in top.groups) (p / 32)) (p % 32)
+pub page_plain : (top : Top) (p : ℕ) → length top.patched.items ≤ patch_of top p → page_of top p ≡ page_in (group_in (groups_in top.groups) (p / 32)) (p % 32)
 unfolding page_of
 page_plain top p past = rw le-ltb
 
 -- one behind the last
 page_past : (top : Top) (p : ℕ) → 32 * length (groups_in top.groups) ≤ p → end_of top.patched.items ≤ p → page_of top p ≡ []
-page_past top p behind higher = elim (cases_lt (place_of top.patched.items p) (length top.patched.items)) [
-  | inl found ↦ absurd (omega (arith, end_each top.patched.items (place_of top.patched.items p) found, place_found top.patched.items p found))
+page_past top p behind higher = elim (cases_lt (patch_of top p) (length top.patched.items)) [
+  | inl found ↦ absurd (omega (arith, end_each top.patched.items (patch_of top p) found, patch_found top p found))
   | inr past ↦ page_plain top p past
       ∙ ap (λ (group : Option Group). page_in (held group) (p % 32)) (get_or_past (groups_in top.groups) (p / 32) None (omega arith))
       ∙ none_in (p % 32)
@@ -149,7 +174,7 @@ pub kept_plain : (marks : List Bool) (bytes : List ℕ) (top : Top) (g k : ℕ) 
 kept_plain marks bytes top g k kept within free other i far inside here =
     let groups = groups_in top.groups in
     kept_page marks bytes top (32 * g + k) kept free i far inside here
-    ∙ ap (λ (l : List ℕ). slice_index l (i % 1024)) (page_plain top (32 * g + k) (place_past top.patched.items (32 * g + k) other)
+    ∙ ap (λ (l : List ℕ). slice_index l (i % 1024)) (page_plain top (32 * g + k) (patch_past top (32 * g + k) other)
     ∙ ap (λ h. page_in (group_in groups h) ((32 * g + k) % 32)) (let e : (32 * g + k) / 32 ≡ g = omega arith in e)
     ∙ ap (λ j. page_in (group_in groups g) j) (let e : (32 * g + k) % 32 ≡ k = omega arith in e))
 
@@ -165,17 +190,17 @@ told_whole bytes top each none = told bytes top
 
 -- those of a base, and pages that stand in the place of theirs
 pub told_patched : (marks : List Bool) (bytes : List ℕ) (base top : Top) → length marks ≡ length bytes / 1024 + 1 → Keeps marks (bytes_in base) bytes
-    → groups_in top.groups ≡ groups_in base.groups
+    → groups_in top.groups ≡ groups_in base.groups → HasRemainders top.has top.patched.items
     → ((p : ℕ) → IsUnlisted top.patched.items p → IsUnlisted base.patched.items p × (p < length marks → slice_index_or marks p true ≡ false))
     → ((k : ℕ) → k < length top.patched.items → IsPage bytes (slice_index top.patched.items k) (page_in top.patches.items k)) → Tells (bytes_in top) bytes
-told_patched marks bytes base top size kept same others each = told bytes top
-    (λ p. elim (cases_lt (place_of top.patched.items p) (length top.patched.items)) [
-      | inl found ↦ λ i far inside here. each (place_of top.patched.items p) found i far inside (here ∙ sym (place_found top.patched.items p found))
+told_patched marks bytes base top size kept same has others each = told bytes top
+    (λ p. elim (cases_lt (patch_of top p) (length top.patched.items)) [
+      | inl found ↦ λ i far inside here. each (patch_of top p) found i far inside (here ∙ sym (patch_found top p found))
           ∙ ap (λ (l : List ℕ). slice_index l (i % 1024)) (sym (page_patched top p found))
       | inr past ↦ λ i far inside here.
-          let other = others p (past_unlisted top.patched.items p past) in
+          let other = others p (patch_past_unlisted top p has past) in
           kept_page marks bytes base p kept (other.1 (omega arith)) i far inside here
-          ∙ ap (λ (l : List ℕ). slice_index l (i % 1024)) (page_plain base p (place_past base.patched.items p other.0)
+          ∙ ap (λ (l : List ℕ). slice_index l (i % 1024)) (page_plain base p (patch_past base p other.0)
           ∙ ap (λ (groups : List (Option Group)). page_in (group_in groups (p / 32)) (p % 32)) (sym same)
           ∙ sym (page_plain top p past))
     ])

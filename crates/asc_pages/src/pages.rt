@@ -2,7 +2,7 @@ ghost use Rattle.std.specs.Prelude.{◌≡◌, ◌≢◌, ◌⊎◌, ◌+◌, �
 ghost use Rattle.asc_model.specs.Number.{word_at};
 ghost use Rattle.asc_pages.specs.Marks.{IsUnlisted, IsUnmarked};
 ghost use Rattle.asc_pages.specs.Pages.{Group, IsPage, ArePages, AreGroups, Keeps, Tells, IsShared, base_bytes, group_in, held, page_bytes, page_in, with_gap};
-ghost use Rattle.asc_pages.specs.Tops.{bytes_in, groups_in, page_of, place_of};
+ghost use Rattle.asc_pages.specs.Tops.{HasRemainders, bytes_in, groups_in, page_of, patch_of, place_of};
 
 use crate::Marks;
 use crate::marks::without_pages;
@@ -61,6 +61,8 @@ struct Top {
     // The numbers of those pages, and the pages.
     patched: Vec<usize>,
     patches: Vec<Page>,
+    // Whether one of those pages may have a number with this remainder by 32. So most others are known by one test.
+    has: [bool; GROUP],
 }
 
 /// Pages of bytes that do not change. They can be shared, also by threads, and share what they have in common with
@@ -227,13 +229,26 @@ fn place_in(patched: &[usize], p: usize) -> usize
     patched.len()
 }
 
+// The place of what stands in the place of page p, or the count of the patches where nothing does.
+#[inline]
+#[tactic(auto, unfolding(crate::specs::Tops::patch_of))]
+fn patch_of(top: &Top, p: usize) -> usize
+    ensures { result ≡ patch_of top.now p }
+{
+    if top.has[p % GROUP] {
+        place_in(&top.patched, p)
+    } else {
+        top.patched.len()
+    }
+}
+
 // Page p, or nothing where it is blank and left out.
 #[inline]
 fn top_page(top: &Top, p: usize) -> &[u8]
     ensures page { result.now ≡ page_of top.now p }
     ensures size { 0 < length result.now → length result.now ≡ 1024 }
 {
-    let k = place_in(&top.patched, p);
+    let k = patch_of(top, p);
     if k < top.patched.len() {
         page_at(&top.patches, k)
     } else {
@@ -344,7 +359,7 @@ fn share_page(top: &Top, kept: &[Page], p: usize) -> Result<Page, Memory>
     requires { kept.now ≡ group_in (groups_in top.now.groups) (p / 32) }
     ensures { IfOk result (λ page. page_bytes page ≡ page_of top.now p) }
 {
-    let k = place_in(&top.patched, p);
+    let k = patch_of(top, p);
     if k < top.patched.len() {
         share_part(&top.patches, k)
     } else {
@@ -420,6 +435,7 @@ fn no_top(alloc: Global) -> Top
         groups: None,
         patched: Vec::new(alloc),
         patches: Vec::new(alloc),
+        has: [false; GROUP],
     }
 }
 
@@ -462,6 +478,7 @@ fn put_top(
 {
     if list_patched(&mut top.patched, base, changed)? {
         top.groups = share(&base.groups)?;
+        top.has = remainders(&top.patched);
         let spare = mem::replace(&mut top.patches, Vec::new(alloc));
         top.patches = patches_of(alloc, bytes, changed, base, &top.patched, spare)?;
         Ok(())
@@ -508,6 +525,18 @@ fn list_changed(patched: &mut Vec<usize>, base: &[usize], p: usize) -> Result<bo
     }
     patched.push(p)?;
     Ok(true)
+}
+
+// Whether one of these numbers has such a remainder by 32.
+#[inline]
+fn remainders(numbers: &[usize]) -> [bool; GROUP]
+    ensures { HasRemainders result numbers.now }
+{
+    let mut has = [false; GROUP];
+    for n in numbers {
+        has[*n % GROUP] = true;
+    }
+    has
 }
 
 // The pages of bytes of these numbers, in the memory of spare ones.
