@@ -1,0 +1,16 @@
+use Rattle.std.proofs.Common.{◌≡◌, ◌-◌, ◌++◌, None, map}
+use Rattle.std.specs.Arc.{arc_value}
+use Rattle.asc_model.specs.EntryFile.{first_fault, entries_cases, entries_in, own_cases}
+use Rattle.asc_shape.specs.State.{zero_state}
+use Rattle.asc_depvec.specs.Tracer.{most_cap}
+use Rattle.asc_save.proofs.trace.retraced.Given as goal
+
+abbrev pub invariant-loop-index : goal.invariant-loop-index
+invariant-loop-index l = record {
+  shape : l.tracer.shape ≡ l.fn.shape;
+  cap : l.tracer.cap ≡ most_cap;
+  zeros : l.zeros ≡ zero_state l.fn.shape;
+  no_fault : first_fault (entries_cases l.fn.shape l.index (l.count - l.index) l.rest) ≡ None;
+  entries : map arc_value l.entries.items ++ entries_in l.fn.shape (l.count - l.index) l.rest ≡ entries_in l.fn.shape l.count l.bytes;
+  own : first_fault (own_cases l.index (entries_in l.fn.shape (l.count - l.index) l.rest)) ≡ first_fault (own_cases 0 (entries_in l.fn.shape l.count l.bytes));
+}

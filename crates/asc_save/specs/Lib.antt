@@ -1,0 +1,4 @@
+pub mod Laws
+pub mod Listed
+pub mod Load
+pub mod Traced

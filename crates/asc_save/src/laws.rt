@@ -1,0 +1,9 @@
+//! A law on files of entries. It is what a function ensures that does nothing.
+
+ghost use Rattle.asc_save.specs.Laws.{FilesMeanTheirEntries};
+
+/// Bytes mean a shape and entries exactly where they are the file of these, which are within the bounds of files, and
+/// each of which is its own.
+pub fn files_mean_their_entries()
+    ensures { FilesMeanTheirEntries }
+{}
