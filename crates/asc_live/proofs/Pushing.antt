@@ -1,7 +1,7 @@
 -- What is pushed one after another.
-use Rattle.std.proofs.Common.{◌≡◌, ◌≤◌, ◌<◌, ℕ, zero, suc, ◌+◌, Bool, true, false, ◌&&◌, nat_lt, nat_le, List, [], ◌∷◌, ◌++◌, length, map, filter, refl, sym, ap, ◌∙◌, inl, inr, subst, arith, append_assoc}
+use Rattle.std.proofs.Common.{◌≡◌, ◌≤◌, ◌<◌, ℕ, zero, suc, ◌+◌, Bool, true, false, ◌&&◌, nat_lt, nat_le, List, [], ◌∷◌, ◌++◌, length, get_or, take, map, filter, refl, sym, ap, ◌∙◌, inl, inr, subst, arith, append_assoc}
 use Rattle.std.proofs.lemmas.Bool.{ltb-true, leb-true}
-use Rattle.std.proofs.lemmas.List.{append-nil, map-append, length-append}
+use Rattle.std.proofs.lemmas.List.{append-nil, map-append, length-append, take_more}
 use Rattle.std.proofs.lemmas.List.Elements.{filter-append}
 use Rattle.std.specs.Arc.{arc_value}
 use Rattle.std.specs.Global.{Global}
@@ -12,7 +12,8 @@ use Rattle.asc_jobs.specs.declared.job.Job.{Job}
 use Rattle.asc_jobs.specs.Jobs.{Giver, after_push}
 use Rattle.asc_jobs.specs.JobRule.{CountUp}
 use Rattle.asc_outside.specs.Outside.{one_more}
-use Rattle.asc_live.specs.Due.{Due, Pusher, Pushes, IsSublist, due_of, full_of, is_filled, raised}
+use Rattle.asc_run.specs.Serial.{Task}
+use Rattle.asc_live.specs.Due.{Due, Pusher, Pushes, IsSublist, due_of, full_of, is_filled, jobs_of, raised}
 use Rattle.asc_live.proofs.Lists.{IsSublist-append, CountUp-append}
 
 raised-more : (count a b : ℕ) → raised (raised count a) b ≡ raised count (a + b)
@@ -190,6 +191,21 @@ Pushes-left offers due p q none e room = record {
   room = λ h. subst (λ (x : Pusher). p.giver.capacity ≤ length x.giver.pushed) (sym e) room;
   refused = ap (λ (x : Pusher). x.refused) e;
 }
+
+-- one job, which is offered
+pub Pushes-one-offered : (offers : Due → Bool) (d : Due) (p q : Pusher) → offers d ≡ true → Pushes each (d ∷ []) p q → Pushes offers (d ∷ []) p q
+Pushes-one-offered offers d p q on s = Pushes-offered offers (d ∷ []) p q (rw on refl) s
+
+-- one that is left to the walk
+pub Pushes-one-left : (offers : Due → Bool) (d : Due) (p q : Pusher) → offers d ≡ false → q ≡ record p { left = p.left + 1 } → p.giver.capacity ≤ length p.giver.pushed → Pushes offers (d ∷ []) p q
+Pushes-one-left offers d p q off e room = Pushes-left offers (d ∷ []) p q (rw off refl) e room
+
+-- the jobs of one guess more
+pub jobs-more : (prev last : State) (tasks : List Task) (i : ℕ) (none : Task) → i < length tasks
+    → jobs_of prev last (take (i + 1) tasks) ≡ jobs_of prev last (take i tasks) ++ jobs_of prev last (get_or tasks i none ∷ [])
+jobs-more prev last tasks i none within =
+    ap (jobs_of prev last) (take_more tasks i none within)
+    ∙ map-append (λ (task : Task). let due : Due = record { prev = prev; last = last; ahead = task.1; kind = task.0 } in due) (take i tasks) (get_or tasks i none ∷ [])
 
 -- no job is offered
 abbrev pub nothing : Due → Bool

@@ -9,6 +9,7 @@ use Rattle.asc_run.specs.declared.walk.Ended.{Ended}
 use Rattle.asc_run.specs.Execution.{device_of}
 use Rattle.asc_run.specs.Helped.{Aid}
 use Rattle.asc_run.specs.Seen.{seen, guesses_until}
+use Rattle.asc_run.specs.LastVisits.{no_visits}
 use Rattle.asc_run.specs.Walk.{Walk, GoesFirst, IsRaisedBy, tally}
 use Rattle.asc_work.specs.Worker.{Worker}
 use Rattle.asc_live.specs.declared.crew.Crew.{Crew}
@@ -70,14 +71,14 @@ pub record IsWriterOf (readers : List ShardReader) (w : ShardWriter) : Type 0 wh
 -- this is what a crew was asked for by
 pub record IsAskedFor {R : Type 0} (shape : Shape) (guessing : Guessing) (crew : Crew) (r : Ready R) : Type 0 where
   pub shape_is : r.shape ≡ shape
-  pub guessing_is : r.guessing ≡ guessing
+  pub guessing_is : r.visits.guessing ≡ guessing
   pub crew_is : r.crew ≡ crew
 
 -- A crew of which no job was asked is as it was asked for, with all that stops its workers and wakes them: the team of a
 -- queue, with flags of its halter, and the writers and the readers of one cache.
 pub record IsReady {R : Type 0} (r : Ready R) : Type 0 where
   pub workers : length r.team.posts ≡ r.crew.workers
-  pub bounds : All (λ p. HasBoundsOf r.shape r.guessing p.worker) r.team.posts
+  pub bounds : All (λ p. HasBoundsOf r.shape r.visits.guessing p.worker) r.team.posts
   pub queue : r.team.queue ≡ Some r.giver.queue
   pub capacity : r.giver.capacity ≡ r.crew.queue
   -- the giver and each worker's taker are all the parts of the queue
@@ -85,6 +86,7 @@ pub record IsReady {R : Type 0} (r : Ready R) : Type 0 where
   pub none_pushed : r.giver.pushed ≡ []
   pub shards : length r.readers.readers ≡ r.crew.workers
   pub writers : All (λ p. IsWriterOf r.readers.readers p.worker.writer) r.team.posts
+  pub none_visited : r.visits ≡ no_visits r.visits.guessing
   pub none_asked : r.readers.tally ≡ tally 0 0 0
   pub running : r.halter.halted ≡ false
   pub flags : All (λ p. p.worker.halt.word ≡ r.halter.word) r.team.posts

@@ -1,15 +1,13 @@
 -- The jobs that are due at a visit, and what becomes of them.
 use Rattle.std.specs.Prelude.{◌≡◌, ◌⊎◌, ℕ, zero, suc, ◌+◌, ◌-◌, ◌%◌, ◌<◌, ◌≤◌, ◌==◌, ◌&&◌, ◌||◌, not, nat_lt, nat_le, Bool, List, [], ◌∷◌, ◌++◌, length, map, filter}
 use Rattle.std.specs.Arc.{arc_value}
-use Rattle.std.specs.List.{flat_map, range_with_len}
 use Rattle.asc_model.specs.State.{State}
 use Rattle.asc_guess.specs.declared.kind.Kind.{Kind}
 use Rattle.asc_outside.specs.Outside.{one_more}
 use Rattle.asc_jobs.specs.declared.job.Job.{Job}
 use Rattle.asc_jobs.specs.Jobs.{Giver}
 use Rattle.asc_jobs.specs.JobRule.{CountUp}
-use Rattle.asc_find.specs.declared.guessing.Guessing.{Guessing}
-use Rattle.asc_run.specs.Serial.{Task, kinds_of}
+use Rattle.asc_run.specs.Serial.{Task}
 
 -- a job that is due: from the states of the last visit and of the one before, a later visit is to be guessed
 pub record Due : Type 0 where
@@ -26,11 +24,6 @@ due_of job = record { prev = arc_value job.prev; last = arc_value job.last; ahea
 -- the jobs of these guesses
 abbrev pub jobs_of : (prev last : State) → List Task → List Due
 jobs_of prev last tasks = map (λ (task : Task). record { prev = prev; last = last; ahead = task.1; kind = task.0 }) tasks
-
--- the guesses of n targets from one on, at a visit of this number
-abbrev pub tasks_for : Guessing → (number start n : ℕ) → List Task
-tasks_for g number start n =
-    flat_map (λ target. map (λ kind. (kind, target - number)) (kinds_of g)) (range_with_len start n)
 
 -- some elements of a list, in its order
 abbrev pub IsSublist : {A : Type 0} → (some all : List A) → Type 0

@@ -1,9 +1,7 @@
 -- A helper that has others do what it guesses.
 use Rattle.std.specs.Prelude.{◌≡◌, ◌⊎◌, ℕ, ◌+◌, ◌/◌, ◌^◌, ◌≤◌, ◌<◌, nat_lt, ◌==◌, ◌&&◌, ◌||◌, not, Bool, true, false, List, [], length, Option, Some, None, if◌then◌else◌}
-use Rattle.std.specs.Global.{Global}
 use Rattle.std.specs.List.{list_any}
 use Rattle.std.specs.Option.{is_some}
-use Rattle.std.specs.declared.sync.Arc.{Arc}
 use Rattle.asc_model.specs.Shape.{length_of}
 use Rattle.asc_model.specs.State.{State}
 use Rattle.asc_outside.specs.Outside.{one_more}
@@ -12,6 +10,7 @@ use Rattle.asc_jobs.specs.Jobs.{Giver}
 use Rattle.asc_find.specs.declared.guessing.Guessing.{Guessing}
 use Rattle.asc_find.specs.Finder.{Plan, Queue}
 use Rattle.asc_run.specs.Serial.{kinds_of, tasks_of}
+use Rattle.asc_run.specs.LastVisits.{LastVisits}
 use Rattle.asc_run.specs.Seen.{seen, guesses_until}
 use Rattle.asc_live.specs.Budget.{Budget, new_budget, passes, after_visit, visit_cost}
 use Rattle.asc_live.specs.Due.{Due, Pusher, Pushes, new_pusher, full_of, is_filled, is_for_workers, is_offered, jobs_of}
@@ -33,20 +32,14 @@ pub record Live (F : Type 0) : Type 0 where
   -- what its visits may cost
   pub budget : Budget
 
--- the state of a copy, where there is one
-abbrev pub state_in : Option (Arc State Global) → Option State
-state_in None = None
-state_in (Some copy) = Some copy.value
-
 -- what is seen of its fields
-abbrev pub live : {F : Type 0} → F → Guessing → (prev last : Option (Arc State Global)) → (issued : ℕ) → Pusher
-    → (seen : Option ℕ) → (workers : ℕ) → Budget → Live F
-live finder guessing prev last issued pusher seen workers budget = record {
+abbrev pub live : {F : Type 0} → F → LastVisits → Pusher → (seen : Option ℕ) → (workers : ℕ) → Budget → Live F
+live finder visits pusher seen workers budget = record {
   finder = finder;
-  guessing = guessing;
-  prev = state_in prev;
-  last = state_in last;
-  issued = issued;
+  guessing = visits.guessing;
+  prev = visits.prev;
+  last = visits.last;
+  issued = visits.issued;
   pusher = pusher;
   seen = seen;
   workers = workers;

@@ -11,7 +11,7 @@ use asc_cache::{Cache, ShardReaders, ShardWriter};
 use asc_find::Guessing;
 use asc_jobs::{Giver, Jobs};
 use asc_outside::{Gate, Memory, Point, Sink, Source};
-use asc_run::{Ended, Helper, Walk};
+use asc_run::{Ended, Helper, LastVisits, Walk};
 use asc_shape::{Shape, Steps};
 use asc_shard::RUN_CAPACITY;
 use asc_work::{Flag, Halter, TakenIn, Team, Worker};
@@ -52,8 +52,8 @@ pub struct Worked {
 #[derive(Drop)]
 struct Ready<R: Wait + Drop> {
     shape: Shape,
-    guessing: Guessing,
     crew: Crew,
+    visits: LastVisits,
     halter: Halter,
     giver: Giver,
     readers: ShardReaders<R>,
@@ -117,6 +117,7 @@ fn open_crew<R: Wait + Copy + Drop>(
 ) -> Result<Ready<R>, Memory>
     requires workers { (1 ≤ crew.workers) × (crew.workers ≤ 64) }
     requires queue { (1 ≤ crew.queue) × (crew.queue ≤ 1024) }
+    requires ahead { guessing.ahead ≤ 64 }
     requires laps { 1 ≤ guessing.laps }
     requires span { 1 ≤ guessing.span }
     ensures ready { IfOk result (λ ready. IsReady ready) }
@@ -128,10 +129,11 @@ fn open_crew<R: Wait + Copy + Drop>(
     let workers = workers_of(alloc, shape, guessing, writers, flags)?;
     let (team, visit_wakers) = Team::new(alloc, &giver, workers, takers)?;
     let end_wakers = wakers_again(alloc, &visit_wakers)?;
+    let visits = LastVisits::new(alloc, guessing)?;
     Ok(Ready {
         shape,
-        guessing,
         crew,
+        visits,
         halter,
         giver,
         readers,
@@ -193,9 +195,9 @@ fn go_with<
     steps: &mut Steps<L>,
 ) -> Worked
     requires new { IsNone walk.old.ended }
-    requires ahead { (1 ≤ ready.guessing.ahead) × (ready.guessing.ahead ≤ 64) }
+    requires ahead { (1 ≤ ready.visits.guessing.ahead) × (ready.visits.guessing.ahead ≤ 64) }
     requires ready { IsReady ready }
-    ensures { WentBeside ready.guessing ready.crew walk.old walk.new
+    ensures { WentBeside ready.visits.guessing ready.crew walk.old walk.new
         (outside (I.left input.old) (O.given out.old) (E.given err.old) steps.old
         (faults (I.faults input.old) (O.faults out.old) (E.faults err.old)))
         (outside (I.left input.new) (O.given out.new) (E.given err.new) steps.new
@@ -203,8 +205,8 @@ fn go_with<
 {
     let Ready {
         shape: _,
-        guessing,
         crew: _,
+        visits,
         mut halter,
         giver,
         readers,
@@ -213,7 +215,7 @@ fn go_with<
         end_wakers,
     } = ready;
     let workers = team.len();
-    let mut live = Live::new(alloc, rt, gate, readers, giver, visit_wakers, guessing);
+    let mut live = Live::new(alloc, rt, gate, readers, giver, visit_wakers, visits);
     let ended = go_served(
         rt,
         &mut team,

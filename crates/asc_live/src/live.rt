@@ -6,7 +6,7 @@ ghost use Rattle.asc_find.specs.Finder.{Tells, tally_after};
 ghost use Rattle.asc_find.specs.Serial.{Serial, serial_reply};
 ghost use Rattle.asc_run.specs.Helped.{aid, Plans, VisitsMachine};
 ghost use Rattle.asc_run.specs.Seen.{Sees};
-ghost use Rattle.asc_run.specs.Serial.{kinds_of};
+ghost use Rattle.asc_run.specs.LastVisits.{no_visits};
 ghost use Rattle.asc_live.specs.Laws.{new_plan};
 ghost use Rattle.asc_live.specs.Live.{IsLive, new_live, queue_of, plan_of, given_up, refused_visit, due_by, is_needless, issued_by, is_guessing, offers_at, seen_after as seen_by, Visits, VisitsWritten};
 ghost use Rattle.asc_live.specs.Due.{Pushes, full_of, is_filled};
@@ -15,16 +15,15 @@ ghost use Rattle.asc_live.specs.Budget.{after_look_up};
 use crate::budget::Budget;
 use crate::pusher::Pusher;
 use crate::share::Share;
-use asc_find::{Finder, Guessing};
-use asc_guess::targets;
+use asc_find::Finder;
 use asc_jobs::Giver;
 use asc_outside::{Gate, Point};
-use asc_run::Helper;
-use asc_shape::{Snapshot, State};
+use asc_run::{Helper, LastVisits};
+use asc_shape::State;
 use crossbeam_utils::sync::Unparker;
 use std::alloc::Global;
 use std::marker::Model;
-use std::sync::{Arc, Wait};
+use std::sync::Wait;
 
 /// The helper of a walk that has workers beside it. At its visits it pushes jobs for them: guesses of later visits, to be
 /// traced. It finds jumps by another finder.
@@ -50,29 +49,25 @@ pub struct Live<'a, F, G, R> {
     pusher: Pusher<'a, R>,
     budget: Budget,
     workers: Vec<Unparker>,
-    guessing: Guessing,
-    prev: Option<Arc<Snapshot>>,
-    last: Option<Arc<Snapshot>>,
-    // The last visit that was guessed.
-    issued: u64,
+    visits: LastVisits,
     // Up to which visit all were guessed, where memory never was wanting.
     seen: Option<u64>,
 }
 
 impl<'a, F, G, R> Model for Live<'a, F, G, R> {
-    ghost use Rattle.std.specs.Prelude.{Some, None, length};
-    ghost use Rattle.std.specs.Arc.{arc_value};
+    ghost use Rattle.std.specs.Prelude.{length};
     ghost use Rattle.asc_live.specs.Live as model;
 
     ghost Value = { model.Live F };
 
-    ghost view = { λ s. model.live s.finder s.guessing s.prev s.last s.issued s.pusher s.seen (length s.workers.items) s.budget };
+    ghost view = { λ s. model.live s.finder s.visits s.pusher s.seen (length s.workers.items) s.budget };
 
-    ghost invariant = { λ s. model.IsLive (model.live s.finder s.guessing s.prev s.last s.issued s.pusher s.seen (length s.workers.items) s.budget) };
+    ghost invariant = { λ s. model.IsLive (model.live s.finder s.visits s.pusher s.seen (length s.workers.items) s.budget) };
 }
 
 impl<'a, F, G, R> Live<'a, F, G, R> {
-    /// A helper that was not visited yet. Its jobs are pushed by `giver`, and `workers` wake those that run them.
+    /// A helper that was not visited yet, with what is to be kept of its visits. Its jobs are pushed by `giver`, and
+    /// `workers` wake those that run them.
     pub fn new(
         alloc: Global,
         rt: &'a R,
@@ -80,13 +75,14 @@ impl<'a, F, G, R> Live<'a, F, G, R> {
         finder: F,
         giver: Giver,
         workers: Vec<Unparker>,
-        guessing: Guessing,
+        visits: LastVisits,
     ) -> Live<'a, F, G, R>
         requires giver { giver.pushed ≡ [] }
-        requires least { 1 ≤ guessing.ahead }
-        requires most { guessing.ahead ≤ 64 }
-        ensures live { result ≡ new_live finder giver guessing (length workers.items) }
-        ensures plan { plan_of result ≡ new_plan guessing (Some (queue_of giver)) }
+        requires new { visits ≡ no_visits visits.guessing }
+        requires least { 1 ≤ visits.guessing.ahead }
+        requires most { visits.guessing.ahead ≤ 64 }
+        ensures live { result ≡ new_live finder giver visits.guessing (length workers.items) }
+        ensures plan { plan_of result ≡ new_plan visits.guessing (Some (queue_of giver)) }
     {
         Live {
             alloc,
@@ -95,10 +91,7 @@ impl<'a, F, G, R> Live<'a, F, G, R> {
             pusher: Pusher::new(rt, giver),
             budget: Budget::new(workers.len()),
             workers,
-            guessing,
-            prev: None,
-            last: None,
-            issued: 0,
+            visits,
             seen: Some(0),
         }
     }
@@ -107,7 +100,7 @@ impl<'a, F, G, R> Live<'a, F, G, R> {
     pub(crate) fn truth(&self)
         ensures { IsLive self.now }
     {
-        let _ = &self.issued;
+        let _ = &self.visits;
     }
 
     /// The finder that it asks.
@@ -129,10 +122,7 @@ impl<'a, F, G, R> Live<'a, F, G, R> {
             pusher,
             budget: _budget,
             workers: _workers,
-            guessing: _,
-            prev: _prev,
-            last: _last,
-            issued: _,
+            visits: _visits,
             seen: _,
         } = self;
         (finder, pusher.into_giver())
@@ -149,8 +139,7 @@ impl<'a, F, G, R> Live<'a, F, G, R> {
         }
     }
 
-    // Keeps the state of a visit, in the memory of that before the last, which it lets go of. Where memory is wanting it
-    // answers false, and both are given up.
+    // Keeps the state of a visit. Where memory is wanting it answers false, and both states are given up.
     fn keep(&mut self, state: &mut State) -> bool
         requires { self.old.seen ≡ None }
         ensures kept { result ≡ true → self.new
@@ -158,19 +147,11 @@ impl<'a, F, G, R> Live<'a, F, G, R> {
         ensures stays { state.new ≡ state.old }
         ensures refused { result ≡ false → self.new ≡ refused_visit self.old }
     {
-        let spare = self.prev.take();
-        self.prev = self.last.take();
-        match state.freeze_over(self.alloc, spare) {
-            Ok(now) => {
-                self.last = Some(now);
-                true
-            }
-            Err(_) => {
-                self.prev = None;
-                self.pusher.refuse();
-                false
-            }
+        let kept = self.visits.keep(self.alloc, state).is_ok();
+        if !kept {
+            self.pusher.refuse();
         }
+        kept
     }
 
     // Keeps the state of a visit that has none before it to guess by.
@@ -202,14 +183,14 @@ impl<'a, F, G, R> Live<'a, F, G, R> {
         requires { number ≤ 2 ^ 40 }
         ensures { result ≡ is_needless number self.now }
     {
-        if !self.pusher.has_filled() || self.guessing.stride || self.last.is_none() {
+        if !self.pusher.has_filled() || self.visits.guessing().stride || !self.visits.has_last() {
             return false;
         }
-        let due = targets(self.issued, number, self.guessing.ahead);
+        let due = self.visits.targets(number);
         self.share(true).offers_none(due.start, due.end)
     }
 
-    // KeepsNone the guesses that are due at a visit to the walk, and keeps no state.
+    // Leaves the guesses that are due at a visit to the walk, and keeps no state.
     fn leave(&mut self, number: u64)
         requires needless { is_needless number self.old ≡ true }
         requires guesses { is_guessing self.old.guessing ≡ true }
@@ -223,8 +204,8 @@ impl<'a, F, G, R> Live<'a, F, G, R> {
           };
         } }
     {
-        self.pusher.leave_visit(&self.guessing, self.issued, number);
-        self.issued = number + u64::from(self.guessing.ahead);
+        self.visits.list(number);
+        self.pusher.leave(self.visits.jobs());
     }
 
     // No job of a visit is pushed, nor offered.
@@ -235,10 +216,8 @@ impl<'a, F, G, R> Live<'a, F, G, R> {
         requires full { full_of self.old.pusher < 2 ^ 62 }
         ensures { self.new ≡ given_up number self.old.last self.old }
     {
-        let ahead = u64::from(self.guessing.ahead);
-        self.prev = None;
-        self.issued = number + ahead;
-        self.pusher.pass_over(&self.guessing);
+        self.visits.skip(number);
+        self.pusher.pass_over(self.visits.guessing());
     }
 }
 
@@ -254,14 +233,15 @@ impl<'a, F, G, R: Wait> Live<'a, F, G, R> {
         ensures visits { Visits number pages state.old self.old self.new }
         ensures stays { state.new ≡ state.old }
     {
-        let guesses = self.guessing.last || self.guessing.stride;
+        let guessing = self.visits.guessing();
+        let guesses = guessing.last || guessing.stride;
         let filled = self.pusher.has_filled();
         if !self.budget.pay(guesses, filled, pages) {
-            self.last = None;
+            self.visits.forget();
             self.give_up(number);
         } else if needless {
             self.leave(number);
-        } else if filled && self.last.is_none() {
+        } else if filled && !self.visits.has_last() {
             self.begin_row(state, number);
         } else if self.keep(state) {
             self.push_due(number, filled);
@@ -282,16 +262,13 @@ impl<'a, F, G, R: Wait> Live<'a, F, G, R> {
         } }
     {
         let share = self.share(filled);
-        let Some(prev) = &self.prev else {
-            return;
-        };
-        let Some(last) = &self.last else {
+        self.visits.plan(number);
+        let Some((prev, last)) = self.visits.pair() else {
             return;
         };
         let before = self.pusher.pushed();
         self.pusher
-            .offer_visit(share, prev, last, &self.guessing, self.issued, number);
-        self.issued = number + u64::from(self.guessing.ahead);
+            .offer_visit(share, prev, last, self.visits.jobs(), number);
         self.wake_for(before, self.pusher.pushed());
     }
 }

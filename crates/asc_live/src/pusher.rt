@@ -1,14 +1,13 @@
-ghost use Rattle.std.specs.Prelude.{◌≡◌, ◌+◌, ◌-◌, ◌<◌, ◌≤◌, ◌^◌, [], ◌∷◌, length, map, nat_lt, true, false, if◌then◌else◌, ℕ};
+ghost use Rattle.std.specs.Prelude.{◌≡◌, ◌+◌, ◌<◌, ◌≤◌, ◌^◌, [], ◌∷◌, length, nat_lt, true, if◌then◌else◌};
 ghost use Rattle.std.specs.Arc.{arc_value};
 ghost use Rattle.asc_model.specs.State.{State};
-ghost use Rattle.asc_guess.specs.declared.kind.Kind.{Kind as kind_of};
 ghost use Rattle.asc_outside.specs.Outside.{one_more};
-ghost use Rattle.asc_live.specs.Due.{Pushes, full_of, is_filled, is_offered, jobs_of, new_pusher, tasks_for};
-ghost use Rattle.asc_run.specs.Serial.{kinds_of, tasks_of};
+ghost use Rattle.asc_live.specs.Due.{Pushes, full_of, is_filled, is_offered, jobs_of, new_pusher};
+ghost use Rattle.asc_run.specs.Serial.{kinds_of};
 
 use crate::share::Share;
 use asc_find::Guessing;
-use asc_guess::{Kind, targets};
+use asc_guess::Kind;
 use asc_jobs::{Full, Giver};
 use asc_shape::Snapshot;
 use std::marker::Model;
@@ -105,38 +104,26 @@ impl<'a, R> Pusher<'a, R> {
         0 < pushed && self.giver.capacity() as u64 <= pushed
     }
 
-    /// Counts one guess of each kind that is on as one that is left to the walk.
-    fn leave(&mut self, guessing: &Guessing)
-        requires { full_of self.old < 2 ^ 63 }
-        ensures { self.new ≡ record self.old { left = self.old.left + length (kinds_of guessing.now) } }
-    {
-        self.left += kinds(guessing);
-    }
-
-    /// Counts the guesses that are due at a visit as left to the walk. Once `MOST_JOBS` were pushed none is due.
-    pub(crate) fn leave_visit(&mut self, guessing: &Guessing, issued: u64, number: u64)
+    /// Counts these jobs as left to the walk. Once `MOST_JOBS` were pushed it counts none.
+    pub(crate) fn leave(&mut self, jobs: &[(Kind, u32)])
         requires full { full_of self.old < 2 ^ 62 }
-        requires ahead { guessing.now.ahead ≤ 64 }
-        requires issued { issued ≤ 2 ^ 41 }
-        requires number { number ≤ 2 ^ 40 }
+        requires few { length jobs.now ≤ 128 }
         ensures { (prev last : State) → self.new ≡ record self.old {
           left = self.old.left
-              + length (if nat_lt (length self.old.giver.pushed) (2 ^ 60)
-              then jobs_of prev last (tasks_of guessing.now issued number) else []);
+              + length (if nat_lt (length self.old.giver.pushed) (2 ^ 60) then jobs_of prev last jobs.now else []);
         } }
     {
         if self.pushed() < MOST_JOBS {
-            let due = targets(issued, number, guessing.ahead);
-            self.left += kinds(guessing) * (due.end - due.start);
+            self.left += jobs.len() as u64;
         }
     }
 
     /// Counts one guess of each kind that is on as due at a visit that is passed over, or that keeps its state alone.
-    pub(crate) fn pass_over(&mut self, guessing: &Guessing)
+    pub(crate) fn pass_over(&mut self, guessing: Guessing)
         requires { full_of self.old < 2 ^ 63 }
-        ensures { self.new ≡ record self.old { passed = self.old.passed + length (kinds_of guessing.now) } }
+        ensures { self.new ≡ record self.old { passed = self.old.passed + length (kinds_of guessing) } }
     {
-        self.passed += kinds(guessing);
+        self.passed += u64::from(guessing.last) + u64::from(guessing.stride);
     }
 
     /// Counts that memory was wanting.
@@ -148,100 +135,35 @@ impl<'a, R> Pusher<'a, R> {
 }
 
 impl<'a, R: Wait> Pusher<'a, R> {
-    /// Pushes the jobs of a visit that are offered, by the states of the last two: of the targets in rising order, and of
-    /// each kind that is on, `Last` before `Stride`. The others it counts as left to the walk. Once `MOST_JOBS` were
-    /// pushed it does neither.
+    /// Pushes those of these jobs that are offered, in their order, by the states of the last two visits. The others it
+    /// counts as left to the walk. Once `MOST_JOBS` were pushed it does neither.
     pub(crate) fn offer_visit(
         &mut self,
         share: Share,
         prev: &Arc<Snapshot>,
         last: &Arc<Snapshot>,
-        guessing: &Guessing,
-        issued: u64,
+        jobs: &[(Kind, u32)],
         number: u64,
     )
         requires workers { share.workers + 1 < 2 ^ 64 }
         requires filled { share.filled ≡ true → is_filled self.old.giver ≡ true }
         requires full { full_of self.old < 2 ^ 62 }
-        requires ahead { guessing.now.ahead ≤ 64 }
-        requires issued { issued ≤ 2 ^ 41 }
+        requires few { length jobs.now ≤ 128 }
         requires number { number ≤ 2 ^ 40 }
         ensures { Pushes (is_offered share.filled share.workers number)
             (if nat_lt (length self.old.giver.pushed) (2 ^ 60)
-            then jobs_of (arc_value prev.now) (arc_value last.now) (tasks_of guessing.now issued number) else [])
-            self.old self.new }
+            then jobs_of (arc_value prev.now) (arc_value last.now) jobs.now else []) self.old self.new }
     {
-        if self.pushed() < MOST_JOBS {
-            let due = targets(issued, number, guessing.ahead);
-            self.offer_targets(share, prev, last, guessing, number, due.start, due.end);
+        if MOST_JOBS <= self.pushed() {
+            return;
         }
-    }
-
-    // Pushes the jobs of those of these targets that are offered, and counts those of the others.
-    fn offer_targets(
-        &mut self,
-        share: Share,
-        prev: &Arc<Snapshot>,
-        last: &Arc<Snapshot>,
-        guessing: &Guessing,
-        number: u64,
-        start: u64,
-        end: u64,
-    )
-        requires workers { share.workers + 1 < 2 ^ 64 }
-        requires filled { share.filled ≡ true → is_filled self.old.giver ≡ true }
-        requires tickets { length self.old.giver.pushed < 2 ^ 60 }
-        requires full { full_of self.old < 2 ^ 62 }
-        requires rises { start ≤ end }
-        requires later { start < end → number ≤ start }
-        requires few { end ≤ start + 64 }
-        requires near { start < end → end ≤ number + 65 }
-        ensures { Pushes (is_offered share.filled share.workers number)
-            (jobs_of (arc_value prev.now) (arc_value last.now)
-            (tasks_for guessing.now number start (end - start))) self.old self.new }
-    {
-        for target in start..end {
-            if share.offers(target) {
-                self.push_kinds(prev, last, guessing, (target - number) as u32);
+        for job in jobs {
+            let (kind, ahead) = *job;
+            if share.offers(number + u64::from(ahead)) {
+                self.push(prev, last, ahead, kind);
             } else {
-                self.leave(guessing);
+                self.left += 1;
             }
-        }
-    }
-
-    // Pushes the jobs of one target.
-    fn push_kinds(
-        &mut self,
-        prev: &Arc<Snapshot>,
-        last: &Arc<Snapshot>,
-        guessing: &Guessing,
-        ahead: u32,
-    )
-        requires tickets { length self.old.giver.pushed + 1 < 2 ^ 61 }
-        requires full { full_of self.old + 1 < 2 ^ 63 }
-        ensures { Pushes (λ due. true) (jobs_of (arc_value prev.now) (arc_value last.now)
-            (map (λ (kind : kind_of). (kind, ahead)) (kinds_of guessing.now))) self.old self.new }
-    {
-        self.push_where(guessing.last, prev, last, ahead, Kind::Last);
-        self.push_where(guessing.stride, prev, last, ahead, Kind::Stride);
-    }
-
-    // Pushes a job, where its kind is on.
-    fn push_where(
-        &mut self,
-        on: bool,
-        prev: &Arc<Snapshot>,
-        last: &Arc<Snapshot>,
-        ahead: u32,
-        kind: Kind,
-    )
-        requires tickets { length self.old.giver.pushed < 2 ^ 61 }
-        requires full { full_of self.old < 2 ^ 63 }
-        ensures { Pushes (λ due. true) (jobs_of (arc_value prev.now) (arc_value last.now)
-            (if on then (kind, ahead) ∷ [] else [])) self.old self.new }
-    {
-        if on {
-            self.push(prev, last, ahead, kind);
         }
     }
 
@@ -265,12 +187,4 @@ impl<'a, R: Wait> Pusher<'a, R> {
             Err(Full) => self.lacked += 1,
         }
     }
-}
-
-// How many kinds of guesses are on.
-fn kinds(guessing: &Guessing) -> u64
-    ensures number { result ≡ length (kinds_of guessing.now) }
-    ensures few { result ≤ 2 }
-{
-    u64::from(guessing.last) + u64::from(guessing.stride)
 }

@@ -1,4 +1,4 @@
-ghost use Rattle.std.specs.Prelude.{◌≡◌};
+ghost use Rattle.std.specs.Prelude.{◌≡◌, ◌≤◌};
 
 use crate::Live;
 use crate::budget::Budget;
@@ -6,9 +6,10 @@ use asc_find::{Finder, Guessing, Nothing};
 use asc_guess::Kind;
 use asc_jobs::{Jobs, Taker};
 use asc_outside::{Gate, Point};
-use asc_run::Helper;
+use asc_run::{Helper, LastVisits};
 use asc_shape::{Shape, State};
 use crossbeam_utils::sync::Parker;
+use std::alloc::Global;
 use std::process::Abort;
 use std::slice::Iter;
 use std::sync::Wait;
@@ -19,6 +20,14 @@ use std::test::Fail;
 #[derive(Drop)]
 struct Noting {
     visit: AtomicU64,
+}
+
+impl Noting {
+    fn new() -> Noting {
+        Noting {
+            visit: AtomicU64::new(0),
+        }
+    }
 }
 
 impl Gate for Noting {
@@ -89,6 +98,27 @@ fn guessing(on: bool) -> Guessing
         span: 100,
         ahead: 2,
     }
+}
+
+/// A helper whose queue holds 3 jobs, and who takes these. It wakes one worker, where there is one.
+fn live_of<'a, R: Wait>(
+    rt: &'a R,
+    alloc: Global,
+    gate: &'a Noting,
+    worker: Option<&Parker>,
+    guessing: Guessing,
+) -> Result<(Live<'a, Nothing, Noting, R>, Vec<Taker>), Fail>
+    requires least { 1 ≤ guessing.ahead }
+    requires most { guessing.ahead ≤ 64 }
+{
+    let (giver, takers) = Jobs::open(alloc, 3, 1)?;
+    let mut workers = Vec::new(alloc);
+    if let Some(parker) = worker {
+        workers.push(parker.unparker().clone()?)?;
+    }
+    let visits = LastVisits::new(alloc, guessing)?;
+    let live = Live::new(alloc, rt, gate, Nothing::new(), giver, workers, visits);
+    Ok((live, takers))
 }
 
 /// Takes the jobs of so many rows, and answers how many there were. They are those of the rows, if all jobs were pushed
@@ -162,23 +192,10 @@ fn visits(rt: HostRuntime) -> Result<(), Fail> {
     let alloc = rt.alloc();
     let shape = Shape::new(65_536, 65_536).expect(&rt, "a good shape");
     let mut state = State::new(alloc, shape)?;
-    let (giver, mut takers) = Jobs::open(alloc, 3, 1)?;
-    let mut taker = takers.pop().expect(&rt, "a taker");
     let parker = Parker::new(alloc)?;
-    let mut workers = Vec::new(alloc);
-    workers.push(parker.unparker().clone()?)?;
-    let gate = Noting {
-        visit: AtomicU64::new(0),
-    };
-    let mut live = Live::new(
-        alloc,
-        &rt,
-        &gate,
-        Nothing::new(),
-        giver,
-        workers,
-        guessing(true),
-    );
+    let gate = Noting::new();
+    let (mut live, mut takers) = live_of(&rt, alloc, &gate, Some(&parker), guessing(true))?;
+    let mut taker = takers.pop().expect(&rt, "a taker");
     is_sent(&live);
     let mut rows = JOBS.iter();
     let popped = go(&rt, &mut live, &gate, &mut state, &mut taker, &mut rows);
@@ -227,23 +244,10 @@ fn pages_are_charged(rt: HostRuntime) -> Result<(), Fail> {
     let alloc = rt.alloc();
     let shape = Shape::new(65_536, 98_304).expect(&rt, "a good shape");
     let mut state = State::new(alloc, shape)?;
-    let (giver, mut takers) = Jobs::open(alloc, 3, 1)?;
-    let mut taker = takers.pop().expect(&rt, "a taker");
     let parker = Parker::new(alloc)?;
-    let mut workers = Vec::new(alloc);
-    workers.push(parker.unparker().clone()?)?;
-    let gate = Noting {
-        visit: AtomicU64::new(0),
-    };
-    let mut live = Live::new(
-        alloc,
-        &rt,
-        &gate,
-        Nothing::new(),
-        giver,
-        workers,
-        guessing(true),
-    );
+    let gate = Noting::new();
+    let (mut live, mut takers) = live_of(&rt, alloc, &gate, Some(&parker), guessing(true))?;
+    let mut taker = takers.pop().expect(&rt, "a taker");
     for &(number, left, made) in &WRITTEN {
         let _job = taker.pop(&rt);
         write(&mut state);
@@ -283,19 +287,14 @@ fn states_are_left(rt: HostRuntime) -> Result<(), Fail> {
     let alloc = rt.alloc();
     let shape = Shape::new(65_536, 65_536).expect(&rt, "a good shape");
     let mut state = State::new(alloc, shape)?;
-    let (giver, mut takers) = Jobs::open(alloc, 3, 1)?;
-    let mut taker = takers.pop().expect(&rt, "a taker");
     let parker = Parker::new(alloc)?;
-    let mut workers = Vec::new(alloc);
-    workers.push(parker.unparker().clone()?)?;
-    let gate = Noting {
-        visit: AtomicU64::new(0),
-    };
+    let gate = Noting::new();
     let last = Guessing {
         stride: false,
         ..guessing(true)
     };
-    let mut live = Live::new(alloc, &rt, &gate, Nothing::new(), giver, workers, last);
+    let (mut live, mut takers) = live_of(&rt, alloc, &gate, Some(&parker), last)?;
+    let mut taker = takers.pop().expect(&rt, "a taker");
     let mut rows = LEFT_JOBS.iter();
     for &(number, taken) in &LEFT {
         let _ = pop(&rt, &mut taker, &mut rows, taken, live.refused() == 0);
@@ -312,15 +311,9 @@ fn jobs_of_an_unpaid_visit(rt: HostRuntime) -> Result<(), Fail> {
     let alloc = rt.alloc();
     let shape = Shape::new(65_536, 1 << 20).expect(&rt, "a good shape");
     let mut state = State::new(alloc, shape)?;
-    let (giver, _takers) = Jobs::open(alloc, 3, 1)?;
     let parker = Parker::new(alloc)?;
-    let mut workers = Vec::new(alloc);
-    workers.push(parker.unparker().clone()?)?;
-    let gate = Noting {
-        visit: AtomicU64::new(0),
-    };
-    let both = guessing(true);
-    let mut live = Live::new(alloc, &rt, &gate, Nothing::new(), giver, workers, both);
+    let gate = Noting::new();
+    let (mut live, _takers) = live_of(&rt, alloc, &gate, Some(&parker), guessing(true))?;
     write(&mut state);
     for number in 1..3 {
         visit(&rt, &mut live, &gate, &mut state, number, 500_000);
@@ -338,20 +331,8 @@ fn no_kinds(rt: HostRuntime) -> Result<(), Fail> {
     let alloc = rt.alloc();
     let shape = Shape::new(65_536, 65_536).expect(&rt, "a good shape");
     let mut state = State::new(alloc, shape)?;
-    let (giver, _takers) = Jobs::open(alloc, 3, 1)?;
-    let gate = Noting {
-        visit: AtomicU64::new(0),
-    };
-    let workers = Vec::new(alloc);
-    let mut live = Live::new(
-        alloc,
-        &rt,
-        &gate,
-        Nothing::new(),
-        giver,
-        workers,
-        guessing(false),
-    );
+    let gate = Noting::new();
+    let (mut live, _takers) = live_of(&rt, alloc, &gate, None, guessing(false))?;
     for number in 1..70 {
         visit(&rt, &mut live, &gate, &mut state, number, 500_000 - number);
     }

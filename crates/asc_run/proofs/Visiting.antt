@@ -21,6 +21,7 @@ use Rattle.asc_find.specs.Serial.{Serial}
 use Rattle.asc_shard.specs.Content.{add}
 use Rattle.asc_shard.specs.Shard.{run_capacity}
 use Rattle.asc_run.specs.Serial.{Task, tasks_of, bounds_at, add_traced, add_trace, add_guess, after_tasks, visited, made_at}
+use Rattle.asc_run.specs.LastVisits.{tasks_after, issued_after}
 use Rattle.asc_run.specs.SerialHelper.{SerialHelper, told_machine, jobs_at, issued_at, planned, refused_visit, passed_over, IsPlanned, settled}
 use Rattle.asc_run.specs.SerialInside.{MakesJob}
 
@@ -141,7 +142,7 @@ abbrev worked : (number : ℕ) → Option State → State → List Entry → Ser
 worked number last now content m = record m {
   prev = last;
   last = Some now;
-  issued = elim last [ Some s ↦ number + m.guessing.ahead | None ↦ m.issued ];
+  issued = issued_after m.guessing m.issued number last;
   content = content;
 }
 
@@ -158,11 +159,8 @@ visited-is : (number : ℕ) (now : State) (m : Serial) → worked number m.last 
 unfolding visited
 visited-is number now m = after_tasks-is number m.last now m
 
-abbrev tasks_at : (number : ℕ) → Serial → Option State → List Task
-tasks_at number m last = elim last [ Some s ↦ tasks_of m.guessing m.issued number | None ↦ [] ]
-
 jobs-made : (number : ℕ) (last : Option State) (m : Serial)
-    → length {A = Task} (elim last [ Some s ↦ tasks_of m.guessing m.issued number | None ↦ [] ]) ≡ elim last [ Some s ↦ length (tasks_of m.guessing m.issued number) | None ↦ 0 ]
+    → length (tasks_after m.guessing m.issued number last) ≡ elim last [ Some s ↦ length (tasks_of m.guessing m.issued number) | None ↦ 0 ]
 jobs-made number None m = refl
 jobs-made number (Some s) m = refl
 
@@ -170,12 +168,12 @@ jobs-made number (Some s) m = refl
 content-done : (number : ℕ) (now : State) (old done : SerialHelper) (i : ℕ) (last : Option State) → old.machine.last ≡ last → Works (planned number now old) done i → i ≡ length (jobs_at number old.machine) → done.refused ≡ old.refused → old.refused < last_count
     → done.machine.content ≡ content_at number last now old.machine
 content-done number now old done i None e w n same below =
-    let none : length (jobs_at number old.machine) ≡ 0 = ap (λ (z : Option State). length {A = Task} (elim z [ Some s ↦ tasks_of old.machine.guessing old.machine.issued number | None ↦ [] ])) e in
+    let none : length (jobs_at number old.machine) ≡ 0 = ap (λ (z : Option State). length (tasks_after old.machine.guessing old.machine.issued number z)) e in
     ap (λ (h : SerialHelper). h.machine.content) (w.none (n ∙ none))
 content-done number now old done i (Some last) e w n same below =
     let f = add_guess old.machine.guessing last now in
     let all : take i (jobs_at number old.machine) ≡ jobs_at number old.machine = take_all i (jobs_at number old.machine) (omega (arith, n)) in
-    let jobs : jobs_at number old.machine ≡ tasks_of old.machine.guessing old.machine.issued number = ap (tasks_at number old.machine) e in
+    let jobs : jobs_at number old.machine ≡ tasks_of old.machine.guessing old.machine.issued number = ap (tasks_after old.machine.guessing old.machine.issued number) e in
     w.content last now e refl same below ∙ ap (fold f old.machine.content) (all ∙ jobs)
 
 visit-done : (number : ℕ) (now : State) (old done : SerialHelper) (i : ℕ) → Works (planned number now old) done i → i ≡ length (jobs_at number old.machine) → done.refused ≡ old.refused → old.refused < last_count

@@ -2,6 +2,7 @@ pub mod Execution
 pub mod Turn
 pub mod Visits
 pub mod Serial
+pub mod LastVisits
 pub mod Seen
 pub mod Helped
 pub mod Way

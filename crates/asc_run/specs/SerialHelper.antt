@@ -13,7 +13,8 @@ use Rattle.asc_shard.specs.Content.{add}
 use Rattle.asc_run.specs.Walk.{tally}
 use Rattle.asc_run.specs.SerialRun.{serial_of}
 use Rattle.asc_shard.specs.Shard.{run_capacity}
-use Rattle.asc_run.specs.Serial.{Task, tasks_of}
+use Rattle.asc_run.specs.Serial.{Task}
+use Rattle.asc_run.specs.LastVisits.{tasks_after, issued_after}
 
 -- the machine, the guesses that were planned at the last visit, and what was counted
 pub record SerialHelper : Type 0 where
@@ -38,11 +39,11 @@ told_machine h = if nat_lt h.refused (2 ^ 64 - 1) then Some h.machine else None
 
 -- the guesses of a visit, where there was one before
 abbrev pub jobs_at : (number : ℕ) → Serial → List Task
-jobs_at number m = elim m.last [ Some last ↦ tasks_of m.guessing m.issued number | None ↦ [] ]
+jobs_at number m = tasks_after m.guessing m.issued number m.last
 
 -- the last visit that is guessed once those guesses are made
 abbrev pub issued_at : (number : ℕ) → Serial → ℕ
-issued_at number m = elim m.last [ Some last ↦ number + m.guessing.ahead | None ↦ m.issued ]
+issued_at number m = issued_after m.guessing m.issued number m.last
 
 -- a visit was planned: the state is kept, and its guesses are to be made
 abbrev pub planned : (number : ℕ) → State → SerialHelper → SerialHelper

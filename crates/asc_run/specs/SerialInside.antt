@@ -1,5 +1,5 @@
 -- Words of private contracts: what a serial helper holds.
-use Rattle.std.specs.Prelude.{◌≡◌, ◌≢◌, ℕ, ◌+◌, ◌≤◌, ◌<◌, ◌^◌, ◌-◌, List, map, slice_index_or, vec_capacity, vec_len, Option, Some, None}
+use Rattle.std.specs.Prelude.{◌≡◌, ◌≢◌, ℕ, ◌≤◌, ◌-◌, List, map, slice_index_or, Some, IfSome}
 use Rattle.std.specs.List.{flat_map, range_with_len}
 use Rattle.asc_model.specs.Shape.{Shape}
 use Rattle.asc_model.specs.State.{State}
@@ -10,30 +10,11 @@ use Rattle.asc_traj.specs.declared.made.Made.{Made}
 use Rattle.asc_traj.specs.declared.made.Made.TheVariants.{Refused}
 use Rattle.asc_traj.specs.Made.{IsMade}
 use Rattle.asc_traj.specs.Trace.{trace_cap}
-use Rattle.asc_run.specs.declared.seen.Seen.{Seen}
-use Rattle.asc_run.specs.declared.seen.Seen.TheVariants as seen
 use Rattle.asc_run.specs.declared.serial.Serial.TheInside.{Inside}
 use Rattle.asc_run.specs.Walk.{tally}
 use Rattle.asc_shard.specs.Shard.{run_capacity}
 use Rattle.asc_run.specs.Serial.{Task, kinds_of, bounds_at}
 use Rattle.asc_run.specs.SerialHelper.{SerialHelper}
-
--- the state of the last visit, and that of the one before
-abbrev pub last_of : Seen → Option State
-last_of seen.Nothing = None
-last_of (seen.One last) = Some last.value
-last_of (seen.Two prev last) = Some last.value
-
-abbrev pub prev_of : Seen → Option State
-prev_of seen.Nothing = None
-prev_of (seen.One last) = None
-prev_of (seen.Two prev last) = Some prev.value
-
--- what was seen is of this shape
-abbrev pub AreOfShape : Shape → Seen → Type 0
-AreOfShape shape seen.Nothing = Unit {0}
-AreOfShape shape (seen.One last) = last.value.shape ≡ shape
-AreOfShape shape (seen.Two prev last) = (prev.value.shape ≡ shape) × (last.value.shape ≡ shape)
 
 -- the guesses of these targets
 abbrev pub tasks_for : Guessing → (number start n : ℕ) → List Task
@@ -44,13 +25,13 @@ abbrev pub helper_of : Inside → SerialHelper
 helper_of s = record {
   machine = record {
     shape = s.shape;
-    guessing = s.guessing;
-    prev = prev_of s.seen;
-    last = last_of s.seen;
-    issued = s.issued;
+    guessing = s.visits.guessing;
+    prev = s.visits.prev;
+    last = s.visits.last;
+    issued = s.visits.issued;
     content = s.shard.held;
   };
-  jobs = s.jobs.items;
+  jobs = s.visits.jobs;
   tally = tally s.asked s.given s.hits;
   made = s.made;
   refused = s.refused;
@@ -58,17 +39,14 @@ helper_of s = record {
 
 -- what holds of them
 pub record IsHelper (s : Inside) : Type 0 where
-  pub seen : AreOfShape s.shape s.seen
+  pub prev : IfSome s.visits.prev (λ prev. prev.shape ≡ s.shape)
+  pub last : IfSome s.visits.last (λ last. last.shape ≡ s.shape)
   pub tracer_shape : s.tracer.shape ≡ s.shape
   pub state_shape : s.tracer.state.shape ≡ s.shape
   pub cap : s.tracer.cap ≡ trace_cap
   pub capacity : s.shard.capacity ≡ run_capacity
-  pub laps : 1 ≤ s.guessing.laps
-  pub span : 1 ≤ s.guessing.span
-  pub ahead : s.guessing.ahead ≤ 64
-  pub issued : s.issued ≤ 2 ^ 41
-  pub room : 128 ≤ vec_capacity s.jobs
-  pub few : vec_len s.jobs ≤ 128
+  pub laps : 1 ≤ s.visits.guessing.laps
+  pub span : 1 ≤ s.visits.guessing.span
   pub hits : s.hits ≤ s.asked
 
 -- this became of a job of a helper, unless memory was wanting

@@ -2,12 +2,12 @@
 #![tactic(auto)]
 
 mod helper;
+mod last_visits;
 mod laws;
 mod made;
 mod process;
 mod profile;
 mod recognised;
-mod seen;
 mod serial;
 #[cfg(test)]
 mod serial_tests;
@@ -17,10 +17,11 @@ mod visited;
 mod walk;
 
 pub use helper::{Bare, Helper};
+pub use last_visits::{LastVisits, MOST_AHEAD, MOST_JOBS};
 pub use laws::{
     progress_is_plain, replies_determine_visits, rows_are_computed, serial_runs_are_one,
 };
 pub use process::Process;
 pub use recognised::Recognised;
-pub use serial::{MOST_AHEAD, MOST_JOBS, Serial};
+pub use serial::Serial;
 pub use walk::{Counts, Ended, MOST_STEPS, Settings, Walk};

@@ -1,18 +1,19 @@
-ghost use Rattle.std.specs.Prelude.{◌≡◌, ◌+◌, ◌-◌, ◌*◌, ◌^◌, ◌<◌, ◌≤◌, [], ◌∷◌, length, slice_index_or, vec_capacity, vec_len, Some, None, IfOk, MatchOption};
+ghost use Rattle.std.specs.Prelude.{◌≡◌, ◌^◌, ◌<◌, ◌≤◌, [], ◌∷◌, length, slice_index_or, Some, None, IfOk, MatchOption};
 ghost use Rattle.asc_traj.specs.Jump.{IsJump};
 ghost use Rattle.asc_find.specs.Finder.{tally_after, Tells};
 ghost use Rattle.asc_find.specs.Serial.{Serial as machine, serial_reply};
 ghost use Rattle.asc_run.specs.Helped.{aid, Plans, VisitsMachine};
 ghost use Rattle.asc_shard.specs.Shard.{run_capacity};
 ghost use Rattle.asc_run.specs.SerialHelper.{IsPlanned, first_helper, plan_of, settled, told_machine};
-ghost use Rattle.asc_run.specs.SerialInside.{MakesJob, tasks_for};
+ghost use Rattle.asc_run.specs.SerialInside.{MakesJob};
+ghost use Rattle.asc_run.specs.declared.last_visits.TheConstants.{MOST_AHEAD, MOST_JOBS};
 
 use crate::Helper;
+use crate::last_visits::LastVisits;
 use crate::made::make;
-use crate::seen::Seen;
 use asc_depvec::Tracer;
 use asc_find::{Finder, Guessing};
-use asc_guess::{Kind, targets};
+use asc_guess::Kind;
 use asc_outside::Memory;
 use asc_shape::{Shape, Snapshot, State};
 use asc_shard::{RUN_CAPACITY, Shard};
@@ -20,12 +21,6 @@ use asc_traj::{Made, TRACE_CAP};
 use std::alloc::Global;
 use std::marker::Model;
 use std::sync::Arc;
-
-/// The greatest number of visits ahead that may be guessed.
-pub const MOST_AHEAD: u32 = 64;
-
-/// The greatest number of jobs of a visit: one of each kind for each visit ahead.
-pub const MOST_JOBS: usize = 128;
 
 /// The helper of a run without workers. At a visit it guesses the states of visits to come, traces them, and keeps the
 /// entries, by which it then finds jumps.
@@ -38,14 +33,9 @@ pub const MOST_JOBS: usize = 128;
 pub struct Serial {
     alloc: Global,
     shape: Shape,
-    guessing: Guessing,
     tracer: Tracer,
     shard: Shard,
-    seen: Seen,
-    // The last visit that was guessed.
-    issued: u64,
-    // The guesses of the last plan: each one's kind, and how many visits ahead it is.
-    jobs: Vec<(Kind, u32)>,
+    visits: LastVisits,
     asked: u64,
     given: u64,
     hits: u64,
@@ -76,16 +66,13 @@ impl Serial {
     {
         let tracer = Tracer::new(alloc, shape, TRACE_CAP)?;
         let shard = Shard::new(alloc, RUN_CAPACITY)?;
-        let jobs = Vec::with_capacity(alloc, MOST_JOBS)?;
+        let visits = LastVisits::new(alloc, guessing)?;
         Ok(Serial {
             alloc,
             shape,
-            guessing,
             tracer,
             shard,
-            seen: Seen::Nothing,
-            issued: 0,
-            jobs,
+            visits,
             asked: 0,
             given: 0,
             hits: 0,
@@ -112,26 +99,18 @@ impl Serial {
         ensures planned { IsPlanned number state.old self.old self.new }
         ensures stays { state.new ≡ state.old }
     {
-        self.jobs.clear();
+        self.visits.clear_jobs();
         if state.shape() != self.shape {
             return 0;
         }
-        let seen = std::mem::replace(&mut self.seen, Seen::Nothing);
-        match seen.and(self.alloc, state) {
-            Ok(seen) => self.seen = seen,
-            Err(_) => {
-                self.refused = self.refused.saturating_add(1);
-                return 0;
-            }
-        }
-        if self.seen.pair().is_none() {
+        if self.visits.keep(self.alloc, state).is_err() {
+            self.refused = self.refused.saturating_add(1);
             return 0;
         }
-        let due = targets(self.issued, number, self.guessing.ahead);
-        list_jobs(&mut self.jobs, &self.guessing, number, due.start, due.end);
-        self.issued = number + u64::from(self.guessing.ahead);
-        self.made += self.jobs.len() as u64;
-        self.jobs.len()
+        self.visits.plan(number);
+        let jobs = self.visits.jobs().len();
+        self.made += jobs as u64;
+        jobs
     }
 
     /// A job of the last plan: its kind, and how many visits after the last one it guesses.
@@ -139,7 +118,7 @@ impl Serial {
         requires { i < length self.now.jobs }
         ensures { result ≡ slice_index_or self.now.jobs i result }
     {
-        self.jobs[i]
+        self.visits.jobs()[i]
     }
 
     /// The states of the visit before the last one and of the last one, where there were two and their copies are kept.
@@ -148,7 +127,7 @@ impl Serial {
             (λ pair. (self.now.machine.prev ≡ Some pair.0.now.value)
             × (self.now.machine.last ≡ Some pair.1.now.value)) }
     {
-        self.seen.pair()
+        self.visits.pair()
     }
 
     /// Notes what became of the next job.
@@ -170,40 +149,19 @@ impl Serial {
         ensures stays { self.new ≡ self.old }
         ensures made { MakesJob self.old i result }
     {
-        let (kind, ahead) = self.jobs[i];
-        match self.seen.pair() {
+        let (kind, ahead) = self.job(i);
+        let guessing = self.visits.guessing();
+        match self.visits.pair() {
             Some((prev, last)) => make(
                 self.alloc,
                 &mut self.tracer,
                 prev,
                 last,
-                &self.guessing,
+                &guessing,
                 kind,
                 ahead,
             ),
             None => Made::Empty,
-        }
-    }
-}
-
-/// Lists the guesses of these targets, which are visits after this one, each once for each kind that is on.
-fn list_jobs(jobs: &mut Vec<(Kind, u32)>, guessing: &Guessing, number: u64, start: u64, end: u64)
-    requires none { jobs.old.items ≡ [] }
-    requires room { 2 * (end - start) ≤ vec_capacity jobs.old }
-    requires rises { start ≤ end }
-    requires later { start < end → number ≤ start }
-    requires near { start < end → end ≤ number + 2 ^ 32 }
-    ensures jobs { jobs.new.items ≡ tasks_for guessing.now number start (end - start) }
-    ensures few { vec_len jobs.new ≤ 2 * (end - start) }
-    ensures room { vec_capacity jobs.new ≡ vec_capacity jobs.old }
-{
-    for target in start..end {
-        let ahead = (target - number) as u32;
-        if guessing.last {
-            jobs.push_reserved((Kind::Last, ahead));
-        }
-        if guessing.stride {
-            jobs.push_reserved((Kind::Stride, ahead));
         }
     }
 }

@@ -1,6 +1,6 @@
 ghost use Rattle.std.specs.Prelude.{◌≤◌};
 
-use crate::serial::MOST_AHEAD;
+use crate::last_visits::MOST_AHEAD;
 use crate::tests::{COUNTING, run};
 use crate::{Counts, Ended, Helper, MOST_STEPS, Recognised, Serial, Settings};
 use asc_find::{Finder, Guessing};

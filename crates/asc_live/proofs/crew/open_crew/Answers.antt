@@ -1,5 +1,6 @@
 use Rattle.std.proofs.Common.{◌≡◌, sym, ap, subst, ◌∙◌, ◌+◌, All, length}
 use Rattle.asc_cache.specs.Cache.{ShardReaders}
+use Rattle.asc_run.specs.LastVisits.{LastVisits, no_visits}
 use Rattle.asc_live.proofs.Crews.{own_readers_of}
 use Rattle.asc_work.proofs.Posts.{all_at}
 use Rattle.asc_live.specs.Crew.{HasBoundsOf, IsWriterOf}
@@ -12,9 +13,11 @@ returns-clause-ready g c =
     let writers = c.in_ok-workers.ensures.number ∙ ap length c.split-writers.ensures.writers ∙ cache.writer_count in
     let readers = c.split-writers.result.1.readers in
     let posts = c.in_ok-team.team.posts in let manned = c.in_ok-team.ensures.workers in
-    let wakers = c.in_ok-team.ensures.wakers ∙ writers in record {
+    let wakers = c.in_ok-team.ensures.wakers ∙ writers in
+    let fresh : c.in_ok-visits.visits ≡ no_visits c.args.guessing = c.in_ok-visits.ensures in
+    let guessing : c.args.guessing ≡ c.in_ok-visits.visits.guessing = sym (ap (λ (v : LastVisits). v.guessing) fresh) in record {
       workers = c.in_ok-team.ensures.posts ∙ writers;
-      bounds = all_at (HasBoundsOf c.args.shape c.args.guessing) posts (subst (All (HasBoundsOf c.args.shape c.args.guessing)) (sym manned) c.in_ok-workers.ensures.bounds);
+      bounds = subst (λ g. All (λ p. HasBoundsOf c.args.shape g p.worker) posts) guessing (all_at (HasBoundsOf c.args.shape c.args.guessing) posts (subst (All (HasBoundsOf c.args.shape c.args.guessing)) (sym manned) c.in_ok-workers.ensures.bounds));
       queue = c.in_ok-team.ensures.queue;
       capacity = opened.bound;
       parts = opened.parts ∙ ap (λ n. n + 1) (sym (c.in_ok-team.ensures.posts ∙ writers));
@@ -22,6 +25,7 @@ returns-clause-ready g c =
       shards = ap (λ (r : ShardReaders). length r.readers) c.split-writers.ensures.readers ∙ cache.reader_count;
       writers = all_at (λ w. IsWriterOf readers w.writer) posts (subst (All (λ w. IsWriterOf readers w.writer)) (sym manned)
           (c.in_ok-workers.ensures.writers readers (own_readers_of c.args.crew.workers c.split-writers.result.0.items c.split-writers.result.1 c.split-writers.ensures.writers c.split-writers.ensures.readers cache)));
+      none_visited = fresh ∙ ap no_visits guessing;
       none_asked = ap (λ (r : ShardReaders). r.tally) c.split-writers.ensures.readers ∙ c.in_ok-open.ensures.tally;
       running = halts.running;
       flags = all_at (λ w. w.halt.word ≡ c.in_ok-halter.halter.word) posts (subst (All (λ w. w.halt.word ≡ c.in_ok-halter.halter.word)) (sym manned)

@@ -2,8 +2,8 @@
 use Rattle.std.proofs.Common.{◌≡◌, ◌≤◌, ◌+◌, ◌-◌, ◌*◌, ◌∷◌, [], ◌++◌, ap, ◌∙◌, sym, arith, vec_len, vec_capacity}
 use Rattle.asc_guess.specs.declared.kind.Kind.TheVariants.{Last, Stride}
 use Rattle.asc_run.proofs.Jobs.{jobs-more, one_if, pushed-on, pushed-off}
-use Rattle.asc_run.proofs.serial.list_jobs.Goals as goal
-use Rattle.asc_run.proofs.serial.list_jobs.Goals.{then-guessing, else-guessing, then-guessing-2, else-guessing-2}
+use Rattle.asc_run.proofs.last_visits.list_jobs.Goals as goal
+use Rattle.asc_run.proofs.last_visits.list_jobs.Goals.{then-guessing, else-guessing, then-guessing-2, else-guessing-2}
 
 pub loop-target-preserved : goal.loop-target-preserved
 loop-target-preserved c = record {

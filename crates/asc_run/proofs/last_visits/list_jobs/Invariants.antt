@@ -1,6 +1,6 @@
 use Rattle.std.proofs.Common.{◌≡◌, ◌≤◌, ◌-◌, ◌*◌, vec_len, vec_capacity}
 use Rattle.asc_run.specs.SerialInside.{tasks_for}
-use Rattle.asc_run.proofs.serial.list_jobs.Given as goal
+use Rattle.asc_run.proofs.last_visits.list_jobs.Given as goal
 
 abbrev pub invariant-loop-target : goal.invariant-loop-target
 invariant-loop-target l = record {
