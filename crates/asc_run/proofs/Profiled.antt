@@ -10,7 +10,7 @@ use Rattle.asc_model.specs.Plain.{plain}
 use Rattle.asc_calls.specs.GuestCall.{Device}
 use Rattle.asc_calls.specs.World.{CallState, Faults, World, world}
 use Rattle.asc_outside.specs.Outside.{Given}
-use Rattle.asc_guess.specs.Choice.{CountsRise, chosen_address}
+use Rattle.asc_guess.specs.Choice.{chosen_address}
 use Rattle.asc_run.specs.declared.recognised.Recognised.{Recognised}
 use Rattle.asc_run.specs.declared.recognised.Recognised.TheVariants as recognised
 use Rattle.asc_run.specs.declared.walk.Ended.{Ended}

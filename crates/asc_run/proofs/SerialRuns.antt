@@ -1,16 +1,14 @@
 -- The visits of a run without workers are one list: by the oldest visit first.
-use Rattle.std.proofs.Common.{◌≡◌, ◌≤◌, ◌<◌, ◌+◌, ◌-◌, ℕ, zero, suc, Bool, true, false, List, [], ◌∷◌, length, ap, ◌∙◌, sym, subst, refl, Option, Some, None, arith, inl, inr}
+use Rattle.std.proofs.Common.{◌≡◌, ◌≤◌, ◌<◌, ◌+◌, ◌-◌, ℕ, Bool, true, List, [], ◌∷◌, length, ap, ◌∙◌, sym, subst, refl, Option, Some, None, arith, inl, inr}
 use Rattle.std.proofs.lemmas.Bool.{cases_lt, false≢true}
-use Rattle.asc_model.specs.Shape.{Shape}
-use Rattle.asc_find.specs.declared.guessing.Guessing.{Guessing}
 use Rattle.asc_find.specs.Finder.{Tally}
 use Rattle.asc_find.specs.Serial.{Serial, serial_reply}
-use Rattle.asc_run.specs.Execution.{Progress, On, Off, run_of}
-use Rattle.asc_run.specs.Visits.{Course, Visit, landing, Fits, HasNoMark, AreVisits, tally_of}
+use Rattle.asc_run.specs.Execution.{Progress, On, Off}
+use Rattle.asc_run.specs.Visits.{Course, Visit, Fits, AreVisits, tally_of}
 use Rattle.asc_run.specs.Walk.{tally}
 use Rattle.asc_run.specs.Serial.{made_at}
 use Rattle.asc_run.specs.Helped.{SerialAt, IsSerial}
-use Rattle.asc_run.specs.SerialRun.{Numbers, IsSerialRun, serial_of}
+use Rattle.asc_run.specs.SerialRun.{Numbers, serial_of}
 use Rattle.asc_run.specs.Laws.{SerialVisitsAreOne, SerialNumbersAreOne}
 use Rattle.asc_run.proofs.Marks.{floor, floor_of, same_at, same_visit}
 

@@ -1,28 +1,25 @@
 -- A visit: its plan, and what its jobs add one after another.
-use Rattle.std.proofs.Common.{◌≡◌, ◌≢◌, ◌⊎◌, inl, inr, ◌<◌, ◌≤◌, ◌+◌, ◌-◌, ◌*◌, ◌^◌, ℕ, zero, suc, Bool, true, false, List, [], ◌∷◌, ◌++◌, length, get_or, take, Option, Some, None, refl, sym, ap, ◌∙◌, subst, arith}
+use Rattle.std.proofs.Common.{◌≡◌, ◌≢◌, inl, inr, ◌<◌, ◌≤◌, ◌+◌, ◌-◌, ◌^◌, ℕ, zero, suc, Bool, true, false, List, length, get_or, take, Option, Some, None, refl, sym, ap, ◌∙◌, subst, arith}
 use Rattle.std.specs.Prelude.{nat_lt, fold, if◌then◌else◌}
 use Rattle.std.specs.Arc.{arc_value}
-use Rattle.std.proofs.lemmas.Bool.{cases_lt, ltb-true, lt-ltb}
+use Rattle.std.proofs.lemmas.Bool.{ltb-true, lt-ltb}
 use Rattle.std.proofs.lemmas.List.{take_more, take_all, get_or_default}
 use Rattle.std.proofs.lemmas.List.Sums.{fold_push}
 use Rattle.asc_outside.specs.Outside.{one_more}
 use Rattle.asc_model.specs.State.{State}
 use Rattle.asc_model.specs.Entry.{Entry, entry_of}
 use Rattle.asc_model.specs.Reach.{Bounds, reach_of}
-use Rattle.asc_guess.specs.declared.kind.Kind.{Kind}
 use Rattle.asc_guess.specs.declared.kind.Kind.TheVariants.{Last}
 use Rattle.asc_guess.specs.Guess.{guess_of}
-use Rattle.asc_find.specs.declared.guessing.Guessing.{Guessing}
 use Rattle.asc_traj.specs.declared.made.Made.{Made}
 use Rattle.asc_traj.specs.declared.made.Made.TheVariants.{One, Empty, Stopped, Refused}
 use Rattle.asc_traj.specs.Made.{IsMade}
-use Rattle.asc_find.specs.Finder.{Tally}
 use Rattle.asc_find.specs.Serial.{Serial}
 use Rattle.asc_shard.specs.Content.{add}
 use Rattle.asc_shard.specs.Shard.{run_capacity}
 use Rattle.asc_run.specs.Serial.{Task, tasks_of, bounds_at, add_traced, add_trace, add_guess, after_tasks, visited, made_at}
 use Rattle.asc_run.specs.LastVisits.{tasks_after, issued_after}
-use Rattle.asc_run.specs.SerialHelper.{SerialHelper, told_machine, jobs_at, issued_at, planned, refused_visit, passed_over, IsPlanned, settled}
+use Rattle.asc_run.specs.SerialHelper.{SerialHelper, told_machine, jobs_at, planned, IsPlanned, settled}
 use Rattle.asc_run.specs.SerialInside.{MakesJob}
 
 -- ---- one job

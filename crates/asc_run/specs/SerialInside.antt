@@ -1,7 +1,6 @@
 -- Words of private contracts: what a serial helper holds.
 use Rattle.std.specs.Prelude.{◌≡◌, ◌≢◌, ℕ, ◌≤◌, ◌-◌, List, map, slice_index_or, Some, IfSome}
 use Rattle.std.specs.List.{flat_map, range_with_len}
-use Rattle.asc_model.specs.Shape.{Shape}
 use Rattle.asc_model.specs.State.{State}
 use Rattle.asc_guess.specs.declared.kind.Kind.{Kind}
 use Rattle.asc_guess.specs.Guess.{guess_of}

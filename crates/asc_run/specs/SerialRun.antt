@@ -4,7 +4,7 @@ use Rattle.asc_model.specs.Shape.{Shape}
 use Rattle.asc_model.specs.Entry.{Entry}
 use Rattle.asc_find.specs.declared.guessing.Guessing.{Guessing}
 use Rattle.asc_find.specs.Serial.{Serial}
-use Rattle.asc_run.specs.Execution.{Run, run_of}
+use Rattle.asc_run.specs.Execution.{run_of}
 use Rattle.asc_run.specs.Visits.{Course, Visit, AreVisits, tally_of}
 use Rattle.asc_run.specs.Helped.{IsSerial}
 use Rattle.asc_run.specs.Walk.{tally}

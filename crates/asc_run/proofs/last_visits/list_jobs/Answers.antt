@@ -1,5 +1,5 @@
 -- One target more is one job more for each kind that is on.
-use Rattle.std.proofs.Common.{◌≡◌, ◌≤◌, ◌+◌, ◌-◌, ◌*◌, ◌∷◌, [], ◌++◌, ap, ◌∙◌, sym, arith, vec_len, vec_capacity}
+use Rattle.std.proofs.Common.{◌≡◌, ◌≤◌, ◌+◌, ◌-◌, ◌++◌, ap, ◌∙◌, arith, vec_len, vec_capacity}
 use Rattle.asc_guess.specs.declared.kind.Kind.TheVariants.{Last, Stride}
 use Rattle.asc_run.proofs.Jobs.{jobs-more, one_if, pushed-on, pushed-off}
 use Rattle.asc_run.proofs.last_visits.list_jobs.Goals as goal

@@ -1,5 +1,5 @@
 -- There are at most two jobs for each visit ahead.
-use Rattle.std.proofs.Common.{◌≤◌, ◌+◌, ◌-◌, ◌*◌, ap, arith}
+use Rattle.std.proofs.Common.{ap, arith}
 use Rattle.asc_run.specs.LastVisits.{LastVisits}
 use Rattle.asc_run.proofs.Jobs.{due-few, due-near}
 use Rattle.asc_run.proofs.last_visits.LastVisits.list.Goals as goal

@@ -1,5 +1,5 @@
 -- Each job adds what it made to what the jobs before it left, and all of them make the machine's visit.
-use Rattle.std.proofs.Common.{◌≡◌, ◌<◌, ◌≤◌, ◌+◌, ap, ◌∙◌, sym, subst, arith, length}
+use Rattle.std.proofs.Common.{◌<◌, arith, length}
 use Rattle.asc_run.proofs.Visiting.{works-more, visit-is}
 use Rattle.asc_run.proofs.serial.SerialHelper.visit.Goals as goal
 
