@@ -14,7 +14,7 @@ use std::marker::Model;
 use std::sync::{Arc, Wait};
 
 /// As many jobs are pushed at most, but for those of one visit. No run reaches it.
-const MOST_JOBS: u64 = 1 << 60;
+const MOST_PUSHED: u64 = 1 << 60;
 
 /// Pushes jobs, and counts those that were not pushed.
 #[derive(Drop)]
@@ -104,7 +104,7 @@ impl<'a, R> Pusher<'a, R> {
         0 < pushed && self.giver.capacity() as u64 <= pushed
     }
 
-    /// Counts these jobs as left to the walk. Once `MOST_JOBS` were pushed it counts none.
+    /// Counts these jobs as left to the walk. Once `MOST_PUSHED` were pushed it counts none.
     pub(crate) fn leave(&mut self, jobs: &[(Kind, u32)])
         requires full { full_of self.old < 2 ^ 62 }
         requires few { length jobs.now ≤ 128 }
@@ -113,7 +113,7 @@ impl<'a, R> Pusher<'a, R> {
               + length (if nat_lt (length self.old.giver.pushed) (2 ^ 60) then jobs_of prev last jobs.now else []);
         } }
     {
-        if self.pushed() < MOST_JOBS {
+        if self.pushed() < MOST_PUSHED {
             self.left += jobs.len() as u64;
         }
     }
@@ -136,7 +136,7 @@ impl<'a, R> Pusher<'a, R> {
 
 impl<'a, R: Wait> Pusher<'a, R> {
     /// Pushes those of these jobs that are offered, in their order, by the states of the last two visits. The others it
-    /// counts as left to the walk. Once `MOST_JOBS` were pushed it does neither.
+    /// counts as left to the walk. Once `MOST_PUSHED` were pushed it does neither.
     pub(crate) fn offer_visit(
         &mut self,
         share: Share,
@@ -154,7 +154,7 @@ impl<'a, R: Wait> Pusher<'a, R> {
             (if nat_lt (length self.old.giver.pushed) (2 ^ 60)
             then jobs_of (arc_value prev.now) (arc_value last.now) jobs.now else []) self.old self.new }
     {
-        if MOST_JOBS <= self.pushed() {
+        if MOST_PUSHED <= self.pushed() {
             return;
         }
         for job in jobs {

@@ -103,7 +103,8 @@ impl LastVisits {
         self.last = None;
     }
 
-    /// Gives up the state of the visit before. The guesses of a visit, of which none is listed, count as made.
+    /// Gives up the state of the visit before. The guesses of a visit count as made, and none of them is listed: the jobs
+    /// of an earlier one stay.
     pub fn skip(&mut self, number: u64)
         requires { number ≤ 2 ^ 40 }
         ensures { self.new ≡ skipped number self.old }
@@ -153,7 +154,7 @@ impl LastVisits {
     }
 
     /// Lists the jobs of a visit, which then count as made: of the targets in rising order, and of each kind that is on,
-    /// `Last` before `Stride`. It does so where no two states are kept too.
+    /// `Last` before `Stride`. It does so whether two states are kept or not.
     pub fn list(&mut self, number: u64)
         requires { number ≤ 2 ^ 40 }
         ensures { self.new ≡ listed number self.old }

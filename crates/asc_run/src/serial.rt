@@ -89,8 +89,8 @@ impl Serial {
     }
 
     /// Plans the guesses of a visit, which is the walk's `number`th, and answers how many jobs they are. A copy of the
-    /// state is kept, which costs what changed since the last one. Where memory is wanting, both copies that are kept are given up.
-    /// At a state of another shape there is no job, and nothing is planned.
+    /// state is kept, which costs what changed since the last one. Where memory is wanting, both copies that are kept are
+    /// given up. At a state of another shape there is no job, and nothing is planned.
     pub fn plan(&mut self, state: &mut State, number: u64) -> usize
         requires number { number ≤ 2 ^ 40 }
         requires made { self.old.made < 2 ^ 62 }

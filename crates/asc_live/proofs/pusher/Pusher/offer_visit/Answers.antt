@@ -11,9 +11,9 @@ use Rattle.asc_live.proofs.Pushing.{Pushes-none, Pushes-more, Pushes-few, Pushes
 use Rattle.asc_live.proofs.pusher.Pusher.offer_visit.Goals as goal
 use Rattle.asc_live.proofs.pusher.Pusher.offer_visit.Goals.{then-offers, else-offers}
 
-pub returns-then-pushed-ge-MOST_JOBS : goal.returns-then-pushed-ge-MOST_JOBS
-returns-then-pushed-ge-MOST_JOBS g c =
-    let none : nat_lt (length c.args.self.now.giver.pushed) (2 ^ 60) ≡ false = le-ltb _ _ (omega (arith, c.if-pushed-ge-MOST_JOBS.true, c.pushed.ensures)) in
+pub returns-then-pushed-ge-MOST_PUSHED : goal.returns-then-pushed-ge-MOST_PUSHED
+returns-then-pushed-ge-MOST_PUSHED g c =
+    let none : nat_lt (length c.args.self.now.giver.pushed) (2 ^ 60) ≡ false = le-ltb _ _ (omega (arith, c.if-pushed-ge-MOST_PUSHED.true, c.pushed.ensures)) in
     rw none (Pushes-none _ _)
 
 -- only once the queue had been filled up is a guess left to the walk
@@ -59,6 +59,6 @@ returns g c =
     let prev = arc_value c.args.prev.now in let last = arc_value c.args.last.now in
     let jobs = c.args.jobs.now in
     let offers = is_offered c.args.share.filled c.args.share.workers c.args.number in
-    let room : nat_lt (length c.args.self.now.giver.pushed) (2 ^ 60) ≡ true = lt-ltb _ _ (omega (arith, c.if-pushed-ge-MOST_JOBS.false, c.pushed.ensures)) in
+    let room : nat_lt (length c.args.self.now.giver.pushed) (2 ^ 60) ≡ true = lt-ltb _ _ (omega (arith, c.if-pushed-ge-MOST_PUSHED.false, c.pushed.ensures)) in
     let all : take c.loop-job.job-index jobs ≡ jobs = take_all c.loop-job.job-index jobs (omega (arith, c.loop-job-test.false)) in
     rw room (subst (λ jobs. Pushes offers (jobs_of prev last jobs) c.args.self.now c.loop-job.self) all c.loop-job.invariant.pushes)
