@@ -1,3 +1,4 @@
 pub mod Files
 pub mod Parsing
+pub mod Putting
 pub mod Tracing

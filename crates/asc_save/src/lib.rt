@@ -9,8 +9,10 @@ mod laws;
 mod loading;
 mod saved;
 mod trace;
+mod writing;
 
 pub use asc_model::SaveFault;
 pub use laws::files_mean_their_entries;
 pub use loading::{LoadFault, load};
 pub use saved::Saved;
+pub use writing::write;
