@@ -1,5 +1,5 @@
 -- Lemmas on a file that is put to a sink piece by piece.
-use Rattle.std.proofs.Common.{◌≡◌, ℕ, zero, suc, ◌+◌, ◌-◌, ◌*◌, ◌/◌, ◌%◌, ◌<◌, ◌≤◌, List, [], ◌∷◌, ◌++◌, length, take, drop, slice_set, refl, sym, ap, subst, ◌∙◌, arith, append_assoc, length-append, length-take, length-drop}
+use Rattle.std.proofs.Common.{◌≡◌, ℕ, suc, ◌+◌, ◌-◌, ◌/◌, ◌%◌, ◌<◌, ◌≤◌, List, [], ◌∷◌, ◌++◌, length, take, drop, slice_set, refl, sym, ap, subst, ◌∙◌, arith, append_assoc, length-append, length-take, length-drop}
 use Rattle.std.specs.Prelude.{All, OnOk, OnErr, IsErr, Result, Ok, Err, slice_index_or}
 use Rattle.std.specs.List.{flat_map}
 use Rattle.std.proofs.lemmas.Grind.{flat_map-append}
@@ -14,7 +14,7 @@ use Rattle.asc_model.proofs.Numbers.{bytes_of-to_le_bytes}
 use Rattle.std.proofs.Math.Nat.{div-div-eq-div-mul}
 use Rattle.asc_outside.specs.Outside.{Given, HasCause, PutsPart, given_after, one_more}
 use Rattle.asc_outside.specs.declared.outside.Failed.{Failed}
-use Rattle.asc_outside.proofs.Streams.{given_after-given_after, given_after-nil}
+use Rattle.asc_outside.proofs.Streams.{given_after-given_after}
 
 -- four bytes as they are written, and eight
 pub four_bytes : (v : ℕ) (rest : List ℕ) → v % 256 ∷ v / 256 % 256 ∷ v / 65536 % 256 ∷ v / 16777216 % 256 ∷ rest ≡ bytes_of 4 v ++ rest

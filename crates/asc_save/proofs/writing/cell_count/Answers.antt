@@ -1,5 +1,4 @@
-use Rattle.std.proofs.Common.{◌≡◌, ◌+◌, length, ap, ◌∙◌, arith}
-use Rattle.asc_traj.specs.Parts.{all_cells, cells_from}
+use Rattle.std.proofs.Common.{length, ap, arith}
 use Rattle.asc_traj.proofs.Parts.{cells-all}
 use Rattle.asc_save.proofs.writing.cell_count.Goals as goal
 

@@ -1,4 +1,4 @@
-use Rattle.std.proofs.Common.{◌≡◌, ◌+◌, ◌%◌, ◌≤◌, length, refl, ◌∙◌, arith}
+use Rattle.std.proofs.Common.{◌∙◌, arith}
 use Rattle.asc_traj.specs.Parts.{cells_from}
 use Rattle.asc_save.proofs.Putting.{filled_more, four_bytes}
 use Rattle.asc_save.proofs.writing.fill.Goals as goal

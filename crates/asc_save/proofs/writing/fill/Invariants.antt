@@ -1,4 +1,4 @@
-use Rattle.std.proofs.Common.{◌≡◌, ◌+◌, ◌-◌, ◌*◌, ◌%◌, ◌++◌, ◌<◌, ◌≤◌, [], take, length}
+use Rattle.std.proofs.Common.{◌≡◌, ◌-◌, ◌*◌, ◌%◌, ◌++◌, ◌<◌, ◌≤◌, take, length}
 use Rattle.std.specs.List.{flat_map}
 use Rattle.asc_model.specs.EntryFile.{cell_bytes}
 use Rattle.asc_traj.specs.Parts.{cells_from}

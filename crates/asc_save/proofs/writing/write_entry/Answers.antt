@@ -1,8 +1,8 @@
-use Rattle.std.proofs.Common.{◌≡◌, ◌++◌, ℕ, List, length, refl, sym, ap, ◌∙◌}
+use Rattle.std.proofs.Common.{◌≡◌, ◌++◌, length, ap, ◌∙◌}
 use Rattle.std.specs.List.{flat_map}
 use Rattle.asc_model.specs.Number.{bytes_of}
 use Rattle.asc_model.specs.EntryFile.{cell_bytes, entry_bytes}
-use Rattle.asc_outside.specs.Outside.{given_after, one_more}
+use Rattle.asc_outside.specs.Outside.{one_more}
 use Rattle.asc_traj.specs.Parts.{all_cells}
 use Rattle.asc_save.proofs.Putting.{failed_put, given_both, last_put, part_first, part_same, part_then, piece_same}
 use Rattle.asc_save.proofs.writing.write_entry.Goals as goal
