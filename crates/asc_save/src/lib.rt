@@ -16,3 +16,6 @@ pub use laws::files_mean_their_entries;
 pub use loading::{LoadFault, load};
 pub use saved::Saved;
 pub use writing::write;
+
+#[cfg(test)]
+mod tests;
