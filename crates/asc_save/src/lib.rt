@@ -8,6 +8,8 @@ mod fields;
 mod laws;
 mod loading;
 mod saved;
+#[cfg(test)]
+mod tests;
 mod trace;
 mod writing;
 
@@ -16,6 +18,3 @@ pub use laws::files_mean_their_entries;
 pub use loading::{LoadFault, load};
 pub use saved::Saved;
 pub use writing::write;
-
-#[cfg(test)]
-mod tests;

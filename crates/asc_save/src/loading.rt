@@ -14,7 +14,7 @@ use std::alloc::{AllocError, AllocFailed, Global};
 /// Why a file was not loaded.
 #[derive(Clone, Copy, Debug, PartialEq, Eq)]
 pub enum LoadFault {
-    /// The file is none of entries that are each their own.
+    /// The file is not one of saved entries.
     Bad(SaveFault),
     /// Want of memory.
     Memory,
@@ -53,7 +53,10 @@ impl<T: Drop> From<AllocFailed<T>> for LoadFault {
 /// The entries of a file, or the first of its faults.
 ///
 /// The whole file is read before the first entry is traced. Each is then traced anew, from the state that has its reads
-/// and else zeros, and what the traces make is handed out.
+/// and else zeros, and what the traces make is handed out. A trace takes at most as many steps as the entry says, so a file
+/// of 1,024 entries may ask for 1,024 times 1,000,000,000.
+///
+/// It takes the memory of a state and of a tracer of the file's shape.
 pub fn load(alloc: Global, bytes: &[u8]) -> Result<Saved, LoadFault>
     ensures { IsLoaded bytes.now result }
 {

@@ -69,7 +69,7 @@ fn retrace(
         laps: u64::MAX,
         span: steps(bytes),
     };
-    // That it is a state.
+    // A proof learns from it that the guess is a state.
     let _ = guess.shape();
     match Entry::traced(alloc, tracer, guess, &stop, &mut Never) {
         Made::One(entry) => {
