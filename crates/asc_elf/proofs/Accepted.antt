@@ -7,9 +7,10 @@ use Rattle.std.proofs.lemmas.List.Elements.{All-cons, All-nil}
 use Rattle.asc_model.specs.Shape.{Shape}
 use Rattle.asc_elf.specs.declared.fault.ElfFault.{ElfFault}
 use Rattle.asc_elf.specs.File.{e_phoff, e_phnum, Header, headers, is_segment, segments}
-use Rattle.asc_elf.specs.Image.{Case, first_fault, header_cases, table_cases, segment_cases, layout_cases, cases, is_interp, is_cut, cut_header, lowest_address, highest_end, shape_for, stack_of}
+use Rattle.asc_model.specs.Case.{Case, first_fault}
+use Rattle.asc_elf.specs.Image.{header_cases, table_cases, segment_cases, layout_cases, cases, is_interp, is_cut, cut_header, lowest_address, highest_end, shape_for, stack_of}
 use Rattle.asc_elf.specs.Checked.{HasTable, IsWhole, HasPlace}
-use Rattle.asc_elf.proofs.Faults.{first_fault-append}
+use Rattle.asc_model.proofs.Cases.{first_fault-append}
 
 -- none of three cases stands
 three_none : (a b c : Bool) (f g h : ElfFault) → cond a (Some f) (cond b (Some g) (cond c (Some h) None)) ≡ None → (a ≡ false) × (b ≡ false) × (c ≡ false)
@@ -24,18 +25,18 @@ both_none None b e = (refl, e)
 both_none (Some fault) b e = cc
 
 -- neither of two lists of cases has a fault
-first_fault-append_none : (a b : List Case) → first_fault (a ++ b) ≡ None → (first_fault a ≡ None) × (first_fault b ≡ None)
+first_fault-append_none : (a b : List (Case ElfFault)) → first_fault (a ++ b) ≡ None → (first_fault a ≡ None) × (first_fault b ≡ None)
 first_fault-append_none a b e = both_none (first_fault a) (first_fault b) (sym (first_fault-append a b) ∙ e)
 
 -- none of four has a fault
-pub record NoFault (a b c d : List Case) : Type 0 where
+pub record NoFault (a b c d : List (Case ElfFault)) : Type 0 where
   pub first : first_fault a ≡ None
   pub second : first_fault b ≡ None
   pub third : first_fault c ≡ None
   pub fourth : first_fault d ≡ None
 
 -- none of four lists of cases has a fault
-NoFault-append : (a b c d : List Case) → first_fault (a ++ b ++ c ++ d) ≡ None → NoFault a b c d
+NoFault-append : (a b c d : List (Case ElfFault)) → first_fault (a ++ b ++ c ++ d) ≡ None → NoFault a b c d
 NoFault-append a b c d e =
     let one = first_fault-append_none (a ++ b ++ c) d e in
     let two = first_fault-append_none (a ++ b) c one.0 in

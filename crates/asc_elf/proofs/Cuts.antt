@@ -15,7 +15,8 @@ use Rattle.asc_shape.specs.State.{zero_state, state_after_all}
 use Rattle.asc_elf.specs.declared.fault.ElfFault.{ElfFault}
 use Rattle.asc_elf.specs.declared.fault.ElfFault.TheVariants as faults
 use Rattle.asc_elf.specs.File.{ei_class, ei_data, ei_version, e_type, e_machine, e_entry, e_phoff, e_flags, e_phentsize, e_phnum, half, word, Header, header_at, headers_from, headers, is_load, is_segment, segments}
-use Rattle.asc_elf.specs.Image.{first_fault, magic, header_cases, table_cases, segment_cases, layout_cases, cases, is_interp, is_cut, cut_header, lowest_address, highest_end, shape_for, stack_of, segment_changes, start_state, Image, image_for, image_of}
+use Rattle.asc_model.specs.Case.{first_fault}
+use Rattle.asc_elf.specs.Image.{magic, header_cases, table_cases, segment_cases, layout_cases, cases, is_interp, is_cut, cut_header, lowest_address, highest_end, shape_for, stack_of, segment_changes, start_state, Image, image_for, image_of}
 use Rattle.asc_elf.specs.Checked.{IsWhole}
 use Rattle.asc_elf.specs.Laws.{IsCutOrSame, PrefixesAreCut}
 use Rattle.asc_elf.proofs.Accepted.{NoFault-cases, or_first, or_second, not_cut}

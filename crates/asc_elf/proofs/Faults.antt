@@ -9,37 +9,30 @@ use Rattle.asc_shape.specs.Shape.{shape_of}
 use Rattle.asc_elf.specs.declared.fault.ElfFault.{ElfFault}
 use Rattle.asc_elf.specs.declared.fault.ElfFault.TheVariants.{TooLarge, Entry}
 use Rattle.asc_elf.specs.File.{e_entry, segments}
-use Rattle.asc_elf.specs.Image.{Case, first_fault, header_cases, table_cases, segment_cases, layout_cases, cases, lowest_address, highest_end, base_of, shape_for, stack_of, Image, image_for, image_of}
+use Rattle.asc_model.specs.Case.{Case, first_fault}
+use Rattle.asc_model.proofs.Cases.{first_fault-append}
+use Rattle.asc_elf.specs.Image.{header_cases, table_cases, segment_cases, layout_cases, cases, lowest_address, highest_end, base_of, shape_for, stack_of, Image, image_for, image_of}
 use Rattle.asc_elf.specs.Checked.{IsWhole}
 
--- the first fault of two lists of cases
-pub first_fault-append : (a b : List Case) → first_fault (a ++ b) ≡ option_or (first_fault a) (first_fault b)
-first_fault-append [] b = refl
-first_fault-append (case ∷ a) b =
-    elim case.stands as (λ v. cond v (Some case.fault) (first_fault (a ++ b)) ≡ option_or (cond v (Some case.fault) (first_fault a)) (first_fault b)) [
-      | true ↦ refl
-      | false ↦ first_fault-append a b
-    ]
-
 -- the first fault of four
-first_fault-append_4 : (a b c d : List Case) → first_fault (a ++ b ++ c ++ d) ≡ option_or (option_or (option_or (first_fault a) (first_fault b)) (first_fault c)) (first_fault d)
+first_fault-append_4 : (a b c d : List (Case ElfFault)) → first_fault (a ++ b ++ c ++ d) ≡ option_or (option_or (option_or (first_fault a) (first_fault b)) (first_fault c)) (first_fault d)
 first_fault-append_4 a b c d =
     first_fault-append (a ++ b ++ c) d
     ∙ ap (λ o. option_or o (first_fault d)) (first_fault-append (a ++ b) c ∙ ap (λ o. option_or o (first_fault c)) (first_fault-append a b))
 
 -- where the first of four lists has a fault
-fault_1 : (a b c d : List Case) (fault : ElfFault) → first_fault a ≡ Some fault → first_fault (a ++ b ++ c ++ d) ≡ Some fault
+fault_1 : (a b c d : List (Case ElfFault)) (fault : ElfFault) → first_fault a ≡ Some fault → first_fault (a ++ b ++ c ++ d) ≡ Some fault
 fault_1 a b c d fault e = first_fault-append_4 a b c d ∙ ap (λ o. option_or (option_or (option_or o (first_fault b)) (first_fault c)) (first_fault d)) e
 
 -- where the second has
-fault_2 : (a b c d : List Case) (fault : ElfFault) → first_fault a ≡ None → first_fault b ≡ Some fault → first_fault (a ++ b ++ c ++ d) ≡ Some fault
+fault_2 : (a b c d : List (Case ElfFault)) (fault : ElfFault) → first_fault a ≡ None → first_fault b ≡ Some fault → first_fault (a ++ b ++ c ++ d) ≡ Some fault
 fault_2 a b c d fault p e =
     first_fault-append_4 a b c d
     ∙ ap (λ o. option_or (option_or (option_or o (first_fault b)) (first_fault c)) (first_fault d)) p
     ∙ ap (λ o. option_or (option_or o (first_fault c)) (first_fault d)) e
 
 -- where the third has
-fault_3 : (a b c d : List Case) (fault : ElfFault) → first_fault a ≡ None → first_fault b ≡ None → first_fault c ≡ Some fault → first_fault (a ++ b ++ c ++ d) ≡ Some fault
+fault_3 : (a b c d : List (Case ElfFault)) (fault : ElfFault) → first_fault a ≡ None → first_fault b ≡ None → first_fault c ≡ Some fault → first_fault (a ++ b ++ c ++ d) ≡ Some fault
 fault_3 a b c d fault p q e =
     first_fault-append_4 a b c d
     ∙ ap (λ o. option_or (option_or (option_or o (first_fault b)) (first_fault c)) (first_fault d)) p
@@ -47,7 +40,7 @@ fault_3 a b c d fault p q e =
     ∙ ap (λ o. option_or o (first_fault d)) e
 
 -- where the first three have none
-fault_4 : (a b c d : List Case) → first_fault a ≡ None → first_fault b ≡ None → first_fault c ≡ None → first_fault (a ++ b ++ c ++ d) ≡ first_fault d
+fault_4 : (a b c d : List (Case ElfFault)) → first_fault a ≡ None → first_fault b ≡ None → first_fault c ≡ None → first_fault (a ++ b ++ c ++ d) ≡ first_fault d
 fault_4 a b c d p q r =
     first_fault-append_4 a b c d
     ∙ ap (λ o. option_or (option_or (option_or o (first_fault b)) (first_fault c)) (first_fault d)) p

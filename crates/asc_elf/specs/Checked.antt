@@ -2,7 +2,8 @@
 use Rattle.std.specs.Prelude.{◌≡◌, ℕ, ◌+◌, ◌*◌, ◌<◌, ◌≤◌, List, length, None, true, false}
 use Rattle.asc_model.specs.Shape.{Shape}
 use Rattle.asc_elf.specs.File.{elf_header_size, program_header_size, e_entry, e_phoff, e_phnum, Header, is_segment}
-use Rattle.asc_elf.specs.Image.{first_fault, header_cases, table_cases, segment_cases, cases, is_cut, stack_of, shape_for, low_of}
+use Rattle.asc_model.specs.Case.{first_fault}
+use Rattle.asc_elf.specs.Image.{header_cases, table_cases, segment_cases, cases, is_cut, stack_of, shape_for, low_of}
 
 -- the header and the table of program headers are within the file
 pub record HasTable (file : List ℕ) : Type 0 where

@@ -3,6 +3,7 @@
 use Rattle.std.specs.Prelude.{ℕ, ◌+◌, ◌-◌, ◌*◌, ◌/◌, ◌%◌, ◌^◌, min, max, nat_eq, Bool, not, ◌==◌, ◌&&◌, ◌||◌, nat_lt, List, [], ◌∷◌, ◌++◌, length, take, drop, replicate, position, Option, Some, None, is_some, unwrap_or, Result, Ok, Err, if◌then◌else◌}
 use Rattle.std.specs.List.{flat_map, list_any, starts_with}
 use Rattle.asc_model.specs.declared.version.Version.{Version}
+use Rattle.asc_model.specs.Case.{Case, ◌if◌, first_fault}
 use Rattle.asc_model.specs.Shape.{Shape, page_size, holds}
 use Rattle.asc_model.specs.State.{State}
 use Rattle.asc_model.specs.Machine.{Change, Pc, Register, Memory}
@@ -11,26 +12,12 @@ use Rattle.asc_elf.specs.declared.fault.ElfFault.{ElfFault}
 use Rattle.asc_elf.specs.declared.fault.ElfFault.TheVariants as faults
 use Rattle.asc_elf.specs.File.{elf_header_size, program_header_size, ei_class, ei_data, ei_version, e_type, e_machine, e_entry, e_phoff, e_flags, e_phentsize, e_phnum, Header, headers, is_load, segments}
 
--- a fault, and whether it stands
-pub record Case : Type 0 where
-  pub stands : Bool
-  pub fault : ElfFault
-
-infix 5 ◌if◌
-abbrev ◌if◌ : ElfFault → Bool → Case
-fault if stands = record { stands = stands; fault = fault }
-
--- the fault of the first case that stands
-abbrev pub first_fault : List Case → Option ElfFault
-first_fault [] = None
-first_fault (first ∷ cases) = if first.stands then Some first.fault else first_fault cases
-
 -- ELFMAG0 to ELFMAG3
 abbrev pub magic : List ℕ
 magic = 0x7F ∷ 0x45 ∷ 0x4C ∷ 0x46 ∷ []
 
 -- the header: ELFCLASS32, ELFDATA2LSB, EV_CURRENT, ET_EXEC, EM_RISCV, and no flag but EF_RISCV_TSO
-abbrev pub header_cases : List ℕ → List Case
+abbrev pub header_cases : List ℕ → List (Case ElfFault)
 header_cases file =
     (faults.Short if nat_lt (length file) elf_header_size)
     ∷ (faults.Magic if not (starts_with nat_eq file magic))
@@ -43,7 +30,7 @@ header_cases file =
     ∷ []
 
 -- the table of program headers, where there are any
-abbrev pub table_cases : List ℕ → List Case
+abbrev pub table_cases : List ℕ → List (Case ElfFault)
 table_cases file =
     (faults.HeaderSize if nat_lt 0 (e_phnum file) && not (e_phentsize file == program_header_size))
     ∷ (faults.Table if nat_lt 0 (e_phnum file)
@@ -64,7 +51,7 @@ is_cut file header = is_load header
 abbrev pub cut_header : List ℕ → Option ℕ
 cut_header file = position (is_cut file) (headers file)
 
-abbrev pub segment_cases : List ℕ → List Case
+abbrev pub segment_cases : List ℕ → List (Case ElfFault)
 segment_cases file =
     (faults.Interp if list_any is_interp (headers file))
     ∷ (faults.Segment (unwrap_or (cut_header file) 0) if is_some (cut_header file))
@@ -96,14 +83,14 @@ below_top = 64
 abbrev pub stack_of : Shape → ℕ
 stack_of shape = shape.base + shape.size - below_top
 
-abbrev pub layout_cases : List ℕ → Shape → List Case
+abbrev pub layout_cases : List ℕ → Shape → List (Case ElfFault)
 layout_cases file shape =
     (faults.TooLarge if nat_lt (2 ^ 32) (shape.base + shape.size)
     || nat_lt (stack_of shape) (highest_end (segments file)))
     ∷ (faults.Entry if not (e_entry file % 4 == 0) || not (holds shape (e_entry file) 4))
     ∷ []
 
-abbrev pub cases : List ℕ → Shape → List Case
+abbrev pub cases : List ℕ → Shape → List (Case ElfFault)
 cases file shape = header_cases file ++ table_cases file ++ segment_cases file ++ layout_cases file shape
 
 -- a segment in memory: its bytes of the file, and zeros up to its size

@@ -3,7 +3,8 @@
 ghost use Rattle.std.specs.Prelude.{◌≡◌, ◌≤◌, length, nat_lt};
 ghost use Rattle.std.specs.List.{list_any};
 ghost use Rattle.asc_elf.specs.File.{elf_header_size, headers, segments};
-ghost use Rattle.asc_elf.specs.Image.{first_fault, header_cases, table_cases, segment_cases, is_interp, cut_header};
+ghost use Rattle.asc_model.specs.Case.{first_fault};
+ghost use Rattle.asc_elf.specs.Image.{header_cases, table_cases, segment_cases, is_interp, cut_header};
 ghost use Rattle.asc_elf.specs.Checked.{HasTable};
 
 use crate::ElfFault;

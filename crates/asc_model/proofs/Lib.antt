@@ -15,3 +15,4 @@ pub mod Computing
 pub mod Shapes
 pub mod Registers
 pub mod Repeats
+pub mod Cases

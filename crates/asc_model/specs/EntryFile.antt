@@ -8,6 +8,7 @@ use Rattle.asc_model.specs.declared.save_fault.SaveFault.{SaveFault}
 use Rattle.asc_model.specs.declared.save_fault.SaveFault.TheVariants as faults
 use Rattle.asc_model.specs.Shape.{Shape, IsShape, is_base, is_size, length_of}
 use Rattle.asc_model.specs.Number.{bytes_of, number_at, word_at}
+use Rattle.asc_model.specs.Case.{Case, ◌if◌, first_fault}
 use Rattle.asc_model.specs.Entry.{Entry, IsEntry, entry_of, own_start}
 
 -- ---- the bytes of entries
@@ -68,20 +69,6 @@ pub record AreSavable (shape : Shape) (entries : List Entry) : Type 0 where
 
 -- ---- what the bytes of a file mean
 
--- a fault, and whether it stands
-pub record Case : Type 0 where
-  pub stands : Bool
-  pub fault : SaveFault
-
-infix 5 ◌if◌
-abbrev ◌if◌ : SaveFault → Bool → Case
-fault if stands = record { stands = stands; fault = fault }
-
--- the fault of the first case that stands
-abbrev pub first_fault : List Case → Option SaveFault
-first_fault [] = None
-first_fault (first ∷ cases) = if first.stands then Some first.fault else first_fault cases
-
 abbrev pub header_size : ℕ
 header_size = 20
 
@@ -96,7 +83,7 @@ shape_in file = record {
 abbrev pub count_in : List ℕ → ℕ
 count_in file = word_at file 16
 
-abbrev pub header_cases : List ℕ → List Case
+abbrev pub header_cases : List ℕ → List (Case SaveFault)
 header_cases file =
     (faults.Short if nat_lt (length file) header_size)
     ∷ (faults.Magic if not (starts_with nat_eq file magic))
@@ -155,7 +142,7 @@ is_listing shape cells = let places = map (λ cell. cell.0) cells in
     rise_from 0 places && list_all (λ place. nat_lt place (length_of shape)) places
 
 -- the faults of entry i, each part being there as a whole before it is tested
-abbrev pub entry_cases : Shape → (i : ℕ) → List ℕ → List Case
+abbrev pub entry_cases : Shape → (i : ℕ) → List ℕ → List (Case SaveFault)
 entry_cases shape i bytes =
     (faults.Short if nat_lt (length bytes) counts_size)
     ∷ (faults.Entry i if is_out_of_bounds bytes)
@@ -166,7 +153,7 @@ entry_cases shape i bytes =
     ∷ []
 
 -- the faults of n entries, the first of which is entry i, and of what is behind them
-abbrev pub entries_cases : Shape → (i n : ℕ) → List ℕ → List Case
+abbrev pub entries_cases : Shape → (i n : ℕ) → List ℕ → List (Case SaveFault)
 entries_cases shape i zero bytes = (faults.Long if nat_lt 0 (length bytes)) ∷ []
 entries_cases shape i (suc n) bytes =
     entry_cases shape i bytes ++ entries_cases shape (i + 1) n (drop (writes_end bytes) bytes)
@@ -196,7 +183,7 @@ is_canonical e = elim (entry_of e.steps (own_start e)) [
 ]
 
 -- the faults of entries, from entry i on, that are not their own
-abbrev pub own_cases : (i : ℕ) → List Entry → List Case
+abbrev pub own_cases : (i : ℕ) → List Entry → List (Case SaveFault)
 own_cases i [] = []
 own_cases i (e ∷ entries) = (faults.Untrue i if not (is_canonical e)) ∷ own_cases (i + 1) entries
 
@@ -212,7 +199,7 @@ listed_in file = record {
   entries = entries_in (shape_in file) (count_in file) (drop header_size file);
 }
 
-abbrev pub file_cases : List ℕ → List Case
+abbrev pub file_cases : List ℕ → List (Case SaveFault)
 file_cases file = header_cases file
     ++ entries_cases (shape_in file) 0 (count_in file) (drop header_size file)
     ++ own_cases 0 (listed_in file).entries

@@ -10,6 +10,7 @@ pub mod Places
 pub mod Plain
 pub mod DependencyVector
 pub mod Entry
+pub mod Case
 pub mod EntryFile
 pub mod Reach
 pub mod Laws

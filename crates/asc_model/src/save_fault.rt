@@ -14,8 +14,8 @@ pub enum SaveFault {
     Shape,
     /// More than 1,024 entries.
     Count,
-    /// The entry of this index has too many steps or none, or too many places. Or its places do not rise, or are not
-    /// below the length of a state.
+    /// The entry of this index has no step or more than 1,000,000,000, or more than 4,096 reads or writes. Or its places do
+    /// not rise, or are not below the length of a state.
     Entry(usize),
     /// Bytes follow the last entry.
     Long,

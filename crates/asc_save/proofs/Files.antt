@@ -17,7 +17,8 @@ use Rattle.asc_model.specs.declared.version.Version.TheVariants.{One, Two}
 use Rattle.asc_model.specs.Shape.{Shape, IsShape, is_base, is_size, length_of}
 use Rattle.asc_model.specs.Number.{AreBytes, bytes_of, number_of, number_at, word_at}
 use Rattle.asc_model.specs.Entry.{Entry, IsListing, IsCanonical}
-use Rattle.asc_model.specs.EntryFile.{magic, machine_number, header_bytes, cell_bytes, entry_bytes, entry_file, IsSavable, first_fault, shape_in, count_in, header_cases, steps_in, read_count, write_count, reads_end, writes_end, cells_in, reads_in, writes_in, is_out_of_bounds, rise_from, is_listing, entry_cases, entries_cases, entry_in, entries_in, is_canonical, own_cases, Saved, listed_in, file_cases, saved_of}
+use Rattle.asc_model.specs.Case.{first_fault}
+use Rattle.asc_model.specs.EntryFile.{magic, machine_number, header_bytes, cell_bytes, entry_bytes, entry_file, IsSavable, shape_in, count_in, header_cases, steps_in, read_count, write_count, reads_end, writes_end, cells_in, reads_in, writes_in, is_out_of_bounds, rise_from, is_listing, entry_cases, entries_cases, entry_in, entries_in, is_canonical, own_cases, Saved, listed_in, file_cases, saved_of}
 use Rattle.asc_model.proofs.Numbers.{AreBytes-take, AreBytes-drop, bytes_of-number_of, number_of-bytes_of, number_of-bytes_of_4}
 use Rattle.asc_model.proofs.Listings.{RisesFrom, RisesFrom-increasing, increasing-RisesFrom}
 use Rattle.asc_save.specs.Laws.{IsFileOf, FilesMeanTheirEntries}

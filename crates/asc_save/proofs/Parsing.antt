@@ -22,7 +22,9 @@ use Rattle.asc_save.specs.declared.loading.LoadFault.TheVariants.{Bad, Memory}
 use Rattle.asc_save.specs.Load.{IsLoaded}
 use Rattle.asc_save.specs.Traced.{AreRetraced}
 use Rattle.asc_model.specs.Number.{word_at}
-use Rattle.asc_model.specs.EntryFile.{Case, first_fault, cells_in, is_out_of_bounds, entry_cases, entries_cases, writes_end, reads_end, reads_in, writes_in, steps_in, read_count, write_count, is_listing, entry_in, entries_in, own_cases, is_canonical, magic, header_cases, count_in, shape_in, file_cases, listed_in, Saved, saved_of}
+use Rattle.asc_model.specs.Case.{Case, first_fault}
+use Rattle.asc_model.proofs.Cases.{first_fault-append}
+use Rattle.asc_model.specs.EntryFile.{cells_in, is_out_of_bounds, entry_cases, entries_cases, writes_end, reads_end, reads_in, writes_in, steps_in, read_count, write_count, is_listing, entry_in, entries_in, own_cases, is_canonical, magic, header_cases, count_in, shape_in, file_cases, listed_in, Saved, saved_of}
 use Rattle.asc_save.specs.Listed.{IsListed}
 
 -- the first place, and the others, which are those of the bytes behind it
@@ -36,21 +38,12 @@ cells_in-first (suc n) word bytes h is =
 
 -- ---- faults
 
--- the first fault of two lists of cases
-pub first_fault-append : (a b : List Case) → first_fault (a ++ b) ≡ option_or (first_fault a) (first_fault b)
-first_fault-append [] b = refl
-first_fault-append (case ∷ a) b =
-    elim case.stands as (λ v. cond v (Some case.fault) (first_fault (a ++ b)) ≡ option_or (cond v (Some case.fault) (first_fault a)) (first_fault b)) [
-      | true ↦ refl
-      | false ↦ first_fault-append a b
-    ]
-
 -- where the first of two has none
-pub fault_behind : (a b : List Case) → first_fault a ≡ None → first_fault (a ++ b) ≡ first_fault b
+pub fault_behind : (a b : List (Case SaveFault)) → first_fault a ≡ None → first_fault (a ++ b) ≡ first_fault b
 fault_behind a b e = first_fault-append a b ∙ ap (λ o. option_or o (first_fault b)) e
 
 -- where the first of two has one
-pub fault_first : (a b : List Case) (fault : SaveFault) → first_fault a ≡ Some fault → first_fault (a ++ b) ≡ Some fault
+pub fault_first : (a b : List (Case SaveFault)) (fault : SaveFault) → first_fault a ≡ Some fault → first_fault (a ++ b) ≡ Some fault
 fault_first a b fault e = first_fault-append a b ∙ ap (λ o. option_or o (first_fault b)) e
 
 -- where there is none, neither has one
@@ -58,11 +51,11 @@ pub none_parts : (o q : Option SaveFault) → option_or o q ≡ None → (o ≡ 
 none_parts None q e = (refl, e)
 none_parts (Some fault) q e = absurd (cc)
 
-pub no_fault-append : (a b : List Case) → first_fault (a ++ b) ≡ None → (first_fault a ≡ None) × (first_fault b ≡ None)
+pub no_fault-append : (a b : List (Case SaveFault)) → first_fault (a ++ b) ≡ None → (first_fault a ≡ None) × (first_fault b ≡ None)
 no_fault-append a b e = none_parts (first_fault a) (first_fault b) (sym (first_fault-append a b) ∙ e)
 
 -- where there is none, the first case does not stand
-pub no_fault-first : (stands : Bool) (fault : SaveFault) (rest : List Case) → first_fault (record { stands = stands; fault = fault } ∷ rest) ≡ None → (stands ≡ false) × (first_fault rest ≡ None)
+pub no_fault-first : (stands : Bool) (fault : SaveFault) (rest : List (Case SaveFault)) → first_fault (record { stands = stands; fault = fault } ∷ rest) ≡ None → (stands ≡ false) × (first_fault rest ≡ None)
 no_fault-first true fault rest e = absurd (cc)
 no_fault-first false fault rest e = (refl, e)
 
@@ -242,7 +235,7 @@ unfolding saved_of
 saved_of-answer file = elim (first_fault (file_cases file)) as (λ o. elim o [ Some fault ↦ Err fault | None ↦ Ok (listed_in file) ] ≡ answer o (listed_in file)) [ Some fault ↦ refl | None ↦ refl ]
 
 -- the cases of the entries of a file
-abbrev pub listed_cases : List ℕ → List Case
+abbrev pub listed_cases : List ℕ → List (Case SaveFault)
 listed_cases file = entries_cases (shape_in file) 0 (count_in file) (drop 20 file)
 
 abbrev pub entries_of : List ℕ → List Entry

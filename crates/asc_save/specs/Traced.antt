@@ -5,7 +5,8 @@ use Rattle.std.specs.declared.sync.Arc.{Arc}
 use Rattle.std.specs.declared.vec.Vec.{Vec}
 use Rattle.std.specs.declared.alloc.Global.{Global}
 use Rattle.asc_model.specs.Entry.{Entry}
-use Rattle.asc_model.specs.EntryFile.{first_fault, own_cases, is_canonical}
+use Rattle.asc_model.specs.Case.{first_fault}
+use Rattle.asc_model.specs.EntryFile.{own_cases, is_canonical}
 use Rattle.asc_save.specs.declared.loading.LoadFault.{LoadFault}
 use Rattle.asc_save.specs.declared.loading.LoadFault.TheVariants.{Bad, Memory}
 

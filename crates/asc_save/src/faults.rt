@@ -1,7 +1,8 @@
 //! The faults of a file, in the order in which they are looked for, but for those of entries that are not their own.
 
 ghost use Rattle.std.specs.Prelude.{◌≡◌, ◌≤◌, length};
-ghost use Rattle.asc_model.specs.EntryFile.{first_fault, header_cases, entry_cases, entries_cases, is_listing, is_out_of_bounds, counts_size};
+ghost use Rattle.asc_model.specs.Case.{first_fault};
+ghost use Rattle.asc_model.specs.EntryFile.{header_cases, entry_cases, entries_cases, is_listing, is_out_of_bounds, counts_size};
 
 use crate::cells::{Cells, reads, writes};
 use crate::fields::{

@@ -1,5 +1,6 @@
 ghost use Rattle.std.specs.Prelude.{◌≡◌, None};
-ghost use Rattle.asc_model.specs.EntryFile.{first_fault, header_cases, shape_in};
+ghost use Rattle.asc_model.specs.Case.{first_fault};
+ghost use Rattle.asc_model.specs.EntryFile.{header_cases, shape_in};
 ghost use Rattle.asc_save.specs.Load.{IsLoaded};
 
 use crate::Saved;

@@ -4,7 +4,8 @@ ghost use Rattle.std.specs.Prelude.{◌≡◌, ◌<◌, ◌≤◌, ◌==◌, ◌
 ghost use Rattle.asc_model.specs.Entry.{own_start};
 ghost use Rattle.asc_model.specs.Places.{bytes_after};
 ghost use Rattle.asc_model.specs.Shape.{length_of};
-ghost use Rattle.asc_model.specs.EntryFile.{are_same_cells, counts_size, entries_cases, entries_in, entry_in, first_fault, reads_in, steps_in, writes_end, writes_in};
+ghost use Rattle.asc_model.specs.Case.{first_fault};
+ghost use Rattle.asc_model.specs.EntryFile.{are_same_cells, counts_size, entries_cases, entries_in, entry_in, reads_in, steps_in, writes_end, writes_in};
 ghost use Rattle.asc_shape.specs.State.{zero_state};
 ghost use Rattle.asc_depvec.specs.Tracer.{most_cap};
 ghost use Rattle.asc_traj.specs.Parts.{all_cells};

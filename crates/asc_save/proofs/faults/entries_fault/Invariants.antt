@@ -1,5 +1,6 @@
 use Rattle.std.proofs.Common.{◌≡◌, ◌-◌}
-use Rattle.asc_model.specs.EntryFile.{first_fault, entries_cases}
+use Rattle.asc_model.specs.Case.{first_fault}
+use Rattle.asc_model.specs.EntryFile.{entries_cases}
 use Rattle.asc_save.proofs.faults.entries_fault.Given as goal
 
 abbrev pub invariant-loop-index : goal.invariant-loop-index

@@ -1,7 +1,8 @@
 use Rattle.std.proofs.Common.{◌≡◌, ◌-◌, ◌++◌, Some, None, map, refl, sym, ap, ◌∙◌, subst, arith}
 use Rattle.std.proofs.lemmas.List.{append-nil}
 use Rattle.std.specs.Arc.{arc_value}
-use Rattle.asc_model.specs.EntryFile.{entries_cases, entries_in, entry_in, first_fault, own_cases, writes_end}
+use Rattle.asc_model.specs.Case.{first_fault}
+use Rattle.asc_model.specs.EntryFile.{entries_cases, entries_in, entry_in, own_cases, writes_end}
 use Rattle.asc_shape.specs.State.{zero_state}
 use Rattle.asc_depvec.specs.Tracer.{Tracing}
 use Rattle.asc_save.specs.Listed.{IsListed}

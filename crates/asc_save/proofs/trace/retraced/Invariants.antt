@@ -1,6 +1,7 @@
 use Rattle.std.proofs.Common.{◌≡◌, ◌-◌, ◌++◌, None, map}
 use Rattle.std.specs.Arc.{arc_value}
-use Rattle.asc_model.specs.EntryFile.{first_fault, entries_cases, entries_in, own_cases}
+use Rattle.asc_model.specs.Case.{first_fault}
+use Rattle.asc_model.specs.EntryFile.{entries_cases, entries_in, own_cases}
 use Rattle.asc_shape.specs.State.{zero_state}
 use Rattle.asc_depvec.specs.Tracer.{most_cap}
 use Rattle.asc_save.proofs.trace.retraced.Given as goal
