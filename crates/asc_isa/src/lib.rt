@@ -11,4 +11,5 @@ mod tests;
 
 pub use asc_model::{Instr, Op};
 pub use decoding::decode;
-pub use likely::{decode_likely, operation};
+pub use likely::decode_likely;
+pub use operands::operation;

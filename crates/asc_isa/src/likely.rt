@@ -1,10 +1,11 @@
 //! Which instruction a word is, where its operation is one of those that programs do most.
 ghost use Rattle.std.specs.Prelude.{◌≡◌, IfSome, false};
-ghost use Rattle.asc_model.specs.Instruction.{decode, op_of};
+ghost use Rattle.asc_model.specs.Instruction.{decode};
 ghost use Rattle.asc_isa.specs.Decode.{version_of, HasRegisters};
 ghost use Rattle.asc_isa.specs.Likely.{is_likely, likely};
 
 use crate::decoding::decode;
+use crate::operands::operation;
 use asc_model::{Instr, Op};
 
 /// The instruction that a word is in either version, where its operation is one of those that programs do most. `K` is as in
@@ -20,7 +21,7 @@ pub fn decode_likely<K>(word: u32) -> Option<Instr>
     }
 }
 
-/// Whether programs do an operation most.
+/// Whether an operation is one of those that programs do most.
 #[inline(always)]
 fn is_likely(op: Op) -> bool
     ensures { result ≡ is_likely op }
@@ -56,20 +57,4 @@ fn is_likely(op: Op) -> bool
             | Op::And
             | Op::Mul
     )
-}
-
-/// The operation of an instruction.
-#[inline(always)]
-pub fn operation(instruction: Instr) -> Op
-    ensures { result ≡ op_of instruction }
-{
-    match instruction {
-        Instr::U { op, .. }
-        | Instr::J { op, .. }
-        | Instr::I { op, .. }
-        | Instr::S { op, .. }
-        | Instr::B { op, .. }
-        | Instr::R { op, .. }
-        | Instr::Plain { op } => op,
-    }
 }

@@ -1,11 +1,28 @@
-//! How a word spells its operands, by format (RISC-V unprivileged manual 20191213, sections 2.2 and 2.3).
+//! How a word spells its operands, by format (RISC-V unprivileged manual 20191213, sections 2.2 and 2.3), and the operation
+//! of an instruction.
 ghost use Rattle.std.specs.Prelude.{◌≡◌};
-ghost use Rattle.asc_model.specs.Instruction.{operands, U, J, I, Shift, S, B, R};
+ghost use Rattle.asc_model.specs.Instruction.{op_of, operands, U, J, I, Shift, S, B, R};
 
 use crate::fields::{
     immediate_b, immediate_i, immediate_j, immediate_s, immediate_u, rd, rs1, rs2, shamt,
 };
 use asc_model::{Instr, Op};
+
+/// The operation of an instruction.
+#[inline(always)]
+pub fn operation(instruction: Instr) -> Op
+    ensures { result ≡ op_of instruction }
+{
+    match instruction {
+        Instr::U { op, .. }
+        | Instr::J { op, .. }
+        | Instr::I { op, .. }
+        | Instr::S { op, .. }
+        | Instr::B { op, .. }
+        | Instr::R { op, .. }
+        | Instr::Plain { op } => op,
+    }
+}
 
 /// A register and an upper immediate.
 #[inline(always)]

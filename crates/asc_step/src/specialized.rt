@@ -35,8 +35,8 @@ macro_rules! each_operation {
 
 /// Takes one step of a state of this shape as `try_step` does, with code of its own for each operation.
 ///
-/// `K` is any type. It tells the two loops of steps apart: each of them has a copy of this that is called there alone,
-/// which the compiler then takes into the loop.
+/// `K` is any type. It tells loops of steps apart: each has a copy of this that is called there alone, which the compiler
+/// then takes into the loop.
 #[inline]
 pub(crate) fn step_specialized<B: Words, K>(bytes: &mut B, shape: Shape) -> Stepped
     requires shape { shape ≡ (B.face bytes.old).state.shape }
@@ -89,10 +89,9 @@ fn execute_specialized<B: Words, K>(
 /// Carries out the instruction at this pc, as `execute` does, with code of its own for the operations that programs do
 /// most. The registers of the instruction are settled where `SETTLED` says so.
 ///
-/// With many more arms the compiler no longer takes this into the
-/// loop of a trace, which then is slower. The last arm is for none of the operations that `decode_likely` answers, and is
-/// a call, so that it takes no room here. What it came to is in `rare`, which the caller's caller keeps: memory for it
-/// here would be filled anew at each step.
+/// With many more arms the compiler no longer takes this into the loop of a trace, which then is slower. The last arm is for
+/// none of the operations that `decode_likely` answers, and is a call, so that it takes no room here. What it came to is in
+/// `rare`, which the caller's caller keeps: memory for it here would be filled anew at each step.
 #[inline(always)]
 pub(crate) fn execute_likely<B: Words, K, const SETTLED: bool>(
     bytes: &mut B,

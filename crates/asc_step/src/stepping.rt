@@ -152,8 +152,8 @@ fn execute_word<B: Words>(bytes: &mut B, pc: u32, word: u32, rare: &mut Stepped)
     };
 }
 
-/// Takes one step of a state of this shape as `try_step` does, and counts it where the program went on. `K` tells
-/// the two loops of steps apart, as in `step_specialized`.
+/// Takes one step of a state of this shape as `try_step` does, and counts it where the program went on. `K` tells loops of
+/// steps apart, as in `step_specialized`.
 #[inline]
 pub(crate) fn step_of<B: Words, L: Ledger, K>(
     bytes: &mut B,
