@@ -1,10 +1,8 @@
 -- Lemmas on pages.
-use Rattle.std.proofs.Common.{◌≡◌, ◌≢◌, ◌⊎◌, inl, inr, ℕ, zero, suc, ◌+◌, ◌*◌, ◌-◌, ◌/◌, ◌%◌, ◌≤◌, ◌<◌, Bool, true, false, nat_eq, Option, None, Some, List, [], ◌∷◌, ◌++◌, length, take, drop, replicate, refl, sym, ap, ◌∙◌, arith, max, min, slice_index, slice_index_or, map, length-append, length-take, eq-eqb}
+use Rattle.std.proofs.Common.{◌≡◌, ◌⊎◌, inl, inr, ℕ, ◌+◌, ◌*◌, ◌-◌, ◌/◌, ◌%◌, ◌≤◌, ◌<◌, Bool, true, false, Option, None, Some, List, [], ◌++◌, length, take, drop, replicate, refl, sym, ap, ◌∙◌, arith, max, min, slice_index, slice_index_or, map, length-append, length-take}
 use Rattle.std.proofs.lemmas.List.{get_or_past, get_or_append_left, get_or-append_right, get_or-replicate, get_or-take, get_or-drop, length-replicate}
 use Rattle.std.proofs.lemmas.List.FromFn.{length-map-range_with_len, get_or-map-range_with_len}
-use Rattle.std.proofs.lemmas.List.Sums.{position_or_len_is, fails_before_first, passes_at_first}
-use Rattle.std.proofs.lemmas.Bool.{cases_Bool, cases_lt, cond-true, cond-false, eqb-true, lt-ltb, le-ltb}
-use Rattle.std.proofs.lemmas.Bool.Decides.{nat_tests}
+use Rattle.std.proofs.lemmas.Bool.{cases_lt, lt-ltb, le-ltb}
 use Rattle.std.specs.List.{range_with_len}
 use Rattle.std.specs.declared.sync.Arc.{Arc}
 use Rattle.std.specs.Global.{Vec, Global}
@@ -12,8 +10,10 @@ use Rattle.asc_model.specs.Number.{word_at}
 use Rattle.asc_model.proofs.Numbers.{word_at-from_le_bytes}
 use Rattle.asc_pages.specs.Marks.{IsUnlisted, IsUnmarked}
 use Rattle.asc_pages.specs.Pages.{Page, Group, held, page_bytes, page_in, with_gap, group_in, IsPage, ArePages, AreGroups, IsShared, Tells, Keeps}
-use Rattle.asc_pages.specs.Tops.{HasRemainders, bytes_in, end_of, groups_in, page_of, patch_of, place_of}
+use Rattle.asc_pages.specs.Numbers.{end_of, place_of}
+use Rattle.asc_pages.specs.Tops.{bytes_in, groups_in, page_of}
 use Rattle.asc_pages.specs.declared.pages.Top.{Top}
+use Rattle.asc_pages.proofs.Places.{end_each, past_unlisted, place_found, place_past}
 
 -- ---- what is shared
 
@@ -68,75 +68,22 @@ group_high groups low gap g inside above =
     ∙ get_or-drop low groups (g - low - gap) None
     ∙ ap (λ k. slice_index_or groups k None) (let e : low + (g - low - gap) ≡ g - gap = omega arith in e)
 
--- ---- pages that stand in the place of others
-
-pub place_is : (patched : List ℕ) (p k : ℕ) → k ≤ length patched → ((j : ℕ) → j < k → slice_index patched j ≢ p) → (k < length patched → slice_index patched k ≡ p) → place_of patched p ≡ k
-unfolding place_of
-place_is patched p k most others here = position_or_len_is (λ n. nat_eq n p) patched k 0 most (λ j below. let h = others j below in grind (arith, nat_tests)) (λ inside. eq-eqb _ _ (here inside))
-
-pub place_found : (patched : List ℕ) (p : ℕ) → place_of patched p < length patched → slice_index patched (place_of patched p) ≡ p
-unfolding place_of
-place_found patched p found = eqb-true _ _ (passes_at_first (λ n. nat_eq n p) patched 0 found)
-
-pub place_past : (patched : List ℕ) (p : ℕ) → IsUnlisted patched p → length patched ≤ place_of patched p
-place_past patched p other = elim (cases_lt (place_of patched p) (length patched)) [
-  | inl found ↦ absurd (other (place_of patched p) found (place_found patched p found))
-  | inr past ↦ past
-]
-
-pub past_unlisted : (patched : List ℕ) (p : ℕ) → length patched ≤ place_of patched p → IsUnlisted patched p
-unfolding place_of
-past_unlisted patched p past j below same =
-    let no : nat_eq (slice_index patched j) p ≡ false = fails_before_first (λ n. nat_eq n p) patched j 0 (omega arith) in
-    let yes : nat_eq (slice_index patched j) p ≡ true = eq-eqb _ _ same in
-    cc
-
--- ---- patches
-
-pub patch_found : (top : Top) (p : ℕ) → patch_of top p < length top.patched.items → slice_index top.patched.items (patch_of top p) ≡ p
-unfolding patch_of
-patch_found top p found = elim (cases_Bool (slice_index_or top.has (p % 32) false)) [
-  | inl there ↦
-      let at : patch_of top p ≡ place_of top.patched.items p = cond-true _ _ _ there in
-      ap (λ k. slice_index top.patched.items k) at ∙ place_found top.patched.items p (omega (arith, at, found))
-  | inr apart ↦ let at : patch_of top p ≡ length top.patched.items = cond-false _ _ _ apart in absurd (omega (arith, at, found))
-]
-
-pub patch_past : (top : Top) (p : ℕ) → IsUnlisted top.patched.items p → length top.patched.items ≤ patch_of top p
-unfolding patch_of
-patch_past top p other = elim (cases_Bool (slice_index_or top.has (p % 32) false)) [
-  | inl there ↦ let at : patch_of top p ≡ place_of top.patched.items p = cond-true _ _ _ there in omega (arith, at, place_past top.patched.items p other)
-  | inr apart ↦ let at : patch_of top p ≡ length top.patched.items = cond-false _ _ _ apart in omega (arith, at)
-]
-
-pub patch_past_unlisted : (top : Top) (p : ℕ) → HasRemainders top.has top.patched.items → length top.patched.items ≤ patch_of top p → IsUnlisted top.patched.items p
-unfolding patch_of
-patch_past_unlisted top p has past j below same =
-    let there : slice_index_or top.has (p % 32) false ≡ true = ap (λ q. slice_index_or top.has (q % 32) false) (sym same) ∙ has j below in
-    let at : patch_of top p ≡ place_of top.patched.items p = cond-true _ _ _ there in
-    past_unlisted top.patched.items p (omega (arith, at, past)) j below same
-
-end_each : (patched : List ℕ) (k : ℕ) → k < length patched → slice_index patched k < end_of patched
-end_each [] k below = absurd (omega arith)
-end_each (p ∷ patched) zero below = omega arith
-end_each (p ∷ patched) (suc k) below = let h = end_each patched k (omega arith) in omega arith
-
 -- ---- pages
 
 -- one that stands in the place of another
-pub page_patched : (top : Top) (p : ℕ) → patch_of top p < length top.patched.items → page_of top p ≡ page_in top.patches.items (patch_of top p)
+pub page_patched : (top : Top) (p : ℕ) → place_of top.patched p < length top.patched → page_of top p ≡ page_in top.patches.items (place_of top.patched p)
 unfolding page_of
 page_patched top p found = rw lt-ltb
 
 -- one of a group
-pub page_plain : (top : Top) (p : ℕ) → length top.patched.items ≤ patch_of top p → page_of top p ≡ page_in (group_in (groups_in top.groups) (p / 32)) (p % 32)
+pub page_plain : (top : Top) (p : ℕ) → length top.patched ≤ place_of top.patched p → page_of top p ≡ page_in (group_in (groups_in top.groups) (p / 32)) (p % 32)
 unfolding page_of
 page_plain top p past = rw le-ltb
 
 -- one behind the last
-page_past : (top : Top) (p : ℕ) → 32 * length (groups_in top.groups) ≤ p → end_of top.patched.items ≤ p → page_of top p ≡ []
-page_past top p behind higher = elim (cases_lt (patch_of top p) (length top.patched.items)) [
-  | inl found ↦ absurd (omega (arith, end_each top.patched.items (patch_of top p) found, patch_found top p found))
+page_past : (top : Top) (p : ℕ) → 32 * length (groups_in top.groups) ≤ p → end_of top.patched ≤ p → page_of top p ≡ []
+page_past top p behind higher = elim (cases_lt (place_of top.patched p) (length top.patched)) [
+  | inl found ↦ absurd (omega (arith, end_each top.patched (place_of top.patched p) found, place_found top.patched p found))
   | inr past ↦ page_plain top p past
       ∙ ap (λ (group : Option Group). page_in (held group) (p % 32)) (get_or_past (groups_in top.groups) (p / 32) None (omega arith))
       ∙ none_in (p % 32)
@@ -148,7 +95,7 @@ pub byte-bytes_in : (top : Top) (i : ℕ) → slice_index (bytes_in top) i ≡ s
 unfolding bytes_in
 byte-bytes_in top i =
     let byte = λ (j : ℕ). slice_index (page_of top (j / 1024)) (j % 1024) in
-    let n = 1024 * max (32 * length (groups_in top.groups)) (end_of top.patched.items) in
+    let n = 1024 * max (32 * length (groups_in top.groups)) (end_of top.patched) in
     elim (cases_lt i n) [
       | inl within ↦ get_or-map-range_with_len byte 0 n i i 0 within (omega arith)
       | inr past ↦ get_or_past (bytes_in top) i 0 (omega (arith, length-map-range_with_len byte 0 n))
@@ -170,11 +117,11 @@ kept_page marks bytes top p kept free i far inside here =
 
 -- and one of a group
 pub kept_plain : (marks : List Bool) (bytes : List ℕ) (top : Top) (g k : ℕ) → Keeps marks (bytes_in top) bytes → k < 32 → slice_index_or marks (32 * g + k) true ≡ false
-    → IsUnlisted top.patched.items (32 * g + k) → IsPage bytes (32 * g + k) (page_in (group_in (groups_in top.groups) g) k)
+    → IsUnlisted top.patched (32 * g + k) → IsPage bytes (32 * g + k) (page_in (group_in (groups_in top.groups) g) k)
 kept_plain marks bytes top g k kept within free other i far inside here =
     let groups = groups_in top.groups in
     kept_page marks bytes top (32 * g + k) kept free i far inside here
-    ∙ ap (λ (l : List ℕ). slice_index l (i % 1024)) (page_plain top (32 * g + k) (patch_past top (32 * g + k) other)
+    ∙ ap (λ (l : List ℕ). slice_index l (i % 1024)) (page_plain top (32 * g + k) (place_past top.patched (32 * g + k) other)
     ∙ ap (λ h. page_in (group_in groups h) ((32 * g + k) % 32)) (let e : (32 * g + k) / 32 ≡ g = omega arith in e)
     ∙ ap (λ j. page_in (group_in groups g) j) (let e : (32 * g + k) % 32 ≡ k = omega arith in e))
 
@@ -183,34 +130,34 @@ told : (bytes : List ℕ) (top : Top) → ((p : ℕ) → IsPage bytes p (page_of
 told bytes top each i far inside = each (i / 1024) i far inside refl ∙ sym (byte-bytes_in top i)
 
 -- groups alone
-pub told_whole : (bytes : List ℕ) (top : Top) → AreGroups bytes (groups_in top.groups) → top.patched.items ≡ [] → Tells (bytes_in top) bytes
+pub told_whole : (bytes : List ℕ) (top : Top) → AreGroups bytes (groups_in top.groups) → top.patched ≡ [] → Tells (bytes_in top) bytes
 told_whole bytes top each none = told bytes top
     (λ p i far inside here. each (p / 32) (p % 32) (omega arith) i far inside (omega arith)
     ∙ ap (λ (l : List ℕ). slice_index l (i % 1024)) (sym (page_plain top p (let e = ap (λ (l : List ℕ). length l) none in omega arith))))
 
 -- those of a base, and pages that stand in the place of theirs
 pub told_patched : (marks : List Bool) (bytes : List ℕ) (base top : Top) → length marks ≡ length bytes / 1024 + 1 → Keeps marks (bytes_in base) bytes
-    → groups_in top.groups ≡ groups_in base.groups → HasRemainders top.has top.patched.items
-    → ((p : ℕ) → IsUnlisted top.patched.items p → IsUnlisted base.patched.items p × (p < length marks → slice_index_or marks p true ≡ false))
-    → ((k : ℕ) → k < length top.patched.items → IsPage bytes (slice_index top.patched.items k) (page_in top.patches.items k)) → Tells (bytes_in top) bytes
-told_patched marks bytes base top size kept same has others each = told bytes top
-    (λ p. elim (cases_lt (patch_of top p) (length top.patched.items)) [
-      | inl found ↦ λ i far inside here. each (patch_of top p) found i far inside (here ∙ sym (patch_found top p found))
+    → groups_in top.groups ≡ groups_in base.groups
+    → ((p : ℕ) → IsUnlisted top.patched p → IsUnlisted base.patched p × (p < length marks → slice_index_or marks p true ≡ false))
+    → ((k : ℕ) → k < length top.patched → IsPage bytes (slice_index top.patched k) (page_in top.patches.items k)) → Tells (bytes_in top) bytes
+told_patched marks bytes base top size kept same others each = told bytes top
+    (λ p. elim (cases_lt (place_of top.patched p) (length top.patched)) [
+      | inl found ↦ λ i far inside here. each (place_of top.patched p) found i far inside (here ∙ sym (place_found top.patched p found))
           ∙ ap (λ (l : List ℕ). slice_index l (i % 1024)) (sym (page_patched top p found))
       | inr past ↦ λ i far inside here.
-          let other = others p (patch_past_unlisted top p has past) in
+          let other = others p (past_unlisted top.patched p past) in
           kept_page marks bytes base p kept (other.1 (omega arith)) i far inside here
-          ∙ ap (λ (l : List ℕ). slice_index l (i % 1024)) (page_plain base p (patch_past base p other.0)
+          ∙ ap (λ (l : List ℕ). slice_index l (i % 1024)) (page_plain base p (place_past base.patched p other.0)
           ∙ ap (λ (groups : List (Option Group)). page_in (group_in groups (p / 32)) (p % 32)) (sym same)
           ∙ sym (page_plain top p past))
     ])
 
 -- no pages have no bytes
-pub bytes_of_none : (top : Top) → groups_in top.groups ≡ [] → top.patched.items ≡ [] → bytes_in top ≡ []
+pub bytes_of_none : (top : Top) → groups_in top.groups ≡ [] → top.patched ≡ [] → bytes_in top ≡ []
 unfolding bytes_in
 bytes_of_none top groups patched =
     let byte = λ (j : ℕ). slice_index (page_of top (j / 1024)) (j % 1024) in
-    let none : 1024 * max (32 * length (groups_in top.groups)) (end_of top.patched.items) ≡ 0 =
+    let none : 1024 * max (32 * length (groups_in top.groups)) (end_of top.patched) ≡ 0 =
     omega (arith, ap (λ (l : List (Option Group)). length l) groups, ap (λ (l : List ℕ). end_of l) patched) in
     ap (λ n. map byte (range_with_len 0 n)) none
 
@@ -261,7 +208,7 @@ written_over bytes new zeros rest behind n k m least same is count blank i withi
 
 -- a group that is shared
 pub group_shared : (marks : List Bool) (bytes : List ℕ) (top : Top) (g : ℕ) (group : Option Group) → length marks ≡ length bytes / 1024 + 1 → Keeps marks (bytes_in top) bytes
-    → IsUnmarked marks (32 * g) 32 → ((k : ℕ) → k < 32 → IsUnlisted top.patched.items (32 * g + k)) → IsShared group (slice_index_or (groups_in top.groups) g None)
+    → IsUnmarked marks (32 * g) 32 → ((k : ℕ) → k < 32 → IsUnlisted top.patched (32 * g + k)) → IsShared group (slice_index_or (groups_in top.groups) g None)
     → ArePages bytes (32 * g) (held group)
 group_shared marks bytes top g group size kept free others shared k within i far inside here =
     kept_plain marks bytes top g k kept within (free (32 * g + k) (omega arith) (omega arith) (omega arith)) (others k within) i far inside here
@@ -269,7 +216,7 @@ group_shared marks bytes top g group size kept free others shared k within i far
 
 -- a page behind those that are written
 pub page_behind : (marks : List Bool) (bytes : List ℕ) (top : Top) (g used k : ℕ) (pages : List (Option Page)) → length marks ≡ length bytes / 1024 + 1 → Keeps marks (bytes_in top) bytes
-    → IsUnmarked marks (32 * g + used) (32 - used) → ((k : ℕ) → used ≤ k → k < 32 → IsUnlisted top.patched.items (32 * g + k)) → k < 32
+    → IsUnmarked marks (32 * g + used) (32 - used) → ((k : ℕ) → used ≤ k → k < 32 → IsUnlisted top.patched (32 * g + k)) → k < 32
     → length pages ≤ k → length pages ≡ min (max used (length (group_in (groups_in top.groups) g))) (min (32 * g + 32) (length marks) - 32 * g) → IsPage bytes (32 * g + k) (page_in pages k)
 page_behind marks bytes top g used k pages size kept free others within past count i far inside here =
     kept_plain marks bytes top g k kept within (free (32 * g + k) (omega arith) (omega arith) (omega arith)) (others k (omega arith) within) i far inside here
@@ -277,7 +224,7 @@ page_behind marks bytes top g used k pages size kept free others within past cou
 
 -- the pages of a group
 pub group_made : (marks : List Bool) (bytes : List ℕ) (top : Top) (g used : ℕ) (pages : List (Option Page)) → length marks ≡ length bytes / 1024 + 1 → Keeps marks (bytes_in top) bytes
-    → IsUnmarked marks (32 * g + used) (32 - used) → ((k : ℕ) → used ≤ k → k < 32 → IsUnlisted top.patched.items (32 * g + k))
+    → IsUnmarked marks (32 * g + used) (32 - used) → ((k : ℕ) → used ≤ k → k < 32 → IsUnlisted top.patched (32 * g + k))
     → length pages ≡ min (max used (length (group_in (groups_in top.groups) g))) (min (32 * g + 32) (length marks) - 32 * g)
     → ((k : ℕ) → k < length pages → IsPage bytes (32 * g + k) (page_bytes (slice_index_or pages k None))) → ArePages bytes (32 * g) pages
 group_made marks bytes top g used pages size kept free others count each k within = elim (cases_lt k (length pages)) [
@@ -288,7 +235,7 @@ group_made marks bytes top g used pages size kept free others count each k withi
 -- groups of which a run is left out
 pub groups_made : (marks : List Bool) (bytes : List ℕ) (top : Top) (groups : List (Option Group)) (low gap : ℕ) → length marks ≡ length bytes / 1024 + 1
     → Keeps marks (bytes_in top) bytes → IsUnmarked marks (32 * low) (32 * gap)
-    → ((j : ℕ) → j < length top.patched.items → (slice_index top.patched.items j / 32 < low) ⊎ (low + gap ≤ slice_index top.patched.items j / 32))
+    → ((j : ℕ) → j < length top.patched → (slice_index top.patched j / 32 < low) ⊎ (low + gap ≤ slice_index top.patched j / 32))
     → ((g : ℕ) → low ≤ g → g < low + gap → slice_index_or (groups_in top.groups) g None ≡ None)
     → low ≤ length groups → length marks ≤ 32 * (length groups + gap)
     → ((k : ℕ) → k < length groups → k < low → ArePages bytes (32 * k) (group_in groups k))

@@ -1,8 +1,8 @@
 -- Lemmas on how many pages and which groups may have marks.
 use Rattle.std.proofs.Common.{◌≡◌, ◌≢◌, inl, inr, cond, false, ℕ, ◌+◌, ◌*◌, ◌-◌, ◌/◌, ◌%◌, ◌≤◌, ◌<◌, Bool, true, List, [], ◌∷◌, ◌++◌, length, replicate, max, sym, ap, ◌∙◌, arith, slice_index, slice_index_or, slice_set, length-append, refl}
 use Rattle.std.proofs.lemmas.List.{get_or-replicate, length-replicate, get_or-set_same, get_or-set_other, length-set, ext_get_or, get_or_append_left, get_or-append_right}
-use Rattle.std.proofs.lemmas.Bool.{cases_eq, cases_lt}
-use Rattle.std.proofs.lemmas.List.Sums.{sum_by-set}
+use Rattle.std.proofs.lemmas.Bool.{cases_Bool, cases_eq, cases_lt}
+use Rattle.std.proofs.lemmas.List.Sums.{count_by-le-length, sum_by-set}
 use Rattle.asc_pages.specs.Marks.{AreMarks, IsGroupUnlisted, IsUnlisted, IsUnmarked, marked_in}
 
 -- ---- how many are marked
@@ -13,6 +13,11 @@ one_marked pages p within unmarked =
     let f : Bool → ℕ = λ mark. cond mark 1 0 in
     let none : f (slice_index_or pages p true) ≡ 0 = ap f unmarked in
     omega (arith, sum_by-set f pages p true true within, none)
+
+-- where one is not, not all are
+pub some_unmarked : (pages : List Bool) (p : ℕ) → p < length pages → slice_index_or pages p true ≡ false → marked_in pages < length pages
+some_unmarked pages p within unmarked =
+    omega (arith, one_marked pages p within unmarked, count_by-le-length (λ (mark : Bool). mark) (slice_set pages p true), length-set pages p true)
 
 -- ---- listed pages
 
@@ -52,13 +57,13 @@ group_apart listed new p g is other same =
     other (length listed) (omega arith) (ap (λ q. q / 32) (last_listed listed new p (length listed) is refl) ∙ same)
 
 -- where page p is marked and listed
-pub marked_more : (was more : Bool) (listed new groups : List ℕ) (pages : List Bool) (p g many : ℕ) → AreMarks was listed groups pages → p < length pages → g ≡ p / 32
-    → many ≡ max (slice_index groups g) (p % 32 + 1) → (more ≡ false → (was ≡ false) × (new ≡ listed ++ p ∷ []))
-    → AreMarks more new (slice_set groups g many) (slice_set pages p true)
-marked_more was more listed new groups pages p g many so inside group far list =
+pub marked_more : (all : Bool) (listed new groups : List ℕ) (pages : List Bool) (p g many : ℕ) → AreMarks all listed groups pages → p < length pages → slice_index_or pages p true ≡ false → g ≡ p / 32
+    → many ≡ max (slice_index groups g) (p % 32 + 1) → new ≡ listed ++ p ∷ [] → AreMarks all new (slice_set groups g many) (slice_set pages p true)
+marked_more all listed new groups pages p g many so inside unmarked group far is =
     let count : length (slice_set pages p true) ≡ length pages = length-set pages p true in
     let size : length (slice_set groups g many) ≡ length groups = length-set groups g many in
     let known : g < length groups = let h = so.least in omega arith in
+    let longer = listed_size listed new p is in
     record {
       least = let h = so.least in omega arith;
       most = let h = so.most in omega arith;
@@ -71,23 +76,31 @@ marked_more was more listed new groups pages p g many so inside group far list =
             let read : slice_index (slice_set groups g many) (q / 32) ≡ slice_index groups (q / 32) = get_or-set_other groups g (q / 32) many 0 apart in
             get_or-set_other pages p q true true (omega arith) ∙ so.free q (omega arith) (omega arith)
       ];
-      within = λ none j below. let l = list none in
-          let longer = listed_size listed new p l.1 in
-          elim (cases_lt j (length listed)) [
-            | inl old ↦ let e = listed_first listed new p j l.1 old in let h = so.within l.0 j old in omega arith
-            | inr last ↦ let e = last_listed listed new p j l.1 (omega arith) in omega arith
-          ];
-      few = λ none q within other. let l = list none in
-          let apart : p ≢ q = listed_apart listed new p q l.1 other in
-          get_or-set_other pages p q true true (λ same. apart (sym same)) ∙ so.few l.0 q (omega arith) (listed_before listed new p q l.1 other);
-      blank = λ none h other. let l = list none in
-          let apart : p / 32 ≢ h = group_apart listed new p h l.1 other in
-          get_or-set_other groups g h many 0 (λ same. apart (sym (same ∙ group))) ∙ so.blank l.0 h (group_before listed new p h l.1 other);
+      full = λ yes. absurd (omega (arith, so.full yes, some_unmarked pages p inside unmarked));
+      count = λ none. longer ∙ ap (λ n. n + 1) (so.count none) ∙ sym (one_marked pages p inside unmarked);
+      within = λ none j below. elim (cases_lt j (length listed)) [
+        | inl old ↦ let e = listed_first listed new p j is old in let h = so.within none j old in omega arith
+        | inr last ↦ let e = last_listed listed new p j is (omega arith) in omega arith
+      ];
+      few = λ none q within other.
+          let apart : p ≢ q = listed_apart listed new p q is other in
+          get_or-set_other pages p q true true (λ same. apart (sym same)) ∙ so.few none q (omega arith) (listed_before listed new p q is other);
+      blank = λ none h other.
+          let apart : p / 32 ≢ h = group_apart listed new p h is other in
+          get_or-set_other groups g h many 0 (λ same. apart (sym (same ∙ group))) ∙ so.blank none h (group_before listed new p h is other);
     }
 
+-- and there is room for it
+pub room_left : (all : Bool) (listed groups : List ℕ) (pages : List Bool) (p room : ℕ) → AreMarks all listed groups pages → p < length pages → slice_index_or pages p true ≡ false
+    → length pages ≤ room → length listed < room
+room_left all listed groups pages p room so within unmarked least = elim (cases_Bool all) [
+  | inl full ↦ absurd (omega (arith, so.full full, some_unmarked pages p within unmarked))
+  | inr none ↦ omega (arith, so.count none, some_unmarked pages p within unmarked)
+]
+
 -- the pages of a group behind those that count are not marked
-pub unmarked_pages : (more : Bool) (listed groups : List ℕ) (pages : List Bool) (g many : ℕ) → AreMarks more listed groups pages → slice_index groups g ≤ many → IsUnmarked pages (32 * g + many) (32 - many)
-unmarked_pages more listed groups pages g many so far p least most within =
+pub unmarked_pages : (all : Bool) (listed groups : List ℕ) (pages : List Bool) (g many : ℕ) → AreMarks all listed groups pages → slice_index groups g ≤ many → IsUnmarked pages (32 * g + many) (32 - many)
+unmarked_pages all listed groups pages g many so far p least most within =
     let group : p / 32 ≡ g = omega arith in
     let read : slice_index groups (p / 32) ≡ slice_index groups g = ap (λ k. slice_index groups k) group in
     so.free p within (omega arith)

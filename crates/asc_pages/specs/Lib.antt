@@ -1,3 +1,4 @@
 pub mod Marks
+pub mod Numbers
 pub mod Pages
 pub mod Tops

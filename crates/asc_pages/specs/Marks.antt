@@ -19,12 +19,14 @@ IsUnlisted listed p = (j : ℕ) → j < length listed → slice_index listed j �
 abbrev pub IsGroupUnlisted : List ℕ → ℕ → Type 0
 IsGroupUnlisted listed g = (j : ℕ) → j < length listed → slice_index listed j / 32 ≢ g
 
--- It is told up to which page of each group one may be marked. And each page that has a mark is listed, unless there are
--- more than the list holds.
-pub record AreMarks (more : Bool) (listed groups : List ℕ) (pages : List Bool) : Type 0 where
+-- It is told up to which page of each group one may be marked. And each page that has a mark is listed once, unless all
+-- pages have one.
+pub record AreMarks (all : Bool) (listed groups : List ℕ) (pages : List Bool) : Type 0 where
   pub least : length pages ≤ 32 * length groups
   pub most : 32 * length groups < length pages + 32
   pub free : (p : ℕ) → p < length pages → slice_index groups (p / 32) ≤ p % 32 → slice_index_or pages p true ≡ false
-  pub within : more ≡ false → (j : ℕ) → j < length listed → slice_index listed j < length pages
-  pub few : more ≡ false → (p : ℕ) → p < length pages → IsUnlisted listed p → slice_index_or pages p true ≡ false
-  pub blank : more ≡ false → (g : ℕ) → IsGroupUnlisted listed g → slice_index groups g ≡ 0
+  pub full : all ≡ true → marked_in pages ≡ length pages
+  pub count : all ≡ false → length listed ≡ marked_in pages
+  pub within : all ≡ false → (j : ℕ) → j < length listed → slice_index listed j < length pages
+  pub few : all ≡ false → (p : ℕ) → p < length pages → IsUnlisted listed p → slice_index_or pages p true ≡ false
+  pub blank : all ≡ false → (g : ℕ) → IsGroupUnlisted listed g → slice_index groups g ≡ 0

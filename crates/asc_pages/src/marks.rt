@@ -1,4 +1,4 @@
-ghost use Rattle.std.specs.Prelude.{◌≡◌, ◌⊎◌, ◌+◌, ◌*◌, ◌-◌, ◌/◌, ◌^◌, ◌<◌, ◌≤◌, ℕ, [], ◌∷◌, ◌++◌, true, false, IfOk, IfSome, length, replicate, slice_index, slice_index_or, slice_set};
+ghost use Rattle.std.specs.Prelude.{◌≡◌, ◌⊎◌, ◌+◌, ◌*◌, ◌-◌, ◌/◌, ◌^◌, ◌<◌, ◌≤◌, ℕ, [], ◌∷◌, ◌++◌, true, false, IfNone, IfOk, IfSome, length, nat_eq, replicate, slice_index, slice_index_or, slice_set};
 ghost use Rattle.asc_pages.specs.Marks.{AreMarks, IsUnlisted, IsUnmarked, marked_in};
 
 use crate::pages::GROUP;
@@ -14,23 +14,23 @@ pub struct Marks {
     pages: Vec<bool>,
     // For each group, up to which of its pages one may be marked.
     groups: Vec<usize>,
-    // The pages that have marks, as they got them, and whether there are more.
+    // The pages that have marks, as they got them, unless all have one.
     listed: Vec<usize>,
-    more: bool,
+    all: bool,
     // How many pages are marked.
     marked: usize,
 }
 
 impl Model for Marks {
     ghost use Rattle.asc_pages.specs.Marks.{AreMarks, marked_in};
-    ghost use Rattle.std.specs.Prelude.{◌≡◌, List, Bool};
+    ghost use Rattle.std.specs.Prelude.{◌≡◌, ◌≤◌, List, Bool, length, vec_capacity};
 
     ghost Value = { List Bool };
 
     ghost view = { λ m. m.pages.items };
 
-    ghost invariant = { λ m. AreMarks m.more m.listed.items m.groups.items m.pages.items
-        × (m.marked ≡ marked_in m.pages.items) };
+    ghost invariant = { λ m. AreMarks m.all m.listed.items m.groups.items m.pages.items
+        × ((m.marked ≡ marked_in m.pages.items) × (length m.pages.items ≤ vec_capacity m.listed)) };
 }
 
 impl Marks {
@@ -44,7 +44,7 @@ impl Marks {
             pages: vec![in alloc; false; count]?,
             groups: vec![in alloc; 0; groups]?,
             listed: Vec::with_capacity(alloc, count)?,
-            more: false,
+            all: false,
             marked: 0,
         })
     }
@@ -74,21 +74,24 @@ impl Marks {
         self.pages[p]
     }
 
-    /// Whether no page is known to be marked.
+    /// Whether no page is marked.
     #[inline]
     pub fn is_clear(&self) -> bool
-        ensures { result ≡ true → IsUnmarked self.now 0 (length self.now) }
+        ensures count { result ≡ nat_eq (marked_in self.now) 0 }
+        ensures pages { result ≡ true → IsUnmarked self.now 0 (length self.now) }
     {
-        !self.more && self.listed.is_empty()
+        self.marked == 0
     }
 
-    /// The pages that are marked, each where it got its mark, unless there are more than are listed.
+    /// The pages that are marked, in the order in which they got their marks, unless all are.
     #[inline]
     pub(crate) fn listed(&self) -> Option<&[usize]>
-        ensures { IfSome result (λ pages. (p : ℕ) → p < length self.now → IsUnlisted pages.now p
+        ensures pages { IfSome result (λ pages. (p : ℕ) → p < length self.now → IsUnlisted pages.now p
             → slice_index_or self.now p true ≡ false) }
+        ensures count { IfSome result (λ pages. length pages.now ≡ marked_in self.now) }
+        ensures all { IfNone result (marked_in self.now ≡ length self.now) }
     {
-        if self.more { None } else { Some(&self.listed) }
+        if self.all { None } else { Some(&self.listed) }
     }
 
     /// A part of the groups from one on up to another one in which no page is marked.
@@ -99,7 +102,7 @@ impl Marks {
         ensures within { (from ≤ result.0) × (result.1 ≤ to) }
         ensures free { IsUnmarked self.now (32 * result.0) (32 * (result.1 - result.0)) }
     {
-        if self.more {
+        if self.all {
             (to, to)
         } else {
             without_pages(from, to, &self.listed)
@@ -139,7 +142,7 @@ impl Marks {
         self.pages[p] = true;
         self.marked += 1;
         self.groups[g] = self.groups[g].max(p % GROUP + 1);
-        list_page(&mut self.listed, &mut self.more, p);
+        self.listed.push_reserved(p);
     }
 
     /// Marks all pages.
@@ -148,7 +151,7 @@ impl Marks {
     {
         self.pages.fill(true);
         self.groups.fill(GROUP);
-        self.more = true;
+        self.all = true;
         self.marked = self.pages.len();
     }
 
@@ -157,9 +160,9 @@ impl Marks {
         requires { length self.old < 2 ^ 32 }
         ensures { self.new ≡ replicate (length self.old) false }
     {
-        unmark(&mut self.pages, &mut self.groups, &self.listed, self.more);
+        unmark(&mut self.pages, &mut self.groups, &self.listed, self.all);
         self.listed.clear();
-        self.more = false;
+        self.all = false;
         self.marked = 0;
     }
 }
@@ -197,26 +200,14 @@ fn without_group(from: usize, to: usize, g: usize) -> (usize, usize)
     }
 }
 
-// Lists a page that has its mark, or says that there are more where the list is full.
+// Takes all marks away: those of the listed pages, or where all pages have one, every one.
 #[inline]
-fn list_page(listed: &mut Vec<usize>, more: &mut bool, p: usize)
-    ensures { more.new ≡ false → (more.old ≡ false) × (listed.new.items ≡ listed.old.items ++ p ∷ []) }
-{
-    if listed.len() < listed.capacity() {
-        listed.push_reserved(p);
-    } else {
-        *more = true;
-    }
-}
-
-// Takes all marks away: those of the listed pages, or where there are more, every one.
-#[inline]
-fn unmark(pages: &mut [bool], groups: &mut [usize], listed: &[usize], more: bool)
-    requires marks { AreMarks more listed.now groups.old pages.old }
+fn unmark(pages: &mut [bool], groups: &mut [usize], listed: &[usize], all: bool)
+    requires marks { AreMarks all listed.now groups.old pages.old }
     ensures pages { pages.new ≡ replicate (length pages.old) false }
     ensures groups { groups.new ≡ replicate (length groups.old) 0 }
 {
-    if more {
+    if all {
         pages.fill(false);
         groups.fill(0);
         return;

@@ -2,10 +2,11 @@ ghost use Rattle.std.specs.Prelude.{◌≡◌, ◌≢◌, ◌⊎◌, ◌+◌, �
 ghost use Rattle.asc_model.specs.Number.{word_at};
 ghost use Rattle.asc_pages.specs.Marks.{IsUnlisted, IsUnmarked};
 ghost use Rattle.asc_pages.specs.Pages.{Group, IsPage, ArePages, AreGroups, Keeps, Tells, IsShared, base_bytes, group_in, held, page_bytes, page_in, with_gap};
-ghost use Rattle.asc_pages.specs.Tops.{HasRemainders, bytes_in, groups_in, page_of, patch_of, place_of};
+ghost use Rattle.asc_pages.specs.Tops.{bytes_in, groups_in, page_of};
 
 use crate::Marks;
 use crate::marks::without_pages;
+use crate::numbers::Numbers;
 use asc_outside::Memory;
 use std::alloc::Global;
 use std::marker::Model;
@@ -59,10 +60,8 @@ struct Top {
     // Where they are left out they are blank.
     groups: Option<Arc<Groups>>,
     // The numbers of those pages, and the pages.
-    patched: Vec<usize>,
+    patched: Numbers,
     patches: Vec<Page>,
-    // Whether one of those pages may have a number with this remainder by 32. So most others are known by one test.
-    has: [bool; GROUP],
 }
 
 /// Pages of bytes that do not change. They can be shared, also by threads, and share what they have in common with
@@ -216,39 +215,13 @@ pub fn word_in(bytes: &[u8], at: usize) -> u32
     u32::from_le_bytes([part[0], part[1], part[2], part[3]])
 }
 
-// The place of page p among those that stand in the place of others, or their count where it is none of them.
-#[inline]
-fn place_in(patched: &[usize], p: usize) -> usize
-    ensures { result ≡ place_of patched.now p }
-{
-    for (k, number) in patched.iter().enumerate() {
-        if *number == p {
-            return k;
-        }
-    }
-    patched.len()
-}
-
-// The place of what stands in the place of page p, or the count of the patches where nothing does.
-#[inline]
-#[tactic(auto, unfolding(crate::specs::Tops::patch_of))]
-fn patch_of(top: &Top, p: usize) -> usize
-    ensures { result ≡ patch_of top.now p }
-{
-    if top.has[p % GROUP] {
-        place_in(&top.patched, p)
-    } else {
-        top.patched.len()
-    }
-}
-
 // Page p, or nothing where it is blank and left out.
 #[inline]
 fn top_page(top: &Top, p: usize) -> &[u8]
     ensures page { result.now ≡ page_of top.now p }
     ensures size { 0 < length result.now → length result.now ≡ 1024 }
 {
-    let k = patch_of(top, p);
+    let k = top.patched.place(p);
     if k < top.patched.len() {
         page_at(&top.patches, k)
     } else {
@@ -359,7 +332,7 @@ fn share_page(top: &Top, kept: &[Page], p: usize) -> Result<Page, Memory>
     requires { kept.now ≡ group_in (groups_in top.now.groups) (p / 32) }
     ensures { IfOk result (λ page. page_bytes page ≡ page_of top.now p) }
 {
-    let k = patch_of(top, p);
+    let k = top.patched.place(p);
     if k < top.patched.len() {
         share_part(&top.patches, k)
     } else {
@@ -433,9 +406,8 @@ fn no_top(alloc: Global) -> Top
 {
     Top {
         groups: None,
-        patched: Vec::new(alloc),
+        patched: Numbers::new(alloc),
         patches: Vec::new(alloc),
-        has: [false; GROUP],
     }
 }
 
@@ -478,12 +450,12 @@ fn put_top(
 {
     if list_patched(&mut top.patched, base, changed)? {
         top.groups = share(&base.groups)?;
-        top.has = remainders(&top.patched);
         let spare = mem::replace(&mut top.patches, Vec::new(alloc));
-        top.patches = patches_of(alloc, bytes, changed, base, &top.patched, spare)?;
+        top.patches = patches_of(alloc, bytes, changed, base, top.patched.list(), spare)?;
         Ok(())
     } else {
         top.patched.clear();
+        top.patches.clear();
         put_groups(alloc, bytes, changed, base, &mut top.groups)
     }
 }
@@ -491,9 +463,9 @@ fn put_top(
 // Lists the pages that stand in the place of others in the base, and those that are changed, and answers whether it did:
 // they may be too many, and the base may have no groups.
 #[inline]
-fn list_patched(patched: &mut Vec<usize>, base: &Top, changed: &Marks) -> Result<bool, Memory>
-    ensures { IfOk result (λ few. few ≡ true → (p : ℕ) → IsUnlisted patched.new.items p
-        → IsUnlisted base.now.patched.items p × (p < length changed.now → slice_index_or changed.now p true ≡ false)) }
+fn list_patched(patched: &mut Numbers, base: &Top, changed: &Marks) -> Result<bool, Memory>
+    ensures { IfOk result (λ few. few ≡ true → (p : ℕ) → IsUnlisted patched.new p
+        → IsUnlisted base.now.patched p × (p < length changed.now → slice_index_or changed.now p true ≡ false)) }
 {
     if base.groups.is_none() {
         return Ok(false);
@@ -501,8 +473,7 @@ fn list_patched(patched: &mut Vec<usize>, base: &Top, changed: &Marks) -> Result
     let Some(marked) = changed.listed() else {
         return Ok(false);
     };
-    patched.clear();
-    patched.extend_from_slice(&base.patched)?;
+    patched.copy(&base.patched)?;
     for p in marked {
         if !list_changed(patched, &base.patched, *p)? {
             return Ok(false);
@@ -513,11 +484,11 @@ fn list_patched(patched: &mut Vec<usize>, base: &Top, changed: &Marks) -> Result
 
 // Lists a page that is changed, unless it is one of the base's, and answers whether there was room.
 #[inline]
-fn list_changed(patched: &mut Vec<usize>, base: &[usize], p: usize) -> Result<bool, Memory>
-    ensures { IfOk result (λ few. few ≡ true → (q : ℕ) → IsUnlisted patched.new.items q
-        → IsUnlisted patched.old.items q × (IsUnlisted base.now q → p ≢ q)) }
+fn list_changed(patched: &mut Numbers, base: &Numbers, p: usize) -> Result<bool, Memory>
+    ensures { IfOk result (λ few. few ≡ true → (q : ℕ) → IsUnlisted patched.new q
+        → IsUnlisted patched.old q × (IsUnlisted base.now q → p ≢ q)) }
 {
-    if place_in(base, p) < base.len() {
+    if base.place(p) < base.len() {
         return Ok(true);
     }
     if patched.len() >= MOST_PATCHES {
@@ -525,18 +496,6 @@ fn list_changed(patched: &mut Vec<usize>, base: &[usize], p: usize) -> Result<bo
     }
     patched.push(p)?;
     Ok(true)
-}
-
-// Whether one of these numbers has such a remainder by 32.
-#[inline]
-fn remainders(numbers: &[usize]) -> [bool; GROUP]
-    ensures { HasRemainders result numbers.now }
-{
-    let mut has = [false; GROUP];
-    for n in numbers {
-        has[*n % GROUP] = true;
-    }
-    has
 }
 
 // The pages of bytes of these numbers, in the memory of spare ones.
@@ -629,7 +588,7 @@ fn groups_of(
     let count = changed.len().div_ceil(GROUP);
     let blank = blank_run(&base.groups, count);
     let free = changed.free_run(blank.0, blank.1);
-    let (low, end) = without_pages(free.0, free.1, &base.patched);
+    let (low, end) = without_pages(free.0, free.1, base.patched.list());
     let used = low + (count - end);
     let mut list = sized(spare.list, used)?;
     for k in 0..used {
@@ -674,7 +633,7 @@ fn put_group(
     requires kept { Keeps changed.now (bytes_in base.now) bytes.now }
     ensures { IfOk result (λ _. ArePages bytes.now (32 * g) (held group.new)) }
 {
-    if used_pages(changed, &base.patched, g) == 0 {
+    if used_pages(changed, base.patched.list(), g) == 0 {
         *group = share_group(&base.groups, g)?;
         Ok(())
     } else {
@@ -730,7 +689,7 @@ fn pages_of(
     let kept = pages_in(&base.groups, g);
     let from = g * GROUP;
     let room = GROUP.min(changed.len() - from);
-    let used = room.min(kept.len().max(used_pages(changed, &base.patched, g)));
+    let used = room.min(kept.len().max(used_pages(changed, base.patched.list(), g)));
     let mut pages = sized(spare, used)?;
     for k in 0..used {
         put_page(alloc, bytes, changed, base, kept, from + k, &mut pages[k])?;
@@ -779,7 +738,7 @@ fn copy_to(alloc: Global, bytes: &[u8], page: &mut Page) -> Result<(), Memory>
             return Ok(());
         }
     }
-    *page = Some(page_of(alloc, bytes)?);
+    *page = Some(new_page(alloc, bytes)?);
     Ok(())
 }
 
@@ -787,7 +746,7 @@ fn copy_to(alloc: Global, bytes: &[u8], page: &mut Page) -> Result<(), Memory>
 //
 // It stands out of `copy_to`, which would else fill the room for it at each call.
 #[inline(never)]
-fn page_of(alloc: Global, bytes: &[u8]) -> Result<Arc<[u8; PAGE]>, Memory>
+fn new_page(alloc: Global, bytes: &[u8]) -> Result<Arc<[u8; PAGE]>, Memory>
     ensures { IfOk result (λ page. (i : ℕ) → i < 1024 → slice_index page.value i ≡ slice_index bytes.now i) }
 {
     let mut page = [0; PAGE];

@@ -10,7 +10,7 @@ loop-p-preserved c =
     let marks = c.requires.marks in
     let k = c.loop-p.p-index in
     let p = slice_index c.args.listed.now k in
-    let known : p < length c.args.pages.now = marks.within c.if-more.false k c.loop-p-test.true in
+    let known : p < length c.args.pages.now = marks.within c.if-all.false k c.loop-p-test.true in
     record {
       pages = length-set c.loop-p.pages p false ∙ so.pages;
       groups = length-set c.loop-p.groups (p / 32) 0 ∙ so.groups;

@@ -1,5 +1,4 @@
-use Rattle.std.proofs.Common.{List, ℕ, arith, below_more, subst, sym}
-use Rattle.asc_pages.specs.Marks.{IsUnlisted}
+use Rattle.std.proofs.Common.{arith, below_more}
 use Rattle.asc_pages.proofs.pages.list_patched.Goals as goal
 
 pub loop-p-preserved : goal.loop-p-preserved
@@ -9,10 +8,10 @@ loop-p-preserved c =
     record {
       first = λ q other. so.first q (one q other).0;
       marked = λ q other. below_more _ _ (so.marked q (one q other).0)
-          ((one q other).1 (subst (λ (l : List ℕ). IsUnlisted l q) (sym c.deref-in-loop-p.ensures.value) (so.first q (one q other).0)));
+          ((one q other).1 (so.first q (one q other).0));
     }
 
 pub returns : goal.returns
 returns c few p other =
     let so = c.loop-p.invariant in
-    (so.first p other, λ inside. c.in-Some.ensures p inside (λ j below. so.marked p other j (omega arith)))
+    (so.first p other, λ inside. c.in-Some.ensures.pages p inside (λ j below. so.marked p other j (omega arith)))

@@ -5,6 +5,6 @@ use Rattle.asc_pages.proofs.pages.list_patched.Given as goal
 -- the base's pages are listed, and the changed ones so far
 abbrev pub invariant-loop-p : goal.invariant-loop-p
 invariant-loop-p l = record {
-  first : (q : ℕ) → IsUnlisted l.patched.items q → IsUnlisted l.base.patched.items q;
-  marked : (q : ℕ) → IsUnlisted l.patched.items q → (j : ℕ) → j < l.p-index → slice_index l.marked j ≢ q;
+  first : (q : ℕ) → IsUnlisted l.patched q → IsUnlisted l.base.patched q;
+  marked : (q : ℕ) → IsUnlisted l.patched q → (j : ℕ) → j < l.p-index → slice_index l.marked j ≢ q;
 }

@@ -3,4 +3,4 @@ use Rattle.asc_pages.proofs.Copies.{bytes_of_none}
 use Rattle.asc_pages.proofs.pages.no_top.Goals as goal
 
 pub returns : goal.returns
-returns c = bytes_of_none _ refl c.new.ensures.items
+returns c = bytes_of_none _ refl c.new.ensures

@@ -11,4 +11,4 @@ returns c =
     let read : c.index.result.now ≡ slice_index inside.groups.items c.args.g =
     get_or_read inside.groups.items c.args.g c.index.result.now (omega (arith, c.self.invariant.0.least)) c.index.ensures 0 in
     subst (λ (l : List Bool). IsUnmarked l (32 * c.args.g + c.index.result.now) (32 - c.index.result.now)) c.self.view_is
-    (unmarked_pages inside.more inside.listed.items inside.groups.items inside.pages.items c.args.g c.index.result.now c.self.invariant.0 (omega (arith, read)))
+    (unmarked_pages inside.all inside.listed.items inside.groups.items inside.pages.items c.args.g c.index.result.now c.self.invariant.0 (omega (arith, read)))
