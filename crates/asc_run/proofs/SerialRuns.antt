@@ -9,7 +9,7 @@ use Rattle.asc_run.specs.Walk.{tally}
 use Rattle.asc_run.specs.Serial.{made_at}
 use Rattle.asc_run.specs.Helped.{SerialAt, IsSerial}
 use Rattle.asc_run.specs.SerialRun.{Numbers, serial_of}
-use Rattle.asc_run.specs.Laws.{SerialVisitsAreOne, SerialNumbersAreOne}
+use Rattle.asc_run.specs.Laws.{SerialVisitsAreOne, SerialRunsAreOne}
 use Rattle.asc_run.proofs.Marks.{floor, floor_of, same_at, same_visit}
 
 -- a visit lands behind itself
@@ -124,11 +124,13 @@ same_numbers a b e s k h m =
     ∙ ap (λ x. numbers b.executed b.skipped b.asked x a.made) h
     ∙ ap (numbers b.executed b.skipped b.asked b.hits) m
 
-pub serial_numbers_are_one : SerialNumbersAreOne
-serial_numbers_are_one limit run mark shape guessing a b p q =
-    let i = serial_visits_are_one limit run mark (serial_of shape guessing []) p.visits q.visits p.now q.now a.made b.made p.are q.are p.serial q.serial in
+pub serial_runs_are_one : SerialRunsAreOne
+serial_runs_are_one limit run mark shape guessing first a b p q =
+    let i = serial_visits_are_one limit run mark (serial_of shape guessing first) p.visits q.visits p.now q.now a.made b.made p.are q.are p.serial q.serial in
     let e : tally a.asked a.skipped a.hits ≡ tally b.asked b.skipped b.hits = sym p.tally ∙ ap (λ vs. tally_of vs (tally 0 0 0)) i.0 ∙ q.tally in
     let skipped : a.skipped ≡ b.skipped = ap (λ (t : Tally). t.given) e in
     let x = p.executed in
-    let y = q.executed in
-    same_numbers a b (omega (arith, x, y, skipped)) skipped (ap (λ (t : Tally). t.asked) e) (ap (λ (t : Tally). t.hits) e) i.1.1
+    let y = q.executed in (
+      same_numbers a b (omega (arith, x, y, skipped)) skipped (ap (λ (t : Tally). t.asked) e) (ap (λ (t : Tally). t.hits) e) i.1.1,
+      ap (λ (m : Serial). m.content) i.1.0,
+    )

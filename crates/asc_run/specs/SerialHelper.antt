@@ -3,6 +3,7 @@ use Rattle.std.specs.Prelude.{◌≡◌, ◌≢◌, ◌⊎◌, ℕ, ◌+◌, ◌
 use Rattle.std.specs.Arc.{arc_value}
 use Rattle.asc_model.specs.Shape.{Shape}
 use Rattle.asc_model.specs.State.{State}
+use Rattle.asc_model.specs.Entry.{Entry}
 use Rattle.asc_outside.specs.Outside.{one_more}
 use Rattle.asc_find.specs.declared.guessing.Guessing.{Guessing}
 use Rattle.asc_traj.specs.declared.made.Made.{Made}
@@ -71,11 +72,13 @@ IsPlanned number now old new =
     ((now.shape ≡ old.machine.shape) × ((new ≡ planned number now old) ⊎ (new ≡ refused_visit old)))
     ⊎ ((now.shape ≢ old.machine.shape) × (new ≡ passed_over old))
 
+-- an entry is added to those that it keeps
+abbrev pub added : SerialHelper → Entry → SerialHelper
+added h e = record h { machine = record h.machine { content = add run_capacity h.machine.content e } }
+
 -- what became of a guess is noted: an entry is added
 abbrev pub settled : SerialHelper → Made → SerialHelper
-settled h (One entry) = record h {
-  machine = record h.machine { content = add run_capacity h.machine.content (arc_value entry) };
-}
+settled h (One entry) = added h (arc_value entry)
 settled h Empty = h
 settled h Stopped = h
 settled h Refused = record h { refused = one_more h.refused }

@@ -1,5 +1,5 @@
 -- A run without workers: its machine at first, and its numbers.
-use Rattle.std.specs.Prelude.{◌≡◌, ℕ, ◌+◌, Bool, List, [], None}
+use Rattle.std.specs.Prelude.{◌≡◌, ℕ, ◌+◌, Bool, List, None}
 use Rattle.asc_model.specs.Shape.{Shape}
 use Rattle.asc_model.specs.Entry.{Entry}
 use Rattle.asc_find.specs.declared.guessing.Guessing.{Guessing}
@@ -23,15 +23,16 @@ pub record Numbers : Type 0 where
   pub hits : ℕ
   pub made : ℕ
 
--- These are the numbers of a run without workers, with guesses of this kind, from no entry on.
+-- These are the numbers of a run without workers, with guesses of this kind, which has these entries before its first
+-- visit.
 pub record IsSerialRun (limit : ℕ) (mark : ℕ → Bool) (run : Course) (shape : Shape) (guessing : Guessing)
-    (numbers : Numbers) : Type 0 where
+    (first : List Entry) (numbers : Numbers) : Type 0 where
   -- its visits up to the limit: at each the machine learns of the state, and then gives the reply
   pub visits : List Visit
   pub are : AreVisits limit run mark visits limit
   -- the machine at its end, and the guesses that it made
   pub now : Serial
-  pub serial : IsSerial limit run (serial_of shape guessing []) visits now numbers.made
+  pub serial : IsSerial limit run (serial_of shape guessing first) visits now numbers.made
   -- how many visits there were, how many steps their jumps gave, and how many jumps there were
   pub tally : tally_of visits (tally 0 0 0) ≡ tally numbers.asked numbers.skipped numbers.hits
   -- the other steps of the run were executed

@@ -1,7 +1,7 @@
 //! The laws that tie plain execution to the steps of the machine, and a walk's visits to its helper's replies. Each
 //! function stands for the laws that it ensures, and does nothing.
 
-ghost use Rattle.asc_run.specs.Laws.{ProgressIsPlain, RepliesDetermineVisits, SerialVisitsAreOne, SerialNumbersAreOne};
+ghost use Rattle.asc_run.specs.Laws.{ProgressIsPlain, RepliesDetermineVisits, SerialVisitsAreOne, SerialRunsAreOne, SerialRunsAreSavable};
 ghost use Rattle.asc_run.specs.Rows.{Laps, Targets, Strides, Both, Visits};
 
 /// Plain execution without guest calls is plain steps: where `n` plain steps of the state at which a program stands
@@ -19,10 +19,16 @@ pub fn replies_determine_visits()
 
 /// A run without workers has one list of visits up to its limit: its machine, from where it begins, gives each reply. So
 /// the machine at its end is one, and so are its numbers: what was executed and what was jumped over, its visits and its
-/// jumps, and the guesses that were made.
+/// jumps, and the guesses that were made. One are its entries, too.
 pub fn serial_runs_are_one()
     ensures visits { SerialVisitsAreOne }
-    ensures numbers { SerialNumbersAreOne }
+    ensures numbers { SerialRunsAreOne }
+{}
+
+/// What a run without workers keeps may be written to a file of entries. The run is one from a state, over an input of
+/// bytes. Its first entries may be written to a file too, and no guess is of more steps than a file may tell.
+pub fn serial_runs_are_savable()
+    ensures { SerialRunsAreSavable }
 {}
 
 /// A loop that counts, computed from the definitions: its visits for some replies, and what the machine of a run without

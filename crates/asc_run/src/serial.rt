@@ -1,10 +1,12 @@
 ghost use Rattle.std.specs.Prelude.{◌≡◌, ◌^◌, ◌<◌, ◌≤◌, [], ◌∷◌, length, slice_index_or, Some, None, IfOk, MatchOption};
+ghost use Rattle.std.specs.Arc.{arc_value};
 ghost use Rattle.asc_traj.specs.Jump.{IsJump};
 ghost use Rattle.asc_find.specs.Finder.{tally_after, Tells};
 ghost use Rattle.asc_find.specs.Serial.{Serial as machine, serial_reply};
 ghost use Rattle.asc_run.specs.Helped.{aid, Plans, VisitsMachine};
+ghost use Rattle.asc_shard.specs.Content.{outcome_of};
 ghost use Rattle.asc_shard.specs.Shard.{run_capacity};
-ghost use Rattle.asc_run.specs.SerialHelper.{IsPlanned, first_helper, plan_of, settled, told_machine};
+ghost use Rattle.asc_run.specs.SerialHelper.{IsPlanned, added, first_helper, plan_of, settled, told_machine};
 ghost use Rattle.asc_run.specs.SerialInside.{MakesJob};
 ghost use Rattle.asc_run.specs.declared.last_visits.TheConstants.{MOST_AHEAD, MOST_JOBS};
 
@@ -16,8 +18,8 @@ use asc_find::{Finder, Guessing};
 use asc_guess::Kind;
 use asc_outside::Memory;
 use asc_shape::{Shape, Snapshot, State};
-use asc_shard::{RUN_CAPACITY, Shard};
-use asc_traj::{Made, TRACE_CAP};
+use asc_shard::{Inserted, RUN_CAPACITY, Shard};
+use asc_traj::{Entry, Made, TRACE_CAP};
 use std::alloc::Global;
 use std::marker::Model;
 use std::sync::Arc;
@@ -86,6 +88,14 @@ impl Serial {
         ensures { result.now ≡ record { held = self.now.machine.content; capacity = run_capacity } }
     {
         &self.shard
+    }
+
+    /// Adds an entry that another run has kept, as one of its own would be. No allocator is handed in.
+    pub fn preload(&mut self, entry: Arc<Entry>) -> Inserted
+        ensures added { self.new ≡ added self.old (arc_value entry) }
+        ensures outcome { result ≡ outcome_of self.old.machine.content (arc_value entry) }
+    {
+        self.shard.insert(entry)
     }
 
     /// Plans the guesses of a visit, which is the walk's `number`th, and answers how many jobs they are. A copy of the

@@ -108,6 +108,7 @@ impl Walk {
     ghost use Rattle.asc_calls.specs.World.{faults, outside, BlamesOnly};
     ghost use Rattle.asc_run.specs.Helped.{aid, HasRoom};
     ghost use Rattle.asc_run.specs.Visits.{HasBounds};
+    ghost use Rattle.asc_model.specs.State.{IsState};
     ghost use Rattle.asc_run.specs.Walk.{new_walk, device_in, GoesFirst, HelpsFirst};
 
     /// A walk that has not begun. It takes the memory of one state, and of what is noted where an address is to be chosen.
@@ -194,9 +195,10 @@ impl Walk {
         ended
     }
 
-    /// The shape of its state.
+    /// The shape of its state. A caller's proof learns from it that this is a state.
     pub fn shape(&self) -> Shape
-        ensures { result ≡ self.now.state.shape }
+        ensures shape { result ≡ self.now.state.shape }
+        ensures state { IsState self.now.state }
     {
         self.visited.process.state.shape()
     }

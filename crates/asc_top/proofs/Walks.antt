@@ -71,7 +71,7 @@ module _ (line : RunLine) (content : List ℕ) (image : loader.Image) (within : 
   abbrev pub AreSerial : Type 0
   AreSerial = line.workers ≡ 0 → line.report ≡ true → (left : List ℕ) → (run_of_image line image left).count ≡ now.count
       → HasVisits line.limit (is_mark (settings_of line).recognised) image.start goes.visits first last line.limit (course_of_image image left) → last.plan.refused ≡ 0
-      → IsSerialRun line.limit (is_mark (recognised_by line) (course_of_image image left)) (course_of_image image left) image.start.shape (guessing_of line) (numbers_of told)
+      → IsSerialRun line.limit (is_mark (recognised_by line) (course_of_image image left)) (course_of_image image left) image.start.shape (guessing_of line) [] (numbers_of told)
 
   -- where they are asked for, they are those of its visits
   abbrev pub AreSeen : Type 0

@@ -125,7 +125,7 @@ pub record AreNumbersOf (line : RunLine) (image : loader.Image) (left : List ℕ
   -- where there are no workers and memory was never wanting, they are those of a serial run, by its definition
   pub serial : line.workers ≡ 0 → counts.refused ≡ 0
       → IsSerialRun line.limit (is_mark (recognised_by line) (course_of_image image left)) (course_of_image image left)
-      image.start.shape (guessing_of line) (numbers_of counts)
+      image.start.shape (guessing_of line) [] (numbers_of counts)
 
 -- these are the numbers of a loaded file, where it is an image
 abbrev pub AreNumbers : RunLine → Result loader.Image ElfFault → (left : List ℕ) → Counts → Type 0

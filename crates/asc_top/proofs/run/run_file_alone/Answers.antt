@@ -37,7 +37,7 @@ pub returns-in-Ok-new : goal.returns-in-Ok-new
 returns-in-Ok-new g c =
     let line = c.args.line.now in
     let w = c.in-Ok.ensures.walk in
-    let shape_is = c.shape.ensures ∙ ap (λ (walk : Walk). walk.state.shape) w.walk_is in
+    let shape_is = c.shape.ensures.shape ∙ ap (λ (walk : Walk). walk.state.shape) w.walk_is in
     let helper_is : c.in-Ok-new.helper ≡ first_helper w.image.start.shape (guessing_of line) =
     c.in-Ok-new.ensures ∙ (λ i. first_helper (shape_is i) (c.guessing_of.ensures i)) in
     let fresh : IsNew (aid c.in-Ok-new.helper.tally None (plan_of c.in-Ok-new.helper) (told_machine c.in-Ok-new.helper)) = record {
