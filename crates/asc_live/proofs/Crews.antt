@@ -1,5 +1,5 @@
 -- What a walk beside workers comes to.
-use Rattle.std.proofs.Common.{◌≡◌, ℕ, ◌+◌, ◌<◌, List, [], All, get_or, subst, Option, Some, None, refl, sym, ap, ◌∙◌, arith, length}
+use Rattle.std.proofs.Common.{◌≡◌, ℕ, Bool, ◌+◌, ◌<◌, [], Option, Some, None, refl, sym, ap, ◌∙◌, arith, length}
 use Rattle.asc_find.specs.declared.guessing.Guessing.{Guessing}
 use Rattle.asc_find.specs.Finder.{Plan, Queue}
 use Rattle.asc_jobs.specs.Jobs.{Giver}
@@ -8,12 +8,11 @@ use Rattle.asc_run.specs.declared.walk.Ended.{Ended}
 use Rattle.asc_run.specs.Helped.{Aid, aid}
 use Rattle.asc_run.specs.Walk.{Walk, tally}
 use Rattle.asc_run.proofs.Seeings.{visits-asked}
-use Rattle.asc_cache.specs.Cache.{AreOpened, ShardReader, ShardReaders, ShardWriter}
+use Rattle.asc_cache.specs.Cache.{ShardReaders}
 use Rattle.asc_live.specs.Due.{full_of}
 use Rattle.asc_live.specs.Laws.{new_plan}
 use Rattle.asc_live.specs.Live.{Live, IsLive, new_live, queue_of, plan_of}
-use Rattle.asc_shard.specs.Shard.{run_capacity}
-use Rattle.asc_live.specs.Crew.{IsWriterOf, Walks, WentBeside}
+use Rattle.asc_live.specs.Crew.{Walks, WentBeside}
 use Rattle.asc_live.specs.declared.crew.Crew.{Crew}
 use Rattle.asc_live.specs.declared.crew.Worked.{Worked}
 use Rattle.asc_live.proofs.LawsHold.{guesses_are_counted}
@@ -28,8 +27,8 @@ same_queue : (a b : Queue) → Some a ≡ Some b → a ≡ b
 same_queue a b e = ap (λ (q : Option Queue). elim q [ Some q ↦ q | None ↦ a ]) e
 
 -- a walk leaves its helper the queue of which the giver was handed to it
-pub kept_giver : {many : ℕ} → (readers : ShardReaders) (giver : Giver) (guessing : Guessing) (was now : Walk) (old new : Outside) (l k : Live ShardReaders) (ended : Ended) (left : Giver)
-    → l ≡ new_live readers giver guessing many → Walks was now old new (aid_of l) (aid_of k) ended → left ≡ k.pusher.giver → (left.queue ≡ giver.queue) × ((left.opened ≡ giver.opened) × (left.capacity ≡ giver.capacity))
+pub kept_giver : {many : ℕ} {knows : Bool} → (readers : ShardReaders) (giver : Giver) (guessing : Guessing) (was now : Walk) (old new : Outside) (l k : Live ShardReaders) (ended : Ended) (left : Giver)
+    → l ≡ new_live readers giver guessing many knows → Walks was now old new (aid_of l) (aid_of k) ended → left ≡ k.pusher.giver → (left.queue ≡ giver.queue) × ((left.opened ≡ giver.opened) × (left.capacity ≡ giver.capacity))
 kept_giver readers giver guessing was now old new l k ended left is walks end =
     let same : queue_of left ≡ queue_of giver =
     ap queue_of end ∙ same_queue (queue_of k.pusher.giver) (queue_of l.pusher.giver) walks.goes.goes.helped.plans.queue
@@ -39,15 +38,15 @@ kept_giver readers giver guessing was now old new l k ended left is walks end =
 -- ---- a walk
 
 -- what is known of the walk is known of the crew's work
-pub went : {many : ℕ} → (guessing : Guessing) (was now : Walk) (old new : Outside) (readers : ShardReaders) (giver : Giver) (l k : Live ShardReaders) (worked : Worked)
-    → l ≡ new_live readers giver guessing many → giver.pushed ≡ [] → readers.tally ≡ tally 0 0 0 → IsLive k
+pub went : {many : ℕ} {knows : Bool} → (guessing : Guessing) (was now : Walk) (old new : Outside) (readers : ShardReaders) (giver : Giver) (l k : Live ShardReaders) (worked : Worked)
+    → l ≡ new_live readers giver guessing many knows → giver.pushed ≡ [] → readers.tally ≡ tally 0 0 0 → IsLive k
     → Walks was now old new (aid_of l) (aid_of k) worked.ended
     → worked.made ≡ length k.pusher.giver.pushed → worked.refused ≡ k.pusher.refused → worked.full ≡ full_of k.pusher
     → length k.pusher.giver.pushed ≡ worked.taken.tally.ran + worked.taken.left
     → (crew : Crew) → giver.capacity ≡ crew.queue → worked.workers ≡ crew.workers → WentBeside guessing crew was now old new worked
-went {many} guessing was now old new readers giver l k worked is none told good walks made refused full jobs crew capacity workers =
+went {many} {knows} guessing was now old new readers giver l k worked is none told good walks made refused full jobs crew capacity workers =
     let made_none : length l.pusher.giver.pushed ≡ 0 = ap (λ (l : Live ShardReaders). length l.pusher.giver.pushed) is ∙ ap length none in
-    let plan : plan_of l ≡ new_plan guessing (Some (queue_of giver)) = ap plan_of is ∙ ap (λ n. record { made = n; refused = 0; full = 0; seen = (plan_of (new_live readers giver guessing many)).seen; queue = Some (queue_of giver) }) (ap length none) in
+    let plan : plan_of l ≡ new_plan guessing (Some (queue_of giver)) = ap plan_of is ∙ ap (λ n. record { made = n; refused = 0; full = 0; seen = (plan_of (new_live readers giver guessing many knows)).seen; queue = Some (queue_of giver) }) (ap length none) in
     record {
       first = aid_of l;
       last = aid_of k;
@@ -79,26 +78,3 @@ went {many} guessing was now old new readers giver l k worked is none told good 
           omega (arith, kept, filled, made, capacity);
       guesses = λ h. let sum = guesses_are_counted guessing (Some (queue_of giver)) now.tally.asked (plan_of l) (plan_of k) plan walks.goes.seen (sym refused ∙ h) in omega (arith, made, full, sum);
     }
-
--- the reader of a shard that was opened with others is its writer's own
-own_readers : (shards : ℕ) (writers : List ShardWriter) (readers : List ShardReader) → AreOpened shards run_capacity writers readers
-    → All (IsWriterOf readers) writers
-own_readers shards writers readers o =
-    λ k d l.
-    let w = get_or writers k d in
-    let within : k < shards = omega (arith, l, o.writer_count) in
-    let none : ShardReader = record { shard = w.shard; capacity = 0; seen = [] } in
-    let opened = (o.each k d none within).writer in
-    let index : w.index ≡ k = ap (λ (w : ShardWriter). w.index) opened in record {
-      own = record {
-        there = omega (arith, within, index, o.reader_count);
-        shard = λ e. ap (λ i. (get_or readers i e).shard) index ∙ ap (λ (r : ShardReader). r.shard) (o.each k d e within).reader;
-      };
-      capacity = ap (λ (w : ShardWriter). w.capacity) opened;
-    }
-
-pub own_readers_of : {ws : List ShardWriter} {rs : ShardReaders} (shards : ℕ) (writers : List ShardWriter) (readers : ShardReaders)
-    → writers ≡ ws → readers ≡ rs → AreOpened shards run_capacity ws rs.readers → All (IsWriterOf readers.readers) writers
-own_readers_of {ws = ws} {rs = rs} shards writers readers e f o =
-    own_readers shards writers readers.readers (subst (λ ws. AreOpened shards run_capacity ws readers.readers) (sym e)
-    (subst (λ (r : ShardReaders). AreOpened shards run_capacity ws r.readers) (sym f) o))

@@ -4,5 +4,6 @@ pub mod Tasks
 pub mod Seeing
 pub mod LawsHold
 pub mod Crews
+pub mod Opening
 pub mod Shares
 pub mod Pages

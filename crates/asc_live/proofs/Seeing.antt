@@ -234,21 +234,18 @@ no-kinds : (g : Guessing) → is_guessing g ≡ false → length (kinds_of g) �
 no-kinds g off = no-kinds-by g.last g.stride off
 
 -- where one is on, the queue had been filled up before a visit is passed over
-passes-filled : (guesses filled paid : Bool) → guesses ≡ true → (not guesses || (filled && not paid)) ≡ true → filled ≡ true
-passes-filled true true paid on e = refl
-passes-filled true false paid on e = absurd (cc)
-passes-filled false filled paid on e = absurd (cc)
+passes-filled : (guesses filled paid knows : Bool) → guesses ≡ true → (if guesses then filled && not paid else not (knows && paid)) ≡ true → filled ≡ true
+passes-filled true true paid knows on e = refl
+passes-filled true false paid knows on e = absurd (cc)
+passes-filled false filled paid knows on e = absurd (cc)
 
--- a visit is made only where one is on
-made-on : (guesses b : Bool) → (not guesses || b) ≡ false → guesses ≡ true
-made-on true b e = refl
-made-on false b e = absurd (cc)
-
-pub is-on : {F : Type 0} (l : Live F) → is_passed_over l ≡ false → is_guessing l.guessing ≡ true
-is-on l made = made-on (is_guessing l.guessing) (is_filled l.pusher.giver && not (pays l.budget)) made
+-- one is not on and off
+on-and-off : (guesses : Bool) → guesses ≡ false → guesses ≡ true → ⊥
+on-and-off true off on = cc
+on-and-off false off on = cc
 
 pub passed-filled : {F : Type 0} (l : Live F) → is_passed_over l ≡ true → is_guessing l.guessing ≡ true → is_filled l.pusher.giver ≡ true
-passed-filled l passed on = passes-filled (is_guessing l.guessing) (is_filled l.pusher.giver) (pays l.budget) on passed
+passed-filled l passed on = passes-filled (is_guessing l.guessing) (is_filled l.pusher.giver) (pays l.budget) l.budget.knows on passed
 
 -- two visits were seen before, since jobs were pushed
 given_up-later : {F : Type 0} (n : ℕ) (old : Live F) → HasSeen n old → is_filled old.pusher.giver ≡ true → 2 ≤ n
@@ -403,17 +400,19 @@ left-told number now old q on e before told next same =
 -- what a visit leaves is such a helper
 pub visit-live : {F : Type 0} (number pages : ℕ) (now : State) (old new : Live F) → number ≤ 2 ^ 40 → IsLive old → Visits number pages now old new → IsLive new
 visit-live number pages now old new most q (inl v) = subst IsLive (sym v.rest) (given_up-live number None (charged pages old) most (charged-live pages old q) (passed-filled old v.passed))
-visit-live number pages now old new most q (inr (inl v)) = subst IsLive (sym v.rest) (left-live number now old most q (is-on old v.made) v.needless)
-visit-live number pages now old new most q (inr (inr (inl v))) = subst IsLive (sym v.rest) (given_up-live number (Some now) (charged pages old) most (charged-live pages old q) (λ on. v.filled))
-visit-live number pages now old new most q (inr (inr (inr (inl v)))) = subst IsLive (sym v.rest) (after-live number pages now old new.pusher most q (is-on old v.made) v.pair v.pushes)
-visit-live number pages now old new most q (inr (inr (inr (inr v)))) = subst IsLive (sym v.rest) (record { least = q.least; most = q.most; issued = q.issued; price = q.price; room = q.room; seen = λ n e. absurd (cc) })
+visit-live number pages now old new most q (inr (inl v)) = subst IsLive (sym v.rest) (given_up-live number None (charged 0 old) most (charged-live 0 old q) (λ on. absurd (on-and-off (is_guessing old.guessing) v.off on)))
+visit-live number pages now old new most q (inr (inr (inl v))) = subst IsLive (sym v.rest) (left-live number now old most q v.on v.needless)
+visit-live number pages now old new most q (inr (inr (inr (inl v)))) = subst IsLive (sym v.rest) (given_up-live number (Some now) (charged pages old) most (charged-live pages old q) (λ on. v.filled))
+visit-live number pages now old new most q (inr (inr (inr (inr (inl v))))) = subst IsLive (sym v.rest) (after-live number pages now old new.pusher most q v.on v.pair v.pushes)
+visit-live number pages now old new most q (inr (inr (inr (inr (inr v))))) = subst IsLive (sym v.rest) (record { least = q.least; most = q.most; issued = q.issued; price = q.price; room = q.room; seen = λ n e. absurd (cc) })
 
 -- it makes at most 128 guesses
 pub visit-plans : {F : Type 0} (number pages : ℕ) (now : State) (old new : Live F) → IsLive old → Visits number pages now old new → Plans 1 (plan_of old) (plan_of new)
 visit-plans number pages now old new q (inl v) = subst (λ l. Plans 1 (plan_of old) (plan_of l)) (sym v.rest) (given_up-plans number pages None old)
-visit-plans number pages now old new q (inr (inl v)) = subst (λ l. Plans 1 (plan_of old) (plan_of l)) (sym v.rest) (left-plans number now old q v.needless)
-visit-plans number pages now old new q (inr (inr (inl v))) = subst (λ l. Plans 1 (plan_of old) (plan_of l)) (sym v.rest) (given_up-plans number pages (Some now) old)
-visit-plans number pages now old new q (inr (inr (inr (inl v)))) =
+visit-plans number pages now old new q (inr (inl v)) = subst (λ l. Plans 1 (plan_of old) (plan_of l)) (sym v.rest) (given_up-plans number 0 None old)
+visit-plans number pages now old new q (inr (inr (inl v))) = subst (λ l. Plans 1 (plan_of old) (plan_of l)) (sym v.rest) (left-plans number now old q v.needless)
+visit-plans number pages now old new q (inr (inr (inr (inl v)))) = subst (λ l. Plans 1 (plan_of old) (plan_of l)) (sym v.rest) (given_up-plans number pages (Some now) old)
+visit-plans number pages now old new q (inr (inr (inr (inr (inl v))))) =
     let grown = Pushes-few (offers_at number old) _ _ _ v.pushes in
     let few = due-few number old.last now old q.most in
     record {
@@ -423,14 +422,15 @@ visit-plans number pages now old new q (inr (inr (inr (inl v)))) =
       refused = subst (λ n. old.pusher.refused ≤ n) (sym v.pushes.refused) (raised-grows old.pusher.refused v.pushes.wanting);
       queue = ap (λ (giver : Giver). Some (queue_of giver)) v.pushes.giver;
     }
-visit-plans number pages now old new q (inr (inr (inr (inr v)))) = subst (λ l. Plans 1 (plan_of old) (plan_of l)) (sym v.rest) (record { made = omega arith; full = omega arith; few = omega arith; refused = omega arith; queue = refl })
+visit-plans number pages now old new q (inr (inr (inr (inr (inr v))))) = subst (λ l. Plans 1 (plan_of old) (plan_of l)) (sym v.rest) (record { made = omega arith; full = omega arith; few = omega arith; refused = omega arith; queue = refl })
 
 -- it is told of, where the one before was
 pub visit-sees : {F : Type 0} (number pages : ℕ) (now : State) (old new : Live F) → IsLive old → Visits number pages now old new → Sees number (plan_of old) (plan_of new)
 visit-sees {F} number pages now old new q (inl v) before told next same = subst (λ l. Sees number (plan_of old) (plan_of l)) (sym v.rest) (given_up-told number pages None old q (passed-filled old v.passed)) before told next same
-visit-sees {F} number pages now old new q (inr (inl v)) before told next same = subst (λ l. Sees number (plan_of old) (plan_of l)) (sym v.rest) (left-told number now old q (is-on old v.made) v.needless) before told next same
-visit-sees {F} number pages now old new q (inr (inr (inl v))) before told next same = subst (λ l. Sees number (plan_of old) (plan_of l)) (sym v.rest) (given_up-told number pages (Some now) old q (λ on. v.filled)) before told next same
-visit-sees {F} number pages now old new q (inr (inr (inr (inl v)))) before told next same =
+visit-sees {F} number pages now old new q (inr (inl v)) before told next same = subst (λ l. Sees number (plan_of old) (plan_of l)) (sym v.rest) (given_up-told number 0 None old q (λ on. absurd (on-and-off (is_guessing old.guessing) v.off on))) before told next same
+visit-sees {F} number pages now old new q (inr (inr (inl v))) before told next same = subst (λ l. Sees number (plan_of old) (plan_of l)) (sym v.rest) (left-told number now old q v.on v.needless) before told next same
+visit-sees {F} number pages now old new q (inr (inr (inr (inl v)))) before told next same = subst (λ l. Sees number (plan_of old) (plan_of l)) (sym v.rest) (given_up-told number pages (Some now) old q (λ on. v.filled)) before told next same
+visit-sees {F} number pages now old new q (inr (inr (inr (inr (inl v))))) before told next same =
     let is = told-is old.seen old.guessing before told in
     let h = q.seen before.number is.0 in
     let none = same ∙ h.refused in
@@ -438,10 +438,10 @@ visit-sees {F} number pages now old new q (inr (inr (inr (inl v)))) before told 
     let seen_is : new.seen ≡ Some number = ap (λ (l : Live F). l.seen) v.rest ∙ (λ i. seen_after (next i) (none i) (is.0 i)) ∙ seen-next before.number ∙ ap Some (sym next) in
     let guessing_is : new.guessing ≡ before.guessing = ap (λ (l : Live F). l.guessing) v.rest ∙ is.1 in (
       ap (λ (o : Option ℕ). elim o [ Some m ↦ Some (seen m new.guessing) | None ↦ None ]) seen_is ∙ ap (λ g. Some (seen number g)) guessing_is,
-      pushes-sees (offers_at (before.number + 1) old) before.number now old new.pusher q h (is-on old v.made) v.pair pushes none
+      pushes-sees (offers_at (before.number + 1) old) before.number now old new.pusher q h v.on v.pair pushes none
           ∙ (λ i. length old.pusher.giver.pushed + full_of old.pusher + guesses_at (is.1 i) (sym next i)),
     )
-visit-sees {F} number pages now old new q (inr (inr (inr (inr v)))) before told next same =
+visit-sees {F} number pages now old new q (inr (inr (inr (inr (inr v))))) before told next same =
     let is = told-is old.seen old.guessing before told in
     let h = q.seen before.number is.0 in
     let rose : new.pusher.refused ≡ one_more old.pusher.refused = ap (λ (l : Live F). l.pusher.refused) v.rest in

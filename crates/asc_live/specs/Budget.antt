@@ -12,6 +12,8 @@ pub record Budget : Type 0 where
   pub left : ℕ
   -- whether the last visit was passed over
   pub passing : Bool
+  -- whether entries were known before the first visit: then one may be of use at which nothing is guessed
+  pub knows : Bool
 
 -- what a visit is charged for its jobs
 abbrev pub visit_steps : ℕ
@@ -38,13 +40,13 @@ abbrev pub row_cost : (cost : ℕ) → ℕ
 row_cost cost = 32 * cost
 
 -- a budget of these numbers
-abbrev pub budget : (cost steps owed left : ℕ) → (passing : Bool) → Budget
-budget cost steps owed left passing =
-    record { cost = cost; steps = steps; owed = owed; left = left; passing = passing }
+abbrev pub budget : (cost steps owed left : ℕ) → (passing knows : Bool) → Budget
+budget cost steps owed left passing knows =
+    record { cost = cost; steps = steps; owed = owed; left = left; passing = passing; knows = knows }
 
 -- that of a walk which begins: it pays for a row
-abbrev pub new_budget : (workers : ℕ) → Budget
-new_budget workers = budget (visit_cost workers) (row_cost (visit_cost workers)) 0 0 false
+abbrev pub new_budget : (workers : ℕ) → (knows : Bool) → Budget
+new_budget workers knows = budget (visit_cost workers) (row_cost (visit_cost workers)) 0 0 false knows
 
 -- what a visit is charged that copies so many pages
 abbrev pub charge : Budget → (pages : ℕ) → ℕ
@@ -55,14 +57,15 @@ charge b pages = b.cost + page_steps * pages
 abbrev pub pays : Budget → Bool
 pays b = nat_le (if b.passing then row_cost b.cost else b.cost) b.steps
 
--- Whether a visit is passed over. Each one is, where no kind of guess is on. Once the queue had been filled up, one that is
--- not paid for is too.
+-- Whether a visit is passed over. Once the queue had been filled up, one that is not paid for is. Where no kind of guess is
+-- on each one is, but for those that are paid for where entries are known.
 abbrev pub passes : (guesses filled : Bool) → Budget → Bool
-passes guesses filled b = not guesses || (filled && not (pays b))
+passes guesses filled b =
+    if guesses then filled && not (pays b) else not (b.knows && pays b)
 
 -- what is taken for a visit: its charge, where it is made and paid for
 abbrev pub taken : (guesses : Bool) → (pages : ℕ) → Budget → ℕ
-taken guesses pages b = if guesses && pays b then charge b pages else 0
+taken guesses pages b = if (guesses || b.knows) && pays b then charge b pages else 0
 
 -- after a visit: what is taken beyond the steps that are left is owed
 abbrev pub after_visit : (guesses filled : Bool) → (pages : ℕ) → Budget → Budget

@@ -1,9 +1,12 @@
 -- A walk with workers beside it.
-use Rattle.std.specs.Prelude.{◌≡◌, ℕ, ◌+◌, ◌*◌, ◌<◌, ◌≤◌, List, [], false, length, All, Some}
+use Rattle.std.specs.Prelude.{◌≡◌, ℕ, ◌+◌, ◌*◌, ◌<◌, ◌≤◌, List, [], false, length, slice_index_or, All, Some}
+use mathlib.Core.List.{IsPrefix}
+use Rattle.asc_model.specs.Entry.{Entry}
 use Rattle.asc_model.specs.Shape.{Shape}
 use Rattle.asc_find.specs.declared.guessing.Guessing.{Guessing}
 use Rattle.asc_calls.specs.World.{Outside, BlamesOnly}
 use Rattle.asc_cache.specs.Cache.{IsOwnReader, ShardReader, ShardWriter}
+use Rattle.asc_shard.specs.Content.{content_of}
 use Rattle.asc_shard.specs.Shard.{run_capacity}
 use Rattle.asc_run.specs.declared.walk.Ended.{Ended}
 use Rattle.asc_run.specs.Execution.{device_of}
@@ -67,6 +70,13 @@ HasBoundsOf shape guessing w = (w.shape ≡ shape) × (w.laps ≡ guessing.laps)
 pub record IsWriterOf (readers : List ShardReader) (w : ShardWriter) : Type 0 where
   pub own : IsOwnReader w readers
   pub capacity : w.capacity ≡ run_capacity
+
+-- The reader of shard 0 has learnt insertions that leave what these entries leave, added in their order.
+pub record HasLearnt (entries : List Entry) (readers : List ShardReader) : Type 0 where
+  pub learnt : List Entry
+  pub content : content_of run_capacity learnt ≡ content_of run_capacity entries
+  pub capacity : (d : ShardReader) → (slice_index_or readers 0 d).capacity ≡ run_capacity
+  pub seen : (d : ShardReader) → IsPrefix learnt (slice_index_or readers 0 d).seen
 
 -- this is what a crew was asked for by
 pub record IsAskedFor {R : Type 0} (shape : Shape) (guessing : Guessing) (crew : Crew) (r : Ready R) : Type 0 where

@@ -47,8 +47,8 @@ live finder visits pusher seen workers budget = record {
 }
 
 -- one that was not visited yet, and whose queue never had a job
-abbrev pub new_live : {F : Type 0} → F → Giver → Guessing → (workers : ℕ) → Live F
-new_live finder giver guessing workers = record {
+abbrev pub new_live : {F : Type 0} → F → Giver → Guessing → (workers : ℕ) → (knows : Bool) → Live F
+new_live finder giver guessing workers knows = record {
   finder = finder;
   guessing = guessing;
   prev = None;
@@ -57,7 +57,7 @@ new_live finder giver guessing workers = record {
   pusher = new_pusher giver;
   seen = Some 0;
   workers = workers;
-  budget = new_budget workers;
+  budget = new_budget workers knows;
 }
 
 -- the queue of a giver, as a finder tells it
@@ -140,6 +140,12 @@ pub record PassesOver {F : Type 0} (number pages : ℕ) (old new : Live F) : Typ
   pub passed : is_passed_over old ≡ true
   pub rest : new ≡ given_up number None (charged pages old)
 
+-- No kind of guess is on, and a jump is looked for all the same. No state is kept.
+pub record LooksAlone {F : Type 0} (number : ℕ) (old new : Live F) : Type 0 where
+  pub made : is_passed_over old ≡ false
+  pub off : is_guessing old.guessing ≡ false
+  pub rest : new ≡ given_up number None (charged 0 old)
+
 -- A visit keeps its state alone: the queue had been filled up, and the state of the visit before was not kept.
 pub record BeginsRow {F : Type 0} (number pages : ℕ) (now : State) (old new : Live F) : Type 0 where
   pub made : is_passed_over old ≡ false
@@ -150,6 +156,7 @@ pub record BeginsRow {F : Type 0} (number pages : ℕ) (now : State) (old new : 
 -- A visit keeps no state, since nobody needs it. It copies no page, and the guesses that are due are left to the walk.
 pub record KeepsNone {F : Type 0} (number : ℕ) (now : State) (old new : Live F) : Type 0 where
   pub made : is_passed_over old ≡ false
+  pub on : is_guessing old.guessing ≡ true
   pub needless : is_needless number old ≡ true
   pub rest : new ≡ record (charged 0 old) {
     issued = issued_by number old.last (Some now) old;
@@ -161,6 +168,7 @@ pub record KeepsNone {F : Type 0} (number : ℕ) (now : State) (old new : Live F
 -- wanting.
 pub record Keeps {F : Type 0} (number pages : ℕ) (now : State) (old new : Live F) : Type 0 where
   pub made : is_passed_over old ≡ false
+  pub on : is_guessing old.guessing ≡ true
   pub needed : is_needless number old ≡ false
   pub pair : is_filled old.pusher.giver ≡ true → (last : State) × (old.last ≡ Some last)
   pub pushes : Pushes (offers_at number old) (due_by number old.last (Some now) old) old.pusher new.pusher
@@ -181,8 +189,8 @@ pub record Refuses {F : Type 0} (number pages : ℕ) (old new : Live F) : Type 0
 -- what a visit does, where so many pages of its state were written since the last one was kept
 abbrev pub Visits : {F : Type 0} → (number pages : ℕ) → State → (old new : Live F) → Type 0
 Visits number pages now old new = PassesOver number pages old new
-    ⊎ (KeepsNone number now old new
-    ⊎ (BeginsRow number pages now old new ⊎ (Keeps number pages now old new ⊎ Refuses number pages old new)))
+    ⊎ (LooksAlone number old new ⊎ (KeepsNone number now old new
+    ⊎ (BeginsRow number pages now old new ⊎ (Keeps number pages now old new ⊎ Refuses number pages old new))))
 
 -- and where these are some of the pages of its shape
 abbrev pub VisitsWritten : {F : Type 0} → (number : ℕ) → State → (old new : Live F) → Type 0

@@ -1,5 +1,5 @@
-ghost use Rattle.std.specs.Prelude.{◌≡◌, ◌<◌, ◌≤◌, ◌^◌, not, true, false, IfSome};
-ghost use Rattle.asc_live.specs.Budget.{new_budget, passes, after_visit, after_look_up};
+ghost use Rattle.std.specs.Prelude.{◌≡◌, ◌<◌, ◌≤◌, ◌^◌, ℕ, Bool, true, false, IfSome};
+ghost use Rattle.asc_live.specs.Budget.{new_budget, passes, pays, after_visit, after_look_up};
 
 use std::marker::Model;
 
@@ -33,6 +33,8 @@ pub(crate) struct Budget {
     left: u64,
     // Whether the last visit was passed over.
     passing: bool,
+    // Whether entries were known before the first visit.
+    knows: bool,
 }
 
 impl Model for Budget {
@@ -40,15 +42,15 @@ impl Model for Budget {
 
     ghost Value = { model.Budget };
 
-    ghost view = { λ b. model.budget b.cost b.steps b.owed b.left b.passing };
+    ghost view = { λ b. model.budget b.cost b.steps b.owed b.left b.passing b.knows };
 
-    ghost invariant = { λ b. model.IsBudget (model.budget b.cost b.steps b.owed b.left b.passing) };
+    ghost invariant = { λ b. model.IsBudget (model.budget b.cost b.steps b.owed b.left b.passing b.knows) };
 }
 
 impl Budget {
-    /// That of a walk with so many workers. It may begin with a row of visits.
-    pub(crate) fn new(workers: usize) -> Budget
-        ensures { result ≡ new_budget workers }
+    /// That of a walk with so many workers, which may know entries. It may begin with a row of visits.
+    pub(crate) fn new(workers: usize, knows: bool) -> Budget
+        ensures { result ≡ new_budget workers knows }
     {
         let cost = VISIT_STEPS + WORKER_STEPS * workers.min(WORKERS) as u64;
         Budget {
@@ -57,30 +59,56 @@ impl Budget {
             owed: 0,
             left: 0,
             passing: false,
+            knows,
         }
     }
 
-    /// Whether a visit is made that copies so many pages, and not passed over. Where a kind of guess is on, each is made
-    /// until the queue was filled up, also where the budget does not pay for it. One that is paid for is charged: what it
-    /// takes beyond the steps that are left is owed.
-    pub(crate) fn pay(&mut self, guesses: bool, filled: bool, pages: usize) -> bool
-        requires { pages < 2 ^ 23 }
-        ensures made { result ≡ not (passes guesses filled self.old) }
-        ensures after { self.new ≡ after_visit guesses filled pages self.old }
+    /// Whether a visit is passed over. Where a kind of guess is on, each is made until the queue was filled up, also where
+    /// the budget does not pay for it. Where none is, one is made only where entries are known and it is paid for.
+    pub(crate) fn passes(&self, guesses: bool, filled: bool) -> bool
+        ensures { result ≡ passes guesses filled self.now }
+    {
+        if guesses {
+            filled && !self.pays()
+        } else {
+            !self.knows || !self.pays()
+        }
+    }
+
+    // Whether it pays for a visit.
+    fn pays(&self) -> bool
+        ensures { result ≡ pays self.now }
     {
         let wanted = if self.passing {
             ROW * self.cost
         } else {
             self.cost
         };
-        let paid = guesses && wanted <= self.steps;
-        self.passing = !guesses || filled && !paid;
-        if paid {
+        wanted <= self.steps
+    }
+
+    /// Notes that a visit is passed over.
+    pub(crate) fn pass(&mut self)
+        ensures noted { self.new ≡ record self.old { passing = true } }
+        ensures after { (guesses filled : Bool) (pages : ℕ) → passes guesses filled self.old ≡ true
+            → self.new ≡ after_visit guesses filled pages self.old }
+    {
+        self.passing = true;
+    }
+
+    /// Charges a visit that is made, and copies so many pages, where the budget pays for it: what it takes beyond the steps
+    /// that are left is owed.
+    pub(crate) fn charge(&mut self, pages: usize)
+        requires { pages < 2 ^ 23 }
+        ensures { (guesses filled : Bool) → passes guesses filled self.old ≡ false
+            → self.new ≡ after_visit guesses filled pages self.old }
+    {
+        if self.pays() {
             let charge = self.cost + PAGE_STEPS * pages as u64;
             self.owed += charge.saturating_sub(self.steps);
             self.steps = self.steps.saturating_sub(charge);
         }
-        !self.passing
+        self.passing = false;
     }
 
     /// How many steps a look-up may jump over, where so many are left: none at a visit that was passed over.

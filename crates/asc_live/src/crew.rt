@@ -1,24 +1,26 @@
-ghost use Rattle.std.specs.Prelude.{◌≡◌, ◌≤◌, ◌^◌, List, length, All, IfOk, OnErr, IsNone, true, false};
+ghost use Rattle.std.specs.Prelude.{◌≡◌, ◌≤◌, ◌^◌, List, length, All, IfOk, OnErr, IsNone, map, nat_lt, true, false};
+ghost use Rattle.std.specs.Arc.{arc_value};
 ghost use Rattle.asc_calls.specs.World.{faults, outside};
 ghost use Rattle.asc_cache.specs.Cache.{ShardReader};
 ghost use Rattle.asc_jobs.specs.Tally.{no_jobs};
 ghost use Rattle.asc_run.specs.Helped.{aid, HasRoom};
-ghost use Rattle.asc_live.specs.Crew.{HasBoundsOf, IsAskedFor, IsReady, IsWriterOf, Walks, WentBeside};
+ghost use Rattle.asc_live.specs.Crew.{HasBoundsOf, HasLearnt, IsAskedFor, IsReady, IsWriterOf, Walks, WentBeside};
 ghost use Rattle.atomic_table.specs.Seated.{TableId};
 
 use crate::Live;
-use asc_cache::{Cache, ShardReaders, ShardWriter};
+use crate::shards::open_shards;
+use asc_cache::{ShardReaders, ShardWriter};
 use asc_find::Guessing;
 use asc_jobs::{Giver, Jobs};
 use asc_outside::{Gate, Memory, Point, Sink, Source};
 use asc_run::{Ended, Helper, LastVisits, Walk};
 use asc_shape::{Shape, Steps};
-use asc_shard::RUN_CAPACITY;
+use asc_traj::Entry;
 use asc_work::{Flag, Halter, TakenIn, Team, Worker};
 use crossbeam_utils::sync::Unparker;
 use std::alloc::Global;
-use std::sync::Wait;
 use std::sync::ledger::Ledger;
+use std::sync::{Arc, Wait};
 use std::thread::Threads;
 
 /// How many workers run beside a walk, and how many jobs are kept for them.
@@ -47,12 +49,13 @@ pub struct Worked {
     pub workers: usize,
 }
 
-// A crew before its walk begins, and what it was asked for by. Some of its wakers are for visits, and the others for the
-// walk's end.
+// A crew before its walk begins, and what it was asked for by. It may know entries. Some of its wakers are for visits, and
+// the others for the walk's end.
 #[derive(Drop)]
 struct Ready<R: Wait + Drop> {
     shape: Shape,
     crew: Crew,
+    knows: bool,
     visits: LastVisits,
     halter: Halter,
     giver: Giver,
@@ -64,6 +67,9 @@ struct Ready<R: Wait + Drop> {
 
 /// Runs a walk to its end beside workers, and takes these in. The gate is passed at `Ended` once the walk has ended,
 /// before the workers are stopped; its ticket is how many jobs were pushed.
+///
+/// The walk knows the entries of `first` from its first look-up on. They lie in the shard of one worker, whose later
+/// entries may drive out the oldest of them.
 ///
 /// All memory that the crew needs is taken before the first step. Later on, only states that are kept, and entries, take
 /// any: where it is wanting for these, a guess is given up. A worker fills the memory of its tracer in its own thread,
@@ -81,6 +87,7 @@ pub fn go_beside<
     walk: &mut Walk,
     guessing: Guessing,
     crew: Crew,
+    first: &[Arc<Entry>],
     gate: &G,
     input: &mut I,
     out: &mut O,
@@ -103,17 +110,18 @@ pub fn go_beside<
     ensures memory { OnErr result ((walk.new ≡ walk.old) × (input.new ≡ input.old) × (out.new ≡ out.old)
         × (err.new ≡ err.old) × (steps.new ≡ steps.old)) }
 {
-    let ready = open_crew(alloc, *rt, walk.shape(), guessing, crew)?;
+    let ready = open_crew(alloc, *rt, walk.shape(), guessing, crew, first)?;
     Ok(go_with(rt, alloc, walk, ready, gate, input, out, err, steps))
 }
 
-// Opens all that a crew needs.
+// Opens all that a crew needs. Its readers know these entries.
 fn open_crew<R: Wait + Copy + Drop>(
     alloc: Global,
     rt: R,
     shape: Shape,
     guessing: Guessing,
     crew: Crew,
+    first: &[Arc<Entry>],
 ) -> Result<Ready<R>, Memory>
     requires workers { (1 ≤ crew.workers) × (crew.workers ≤ 64) }
     requires queue { (1 ≤ crew.queue) × (crew.queue ≤ 1024) }
@@ -122,10 +130,12 @@ fn open_crew<R: Wait + Copy + Drop>(
     requires span { 1 ≤ guessing.span }
     ensures ready { IfOk result (λ ready. IsReady ready) }
     ensures asked { IfOk result (λ ready. IsAskedFor shape guessing crew ready) }
+    ensures knows { IfOk result (λ ready. ready.knows ≡ nat_lt 0 (length first.now)) }
+    ensures learnt { IfOk result (λ ready. HasLearnt (map arc_value first.now) ready.readers.readers) }
 {
     let (halter, flags) = Halter::open(alloc, crew.workers)?;
     let (giver, takers) = Jobs::open(alloc, crew.queue, crew.workers)?;
-    let (writers, readers) = Cache::open(alloc, rt, crew.workers, RUN_CAPACITY)?.split();
+    let (writers, readers) = open_shards(alloc, rt, crew.workers, first)?;
     let workers = workers_of(alloc, shape, guessing, writers, flags)?;
     let (team, visit_wakers) = Team::new(alloc, &giver, workers, takers)?;
     let end_wakers = wakers_again(alloc, &visit_wakers)?;
@@ -133,6 +143,7 @@ fn open_crew<R: Wait + Copy + Drop>(
     Ok(Ready {
         shape,
         crew,
+        knows: 0 < first.len(),
         visits,
         halter,
         giver,
@@ -206,6 +217,7 @@ fn go_with<
     let Ready {
         shape: _,
         crew: _,
+        knows,
         visits,
         mut halter,
         giver,
@@ -215,7 +227,7 @@ fn go_with<
         end_wakers,
     } = ready;
     let workers = team.len();
-    let mut live = Live::new(alloc, rt, gate, readers, giver, visit_wakers, visits);
+    let mut live = Live::new(alloc, rt, gate, readers, giver, visit_wakers, visits, knows);
     let ended = go_served(
         rt,
         &mut team,

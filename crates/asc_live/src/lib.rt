@@ -8,6 +8,7 @@ mod crew_tests;
 mod laws;
 mod live;
 mod pusher;
+mod shards;
 mod share;
 #[cfg(test)]
 mod tests;

@@ -1,4 +1,4 @@
-ghost use Rattle.std.specs.Prelude.{◌≡◌, ◌⊎◌, ◌+◌, ◌/◌, ◌<◌, ◌≤◌, ◌^◌, [], ◌∷◌, length, true, false, None, Some};
+ghost use Rattle.std.specs.Prelude.{◌≡◌, ◌⊎◌, ◌+◌, ◌/◌, ◌<◌, ◌≤◌, ◌^◌, ◌||◌, not, [], ◌∷◌, length, true, false, None, Some};
 ghost use Rattle.asc_model.specs.Shape.{length_of};
 ghost use Rattle.asc_model.specs.State.{State as state};
 ghost use Rattle.asc_traj.specs.Jump.{IsJump};
@@ -8,7 +8,7 @@ ghost use Rattle.asc_run.specs.Helped.{aid, Plans, VisitsMachine};
 ghost use Rattle.asc_run.specs.Seen.{Sees};
 ghost use Rattle.asc_run.specs.LastVisits.{no_visits};
 ghost use Rattle.asc_live.specs.Laws.{new_plan};
-ghost use Rattle.asc_live.specs.Live.{IsLive, new_live, queue_of, plan_of, given_up, refused_visit, due_by, is_needless, issued_by, is_guessing, offers_at, seen_after as seen_by, Visits, VisitsWritten};
+ghost use Rattle.asc_live.specs.Live.{IsLive, new_live, queue_of, plan_of, given_up, refused_visit, due_by, is_needless, is_passed_over, issued_by, is_guessing, offers_at, seen_after as seen_by, Visits, VisitsWritten};
 ghost use Rattle.asc_live.specs.Due.{Pushes, full_of, is_filled};
 ghost use Rattle.asc_live.specs.Budget.{after_look_up};
 
@@ -33,8 +33,9 @@ use std::sync::Wait;
 /// grows by them; steps that are jumped over count more.
 ///
 /// Once the queue had been filled up, a visit that the budget does not pay for is passed over. So are those after it, until
-/// the budget is whole again. Where no kind of guess is on, each visit is passed over. At such a visit no state is kept,
-/// nothing is pushed, and the finder is asked for no step. Which visits are passed over changes no answer of a run.
+/// the budget is whole again. Where no kind of guess is on, a visit is made only where the finder knew entries at first, and
+/// the budget pays for it; then a jump is looked for, and no state is kept. At a visit that is passed over no state is kept
+/// either, nothing is pushed, and the finder is asked for no step. Which visits are passed over changes no answer of a run.
 ///
 /// Of the guesses that are then due at the other visits, the workers' share is offered to them (`Share`). Those that are
 /// left to the walk count as full. Where guesses go by the last state alone, a visit at which none is offered keeps no
@@ -67,7 +68,7 @@ impl<'a, F, G, R> Model for Live<'a, F, G, R> {
 
 impl<'a, F, G, R> Live<'a, F, G, R> {
     /// A helper that was not visited yet, with what is to be kept of its visits. Its jobs are pushed by `giver`, and
-    /// `workers` wake those that run them.
+    /// `workers` wake those that run them. Whether the finder knows entries already is told by `knows`.
     pub fn new(
         alloc: Global,
         rt: &'a R,
@@ -76,12 +77,13 @@ impl<'a, F, G, R> Live<'a, F, G, R> {
         giver: Giver,
         workers: Vec<Unparker>,
         visits: LastVisits,
+        knows: bool,
     ) -> Live<'a, F, G, R>
         requires giver { giver.pushed ≡ [] }
         requires new { visits ≡ no_visits visits.guessing }
         requires least { 1 ≤ visits.guessing.ahead }
         requires most { visits.guessing.ahead ≤ 64 }
-        ensures live { result ≡ new_live finder giver visits.guessing (length workers.items) }
+        ensures live { result ≡ new_live finder giver visits.guessing (length workers.items) knows }
         ensures plan { plan_of result ≡ new_plan visits.guessing (Some (queue_of giver)) }
     {
         Live {
@@ -89,7 +91,7 @@ impl<'a, F, G, R> Live<'a, F, G, R> {
             gate,
             finder,
             pusher: Pusher::new(rt, giver),
-            budget: Budget::new(workers.len()),
+            budget: Budget::new(workers.len(), knows),
             workers,
             visits,
             seen: Some(0),
@@ -178,6 +180,21 @@ impl<'a, F, G, R> Live<'a, F, G, R> {
         }
     }
 
+    // Whether a visit is passed over.
+    fn is_passed_over(&self) -> bool
+        ensures { result ≡ is_passed_over self.now }
+    {
+        self.budget.passes(self.guesses(), self.pusher.has_filled())
+    }
+
+    // Whether a kind of guess is on.
+    fn guesses(&self) -> bool
+        ensures { result ≡ is_guessing self.now.guessing }
+    {
+        let guessing = self.visits.guessing();
+        guessing.last || guessing.stride
+    }
+
     // Whether nobody needs the state of a visit: guesses go by the last state alone, and none is offered at it.
     fn is_needless(&self, number: u64) -> bool
         requires { number ≤ 2 ^ 40 }
@@ -223,23 +240,36 @@ impl<'a, F, G, R> Live<'a, F, G, R> {
 
 impl<'a, F, G, R: Wait> Live<'a, F, G, R> {
     // Makes a visit of a state of which so many pages are to be copied, or passes it over.
-    fn make_or_pass(&mut self, state: &mut State, number: u64, needless: bool, pages: usize)
+    fn make_or_pass(
+        &mut self,
+        state: &mut State,
+        number: u64,
+        passes: bool,
+        keeps_none: bool,
+        pages: usize,
+    )
         requires seen { self.old.seen ≡ None }
-        requires needless { needless ≡ is_needless number self.old }
-        requires none { needless ≡ true → pages ≡ 0 }
+        requires passes { passes ≡ is_passed_over self.old }
+        requires keeps { passes ≡ false → keeps_none ≡ (not (is_guessing self.old.guessing) || is_needless number self.old) }
+        requires none { keeps_none ≡ true → pages ≡ 0 }
         requires pages { pages < 2 ^ 23 }
         requires number { number ≤ 2 ^ 40 }
         requires full { full_of self.old.pusher < 2 ^ 62 }
         ensures visits { Visits number pages state.old self.old self.new }
         ensures stays { state.new ≡ state.old }
     {
-        let guessing = self.visits.guessing();
-        let guesses = guessing.last || guessing.stride;
-        let filled = self.pusher.has_filled();
-        if !self.budget.pay(guesses, filled, pages) {
+        if passes {
+            self.budget.pass();
             self.visits.forget();
             self.give_up(number);
-        } else if needless {
+            return;
+        }
+        self.budget.charge(pages);
+        let filled = self.pusher.has_filled();
+        if !self.guesses() {
+            self.visits.forget();
+            self.give_up(number);
+        } else if keeps_none {
             self.leave(number);
         } else if filled && !self.visits.has_last() {
             self.begin_row(state, number);
@@ -273,12 +303,12 @@ impl<'a, F, G, R: Wait> Live<'a, F, G, R> {
     }
 }
 
-// How many pages a visit copies: none where nobody needs its state.
-fn copied(state: &State, needless: bool) -> usize
-    ensures none { needless ≡ true → result ≡ 0 }
+// How many pages a visit copies: none where it keeps no state.
+fn copied(state: &State, keeps_none: bool) -> usize
+    ensures none { keeps_none ≡ true → result ≡ 0 }
     ensures most { result ≤ length_of state.now.shape / 1024 + 1 }
 {
-    if needless { 0 } else { state.changed_pages() }
+    if keeps_none { 0 } else { state.changed_pages() }
 }
 
 /// Up to which visit all were guessed after one more, where so often memory was wanting.
@@ -367,9 +397,10 @@ impl<'a, F: Finder, G: Gate, R: Wait> Helper for Live<'a, F, G, R> {
         // That it is a state bounds how many pages there are.
         let _ = state.shape();
         let before = self.seen.take();
-        let needless = self.is_needless(number);
-        let pages = copied(state, needless);
-        self.make_or_pass(state, number, needless, pages);
+        let passes = self.is_passed_over();
+        let keeps_none = passes || !self.guesses() || self.is_needless(number);
+        let pages = copied(state, keeps_none);
+        self.make_or_pass(state, number, passes, keeps_none, pages);
         self.seen = seen_after(before, number, self.pusher.refused());
         self.gate.pass(Point::Visit, number);
     }

@@ -1,4 +1,4 @@
-ghost use Rattle.std.specs.Prelude.{◌≡◌, ◌≤◌};
+ghost use Rattle.std.specs.Prelude.{◌≡◌, ◌<◌, ◌≤◌, ◌^◌};
 
 use crate::Live;
 use crate::budget::Budget;
@@ -117,7 +117,16 @@ fn live_of<'a, R: Wait>(
         workers.push(parker.unparker().clone()?)?;
     }
     let visits = LastVisits::new(alloc, guessing)?;
-    let live = Live::new(alloc, rt, gate, Nothing::new(), giver, workers, visits);
+    let live = Live::new(
+        alloc,
+        rt,
+        gate,
+        Nothing::new(),
+        giver,
+        workers,
+        visits,
+        false,
+    );
     Ok((live, takers))
 }
 
@@ -340,12 +349,24 @@ fn no_kinds(rt: HostRuntime) -> Result<(), Fail> {
     Ok(())
 }
 
-/// How many of 50 visits are made and paid for, once the queue had been filled up.
+/// Whether a visit is made that copies so many pages, once the queue had been filled up: then it is charged.
+fn is_made(budget: &mut Budget, pages: usize) -> bool
+    requires { pages < 2 ^ 23 }
+{
+    if budget.passes(true, true) {
+        budget.pass();
+        return false;
+    }
+    budget.charge(pages);
+    true
+}
+
+/// How many of 50 visits are made and paid for.
 fn paid<R: Abort>(rt: &R, budget: &mut Budget) -> u64 {
     let mut visits = 0;
     for _ in 0..50 {
         assert!(rt; visits < 50);
-        visits += u64::from(budget.pay(true, true, 0));
+        visits += u64::from(is_made(budget, 0));
     }
     visits
 }
@@ -358,7 +379,7 @@ fn paid<R: Abort>(rt: &R, budget: &mut Budget) -> u64 {
 /// budget.
 #[test]
 fn budget(rt: HostRuntime) -> Result<(), Fail> {
-    let mut budget = Budget::new(3);
+    let mut budget = Budget::new(3, false);
     budget.look_up(2_000_000, None);
     assert_eq!(rt; paid(&rt, &mut budget), 32);
     budget.look_up(1_948_001, Some(20_000));
@@ -367,9 +388,10 @@ fn budget(rt: HostRuntime) -> Result<(), Fail> {
     assert_eq!(rt; paid(&rt, &mut budget), 32);
     budget.look_up(900_000, Some(1_000_000));
     assert_eq!(rt; paid(&rt, &mut budget), 32);
-    assert!(rt; !budget.pay(false, false, 0));
+    assert!(rt; budget.passes(false, false));
+    budget.pass();
     budget.look_up(3_000_000, Some(300_000));
-    assert!(rt; budget.pay(true, true, 1_000));
+    assert!(rt; is_made(&mut budget, 1_000));
     assert_eq!(rt; paid(&rt, &mut budget), 0);
     budget.look_up(2_975_000, Some(25_000));
     budget.look_up(2_815_501, None);

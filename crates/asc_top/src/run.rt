@@ -257,6 +257,7 @@ fn walk_beside<
         walk,
         guessing_of(line),
         crew_of(line),
+        &[],
         gate,
         input,
         out,

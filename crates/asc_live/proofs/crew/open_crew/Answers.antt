@@ -1,7 +1,5 @@
 use Rattle.std.proofs.Common.{◌≡◌, sym, ap, subst, ◌∙◌, ◌+◌, All, length}
-use Rattle.asc_cache.specs.Cache.{ShardReaders}
 use Rattle.asc_run.specs.LastVisits.{LastVisits, no_visits}
-use Rattle.asc_live.proofs.Crews.{own_readers_of}
 use Rattle.asc_work.proofs.Posts.{all_at}
 use Rattle.asc_live.specs.Crew.{HasBoundsOf, IsWriterOf}
 use Rattle.asc_live.proofs.crew.open_crew.Goals as goal
@@ -9,9 +7,8 @@ use Rattle.asc_live.proofs.crew.open_crew.Goals as goal
 pub returns-clause-ready : goal.returns-clause-ready
 returns-clause-ready g c =
     let opened = c.in_ok-giver.ensures in
-    let cache = c.in_ok-open.ensures.opened in let halts = c.in_ok-halter.ensures in
-    let writers = c.in_ok-workers.ensures.number ∙ ap length c.split-writers.ensures.writers ∙ cache.writer_count in
-    let readers = c.split-writers.result.1.readers in
+    let shards = c.in_ok-writers.ensures in let halts = c.in_ok-halter.ensures in
+    let writers = c.in_ok-workers.ensures.number ∙ shards.writer_count in let readers = c.in_ok-writers.readers.readers in
     let posts = c.in_ok-team.team.posts in let manned = c.in_ok-team.ensures.workers in
     let wakers = c.in_ok-team.ensures.wakers ∙ writers in
     let fresh : c.in_ok-visits.visits ≡ no_visits c.args.guessing = c.in_ok-visits.ensures in
@@ -22,11 +19,11 @@ returns-clause-ready g c =
       capacity = opened.bound;
       parts = opened.parts ∙ ap (λ n. n + 1) (sym (c.in_ok-team.ensures.posts ∙ writers));
       none_pushed = opened.empty;
-      shards = ap (λ (r : ShardReaders). length r.readers) c.split-writers.ensures.readers ∙ cache.reader_count;
+      shards = shards.reader_count;
       writers = all_at (λ w. IsWriterOf readers w.writer) posts (subst (All (λ w. IsWriterOf readers w.writer)) (sym manned)
-          (c.in_ok-workers.ensures.writers readers (own_readers_of c.args.crew.workers c.split-writers.result.0.items c.split-writers.result.1 c.split-writers.ensures.writers c.split-writers.ensures.readers cache)));
+          (c.in_ok-workers.ensures.writers readers shards.own));
       none_visited = fresh ∙ ap no_visits guessing;
-      none_asked = ap (λ (r : ShardReaders). r.tally) c.split-writers.ensures.readers ∙ c.in_ok-open.ensures.tally;
+      none_asked = shards.none_asked;
       running = halts.running;
       flags = all_at (λ w. w.halt.word ≡ c.in_ok-halter.halter.word) posts (subst (All (λ w. w.halt.word ≡ c.in_ok-halter.halter.word)) (sym manned)
           (c.in_ok-workers.ensures.flags c.in_ok-halter.halter.word (λ k d l. ap (λ f. f.word) (halts.each k d l))));
