@@ -149,6 +149,7 @@ pub record LooksAlone {F : Type 0} (number : ℕ) (old new : Live F) : Type 0 wh
 -- A visit keeps its state alone: the queue had been filled up, and the state of the visit before was not kept.
 pub record BeginsRow {F : Type 0} (number pages : ℕ) (now : State) (old new : Live F) : Type 0 where
   pub made : is_passed_over old ≡ false
+  pub on : is_guessing old.guessing ≡ true
   pub filled : is_filled old.pusher.giver ≡ true
   pub alone : old.last ≡ None
   pub rest : new ≡ given_up number (Some now) (charged pages old)
@@ -183,6 +184,7 @@ pub record Keeps {F : Type 0} (number pages : ℕ) (now : State) (old new : Live
 -- Memory is wanting for the state of a visit that is to be kept.
 pub record Refuses {F : Type 0} (number pages : ℕ) (old new : Live F) : Type 0 where
   pub made : is_passed_over old ≡ false
+  pub on : is_guessing old.guessing ≡ true
   pub needed : is_needless number old ≡ false
   pub rest : new ≡ refused_visit (charged pages old)
 

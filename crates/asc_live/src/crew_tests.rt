@@ -1,16 +1,18 @@
 ghost use Rattle.std.specs.Prelude.{◌≡◌, ◌<◌, ◌≤◌};
 
 use crate::{Crew, Worked, go_beside};
-use asc_elf::read;
+use asc_depvec::Tracer;
+use asc_elf::{Image, read};
 use asc_find::Guessing;
-use asc_outside::{CountSink, Open, SureSource};
+use asc_outside::{CountSink, Gate, Hold, HoldGate, Memory, Open, Point, SureSource};
 use asc_run::{Counts, Ended, MOST_STEPS, Recognised, Settings, Walk};
-use asc_shape::{Steps, Version};
+use asc_shape::{Guess, Snapshot, State, Steps, Version};
+use asc_traj::{Entry, Made, Never, Stop};
 use std::alloc::Global;
 use std::marker::Brand;
 use std::process::Abort;
-use std::sync::Wait;
 use std::sync::ledger::{Blank, Ledger};
+use std::sync::{Arc, Wait};
 use std::thread::Threads;
 
 /// An executable of 28 bytes of code, which is loaded and entered at 0x10000: a loop of two instructions from 0x10008 on,
@@ -25,12 +27,34 @@ const COUNTING: [u8; 112] = [
     0xE3, 0x9E, 0x62, 0xFE, 0x93, 0x08, 0xD0, 0x05, 0x13, 0x05, 0x00, 0x00, 0x73, 0x00, 0x00, 0x00,
 ];
 
-/// How that program goes beside so many workers, and its numbers.
-fn count_beside<L: Ledger, R: Abort + Threads + Wait + Sync + Copy + Drop + Send>(
+/// The entry of the image's lap that begins at such an x5.
+fn lap_from(alloc: Global, image: &Image<'_>, x5: u32) -> Result<Arc<Entry>, Memory> {
+    let mut state = State::new(alloc, image.shape())?;
+    image.put(&mut state);
+    state.set_pc(0x10008);
+    state.set_reg(5, x5);
+    state.set_reg(6, 4);
+    let mut tracer = Tracer::new(alloc, state.shape(), 96)?;
+    let guess = Guess::last(Snapshot::of(alloc, &state)?);
+    let stop = Stop {
+        pc: 0x10008,
+        laps: 1,
+        span: 100,
+    };
+    match Entry::traced(alloc, &mut tracer, guess, &stop, &mut Never) {
+        Made::One(entry) => Ok(entry),
+        Made::Empty | Made::Stopped | Made::Refused => Err(Memory),
+    }
+}
+
+/// How that program goes beside so many workers, where the laps from these x5 are known, and its numbers.
+fn count_beside<L: Ledger, R: Abort + Threads + Wait + Sync + Copy + Drop + Send, G: Gate + Sync>(
     rt: &R,
     alloc: Global,
     blank: Blank,
     workers: usize,
+    known: &[u32],
+    gate: &G,
 ) -> (Worked, Counts)
     requires name { blank.name ≡ L.name }
     requires parts { blank.parts ≡ L.parts }
@@ -50,14 +74,19 @@ fn count_beside<L: Ledger, R: Abort + Threads + Wait + Sync + Copy + Drop + Send
         span: 100,
         ahead: 2,
     };
+    let mut first = Vec::new(alloc);
+    for &x5 in known {
+        let entry = lap_from(alloc, &image, x5).expect(rt, "memory");
+        first.push(entry).expect(rt, "memory");
+    }
     let worked = go_beside(
         rt,
         alloc,
         &mut walk,
         guessing,
         Crew { workers, queue: 4 },
-        &[],
-        &Open,
+        &first,
+        gate,
         &mut SureSource::new(Vec::new(alloc)),
         &mut CountSink::new(),
         &mut CountSink::new(),
@@ -69,7 +98,14 @@ fn count_beside<L: Ledger, R: Abort + Threads + Wait + Sync + Copy + Drop + Send
 #[test]
 fn counts(rt: HostRuntime) {
     for workers in 1..3 {
-        let (worked, counts) = count_beside::<Brand, _>(&rt, rt.alloc(), Blank::new(1), workers);
+        let (worked, counts) = count_beside::<Brand, _, _>(
+            &rt,
+            rt.alloc(),
+            Blank::new(1),
+            workers,
+            &[],
+            &Open,
+        );
         assert_eq!(rt; worked.ended, Ended::Exit(0));
         assert_eq!(rt; counts.count, 13);
         assert!(rt; counts.executed < 14 && counts.skipped < 14);
@@ -88,4 +124,37 @@ fn counts(rt: HostRuntime) {
         assert_eq!(rt; worked.refused, 0);
         assert_eq!(rt; worked.made + worked.full, due);
     }
+}
+
+/// The only worker waits in its first job for the walk's end. So the walk finds what was known: laps 2 and 3, two steps
+/// each.
+#[test]
+fn entries_are_known(rt: HostRuntime) {
+    let holds = [
+        Hold {
+            at: Point::Taken,
+            ticket: 0,
+            until: Point::Ended,
+            other: 0,
+        },
+        Hold {
+            at: Point::Ended,
+            ticket: 0,
+            until: Point::Taken,
+            other: 0,
+        },
+    ];
+    let gate = HoldGate::new(rt.alloc(), &holds, 1_000_000).expect(&rt, "memory");
+    let (worked, counts) = count_beside::<Brand, _, _>(
+        &rt,
+        rt.alloc(),
+        Blank::new(1),
+        1,
+        &[1, 2],
+        &gate,
+    );
+    assert!(rt; gate.all_held());
+    assert_eq!(rt; worked.ended, Ended::Exit(0));
+    assert_eq!(rt; (counts.executed, counts.skipped), (9, 4));
+    assert_eq!(rt; (counts.asked, counts.hits), (4, 2));
 }
