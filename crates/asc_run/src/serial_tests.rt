@@ -6,9 +6,11 @@ use crate::{Counts, Ended, Helper, MOST_STEPS, Recognised, Serial, Settings};
 use asc_find::{Finder, Guessing};
 use asc_guess::Kind;
 use asc_shape::{Shape, State};
+use asc_shard::Inserted;
 use asc_traj::Made;
 use std::marker::Brand;
 use std::process::Abort;
+use std::sync::Arc;
 use std::sync::ledger::Blank;
 
 /// The kinds that are on, two visits ahead.
@@ -137,6 +139,41 @@ fn runs_alone(rt: HostRuntime) {
         assert_eq!(rt; serial.full(), 0);
     }
     assert!(rt; refused_runs <= 1);
+}
+
+/// A run with no kind on, which has what a run with strides kept, makes no guess and takes the same jumps. Where memory
+/// was wanting in the first run, it may have kept less.
+#[test]
+fn runs_preloaded(rt: HostRuntime) {
+    let alloc = rt.alloc();
+    let shape = Shape::new(0x10000, 65_536).expect(&rt, "a shape");
+    let settings = Settings {
+        limit: MOST_STEPS,
+        recognised: Recognised::At(0x10008),
+    };
+    let mut first = Serial::new(alloc, shape, two_ahead(false, true)).expect(&rt, "memory");
+    let _ = run::<_, Brand, _>(&rt, alloc, Blank::new(1), &COUNTING, settings, &mut first);
+    let mut second = Serial::new(alloc, shape, two_ahead(false, false)).expect(&rt, "memory");
+    let kept = first.content();
+    for i in 0..kept.len() {
+        let entry = Arc::try_clone(kept.entry(i)).expect(&rt, "memory");
+        assert_eq!(rt; second.preload(entry), Inserted::Stored);
+    }
+    let got = run::<_, Brand, _>(&rt, alloc, Blank::new(1), &COUNTING, settings, &mut second);
+    assert!(rt; first.refused().saturating_add(second.refused()) <= 1);
+    assert_eq!(rt; (got.0, second.made()), (Ended::Exit(0), 0));
+    if first.refused() == 0 {
+        assert_eq!(rt;
+            got.1,
+            Counts {
+                count: 13,
+                executed: 7,
+                skipped: 6,
+                asked: 4,
+                hits: 2,
+            }
+        );
+    }
 }
 
 /// A visit's calls, as another runner makes them, which can do none of the jobs.
