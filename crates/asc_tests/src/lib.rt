@@ -15,6 +15,8 @@ mod outside;
 #[cfg(test)]
 mod programs;
 #[cfg(test)]
+mod saved_entries;
+#[cfg(test)]
 mod single_steps;
 #[cfg(test)]
 mod traces;

@@ -61,6 +61,13 @@ pub(crate) struct Got {
     pub(crate) report: ListSink,
 }
 
+impl Got {
+    /// How often the store was asked for a file.
+    pub(crate) fn asked<R: Abort>(&self, rt: &R) -> usize {
+        self.store.asked().expect(rt, "memory for the names").len()
+    }
+}
+
 /// Runs the words of a command line, with one space between two words, where the store has one file, `image`.
 pub(crate) fn run_line<R: Abort + Threads + Wait + Sync + Copy + Drop + Send>(
     rt: &R,
@@ -69,15 +76,25 @@ pub(crate) fn run_line<R: Abort + Threads + Wait + Sync + Copy + Drop + Send>(
     file: Vec<u8>,
     devices: &Devices,
 ) -> Result<Got, AllocError> {
-    run_gated(rt, alloc, line, file, devices, &Open)
+    run_gated(rt, alloc, line, only_image(alloc, file)?, devices, &Open)
 }
 
-/// The same with a gate, which may hold up the run and its workers.
+/// The files of a store that has one, `image`.
+pub(crate) fn only_image(
+    alloc: Global,
+    file: Vec<u8>,
+) -> Result<Vec<(String, Vec<u8>)>, AllocError> {
+    let mut files = Vec::new(alloc);
+    files.push((String::from_str(alloc, "image")?, file))?;
+    Ok(files)
+}
+
+/// The same with any files, and a gate, which may hold up the run and its workers.
 pub(crate) fn run_gated<R: Abort + Threads + Wait + Sync + Copy + Drop + Send, G: Gate + Sync>(
     rt: &R,
     alloc: Global,
     line: &str,
-    file: Vec<u8>,
+    files: Vec<(String, Vec<u8>)>,
     devices: &Devices,
     gate: &G,
 ) -> Result<Got, AllocError> {
@@ -85,7 +102,7 @@ pub(crate) fn run_gated<R: Abort + Threads + Wait + Sync + Copy + Drop + Send, G
     for word in line.split(' ') {
         words.push(String::from_str(alloc, word)?)?;
     }
-    run_over::<Brand, _, _>(rt, alloc, &words, file, devices, gate, Blank::new(1))
+    run_over::<Brand, _, _>(rt, alloc, &words, files, devices, gate, Blank::new(1))
 }
 
 /// Runs the words of a command line in the same way, and compares what came of them with what must.
@@ -160,7 +177,7 @@ fn run_over<L: Ledger, R: Abort + Threads + Wait + Sync + Copy + Drop + Send, G:
     rt: &R,
     alloc: Global,
     words: &[String],
-    file: Vec<u8>,
+    files: Vec<(String, Vec<u8>)>,
     devices: &Devices,
     gate: &G,
     blank: Blank,
@@ -169,8 +186,6 @@ fn run_over<L: Ledger, R: Abort + Threads + Wait + Sync + Copy + Drop + Send, G:
     requires parts { blank.parts ≡ L.parts }
     requires some { 0 < L.parts }
 {
-    let mut files = Vec::new(alloc);
-    files.push((String::from_str(alloc, "image")?, file))?;
     let most = devices.most.max(1);
     let [store_fails, input_fails, out_fails, err_fails, report_fails] = devices.fails;
     let mut store = ListStore::new(files, vec![in alloc; store_fails; 1]?);

@@ -1,6 +1,6 @@
 //! Runs with workers: the counting loop while workers or the run are held up.
 use crate::images::wrap;
-use crate::outside::{SOUND, run_gated};
+use crate::outside::{SOUND, only_image, run_gated};
 use crate::whole_runs::COUNTS;
 use asc_outside::{Hold, HoldGate, Point};
 use asc_top::Answer;
@@ -91,7 +91,8 @@ fn count_held<R: Abort + Threads + Wait + Sync + Copy + Drop + Send>(
     held: &Held<'_>,
 ) -> Result<(), AllocError> {
     let gate = HoldGate::new(alloc, held.holds, TURNS).expect(rt, "memory");
-    let got = run_gated(rt, alloc, held.line, wrap(alloc, COUNTS)?, &SOUND, &gate)?;
+    let files = only_image(alloc, wrap(alloc, COUNTS)?)?;
+    let got = run_gated(rt, alloc, held.line, files, &SOUND, &gate)?;
     let report = str::from_utf8(got.report.bytes()).expect(rt, "text");
     assert!(rt; gate.all_held(), "a hold did not hold at {report}");
     assert_eq!(rt; got.answer, Answer::Exit(0), "at {report}");
@@ -171,7 +172,8 @@ fn unreported_workers(rt: HostRuntime) -> Result<(), Fail> {
     let alloc = rt.alloc();
     let line = "asc run image --pc 10008 --guess stride --ahead 2 --workers 2";
     let gate = HoldGate::new(alloc, &[end_until(0)], TURNS).expect(&rt, "memory");
-    let got = run_gated(&rt, alloc, line, wrap(alloc, COUNTS)?, &SOUND, &gate)?;
+    let files = only_image(alloc, wrap(alloc, COUNTS)?)?;
+    let got = run_gated(&rt, alloc, line, files, &SOUND, &gate)?;
     assert!(rt; gate.all_held(), "no worker ran");
     assert_eq!(rt;
         (got.answer, got.report.bytes().len()),

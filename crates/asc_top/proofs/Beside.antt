@@ -1,11 +1,10 @@
 -- What a walk beside workers did, as a line asks.
-use Rattle.std.proofs.Common.{◌≡◌, ◌∙◌, ℕ, ◌+◌, ◌<◌, ◌≤◌, Option, List, length, Ok, sym, ap, subst, arith, inl, inr}
-use Rattle.asc_model.specs.Shape.{IsShape}
-use Rattle.asc_elf.specs.Image as loader
+use Rattle.std.proofs.Common.{◌≡◌, ◌∙◌, ◌+◌, ◌<◌, Option, List, sym, ap, subst, arith, inl, inr}
+use Rattle.asc_model.specs.Entry.{Entry}
 use Rattle.asc_calls.specs.World.{Outside}
 use Rattle.asc_run.specs.declared.walk.Counts.{Counts as WalkCounts}
 use Rattle.asc_run.specs.Seen.{guesses_until}
-use Rattle.asc_run.specs.Walk.{Walk, new_walk}
+use Rattle.asc_run.specs.Walk.{Walk}
 use Rattle.asc_live.specs.Crew.{WentBeside}
 use Rattle.asc_live.specs.declared.crew.Worked.{Worked}
 use Rattle.asc_words.specs.declared.line.RunLine.{RunLine}
@@ -13,14 +12,13 @@ use Rattle.asc_words.specs.declared.answer.Answer.TheVariants as answers
 use Rattle.asc_words.specs.declared.answer.Counts.{Counts}
 use Rattle.asc_words.specs.declared.answer.Outcome.{Outcome}
 use Rattle.asc_words.specs.Answer.{outcome_of}
-use Rattle.asc_words.specs.Line.{file_limit}
-use Rattle.asc_top.specs.Program.{answer_at, load_of}
-use Rattle.asc_top.specs.Numbers.{AreWorkerNumbers, WorkersAreTold, counts_of, guessing_of, reported_at, settings_of}
+use Rattle.asc_top.specs.Program.{Files, answer_at}
+use Rattle.asc_top.specs.Numbers.{AreWorkerNumbers, WorkersAreTold, counts_of, guessing_of, reported_at}
 use Rattle.asc_top.specs.Workers.{crew_of, workers_of}
-use Rattle.asc_top.specs.Ran.{Ran, RanBeside, WalkedBeside}
+use Rattle.asc_top.specs.Ran.{AreOpened, Ran, RanBeside, WalkedBeside}
 use Rattle.asc_top.proofs.Ends.{workers-told}
 use Rattle.asc_top.proofs.Refused.{ran_memory}
-use Rattle.asc_top.proofs.Serials.{IsNew, few, seen}
+use Rattle.asc_top.proofs.Serials.{IsNew}
 use Rattle.asc_top.proofs.Walks.{ran}
 
 module _ (line : RunLine) (was now : Walk) (old new : Outside) (worked : Worked) (counts : WalkCounts) (went : WentBeside (guessing_of line) (crew_of line) was now old new worked)
@@ -69,21 +67,18 @@ module _ (line : RunLine) (was now : Walk) (old new : Outside) (worked : Worked)
     workers = workers-told line worked.ended (counts_of counts worked.made worked.refused) (workers_of worked) some are line.report;
   }
 
--- a file's walk beside workers
-module _ (line : RunLine) (content : List ℕ) (image : loader.Image) (within : length content ≤ file_limit) (loads : load_of line content ≡ Ok image) (good : IsShape image.start.shape)
-    (was now : Walk) (is : was ≡ new_walk image (settings_of line)) (old new : Outside) (outcome : Outcome) (some : 0 < line.workers) where
-  walked : WalkedBeside line was now old new outcome → Ran old new line content outcome
+-- a walk of a line's image beside workers
+module _ (line : RunLine) (files : Files) (was : Walk) (entries : List Entry) (opened : AreOpened line files was entries) (now : Walk) (old new : Outside) (outcome : Outcome) (some : 0 < line.workers) where
+  walked : WalkedBeside line was now old new outcome → Ran old new line files outcome
   walked b =
       let told : WorkersAreTold line (reported_at line.report b.walked.ended (counts_of b.walked.counts b.last.plan.made b.last.plan.refused)) outcome.workers =
       subst (λ (c : Option Counts). WorkersAreTold line c outcome.workers) (ap (λ (o : Outcome). o.counts) b.walked.outcome_is) b.workers in
       let fresh : IsNew b.first = record { tally = b.fresh.tally_is; made = b.fresh.made; refused = b.fresh.refused; full = b.fresh.full } in
-      ran line content image within loads good was now is old new b.first b.last outcome.workers outcome b.walked told
-      (seen line content image within loads good was now is old new b.first b.last outcome.workers outcome b.walked fresh)
-      (few line content image within loads good was now is old new b.first b.last outcome.workers outcome b.walked fresh)
+      ran line files was entries opened now old new b.first b.last outcome.workers outcome b.walked fresh told
       (λ alone. absurd (let no : ⊥ = omega (arith, alone, some) in no)) (λ alone. absurd (let no : ⊥ = omega (arith, alone, some) in no))
 
-  pub ran_beside : RanBeside line was now old new outcome → Ran old new line content outcome
+  pub ran_beside : RanBeside line was now old new outcome → Ran old new line files outcome
   ran_beside (inl b) = walked b
   ran_beside (inr wanting) =
-      subst (λ (o : Outcome). Ran old new line content o) (sym wanting.0)
-      (subst (λ (o : Outside). Ran old o line content (outcome_of answers.Memory)) (sym wanting.1) (ran_memory line content image old loads good))
+      subst (λ (o : Outcome). Ran old new line files o) (sym wanting.0)
+      (subst (λ (o : Outside). Ran old o line files (outcome_of answers.Memory)) (sym wanting.1) (ran_memory line files opened.own.image old opened.own.loads opened.own.good))

@@ -8,3 +8,8 @@ pub mod Beside
 pub mod Serials
 pub mod Runs
 pub mod Trials
+pub mod Refusals
+pub mod ReadFiles
+pub mod Saving
+pub mod Alone
+pub mod Leaving

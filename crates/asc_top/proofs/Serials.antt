@@ -1,28 +1,27 @@
--- The numbers of a walk with a new helper are those of a serial run.
-use Rattle.std.proofs.Common.{◌≡◌, ◌∙◌, ℕ, ◌+◌, ◌≤◌, ◌&&◌, ◌||◌, Bool, true, false, Option, Some, List, [], length, Ok, refl, sym, ap, subst, arith}
-use Rattle.std.specs.Prelude.{if◌then◌else◌}
-use Rattle.asc_model.specs.Shape.{IsShape}
+-- The numbers of a walk with a new helper are those of its visits, and of a serial run.
+use Rattle.std.proofs.Common.{◌≡◌, ◌∙◌, ℕ, ◌+◌, ◌*◌, ◌≤◌, ◌&&◌, ◌||◌, Bool, true, false, Option, Some, None, List, [], refl, sym, ap, subst, arith}
+use Rattle.std.specs.Option.{is_some}
+use Rattle.asc_model.specs.Entry.{Entry}
 use Rattle.asc_elf.specs.Image as loader
 use Rattle.asc_calls.specs.World.{Outside}
 use Rattle.asc_find.specs.Finder.{Tally}
 use Rattle.asc_run.specs.declared.recognised.Recognised.{Recognised}
-use Rattle.asc_run.specs.declared.recognised.Recognised.TheVariants.{Nowhere}
+use Rattle.asc_run.specs.declared.walk.Settings.{Settings}
 use Rattle.asc_run.specs.Execution.{exec}
-use Rattle.asc_run.specs.Helped.{Aid, IsSerial}
-use Rattle.asc_run.specs.Visits.{AreVisits, Visit, is_mark, tally_of}
+use Rattle.asc_run.specs.Helped.{Aid, HasVisits, IsSerial}
+use Rattle.asc_run.specs.Visits.{AreVisits, is_mark, tally_of}
 use Rattle.asc_run.specs.Serial.{kinds_of}
-use Rattle.asc_run.specs.SerialRun.{serial_of}
-use Rattle.asc_run.specs.Walk.{Walk, new_walk, tally}
+use Rattle.asc_run.specs.SerialRun.{IsSerialRun, serial_of}
+use Rattle.asc_run.specs.Walk.{GoesHelped, Walk, new_walk, tally, world_of}
 use Rattle.asc_run.proofs.Seeings.{visits-asked}
 use Rattle.asc_words.specs.declared.line.RunLine.{RunLine}
+use Rattle.asc_words.specs.declared.answer.Counts.{Counts}
 use Rattle.asc_words.specs.declared.answer.Outcome.{Outcome}
 use Rattle.asc_words.specs.declared.answer.WorkerCounts.{WorkerCounts}
-use Rattle.asc_words.specs.Line.{file_limit}
-use Rattle.asc_top.specs.Program.{load_of}
-use Rattle.asc_top.specs.Numbers.{course_of_image, guessing_of, has_workers, makes_guesses, recognised_by, settings_of}
+use Rattle.asc_top.specs.Program.{run_of_image}
+use Rattle.asc_top.specs.Numbers.{AreOfVisits, counts_of, course_of_image, guessing_of, keeps_entries, numbers_of, recognised_by}
 use Rattle.asc_top.specs.Ran.{Walked}
 use Rattle.asc_top.proofs.Unguessed.{idles, none_given}
-use Rattle.asc_top.proofs.Walks.{AreFew, AreSeen, AreSerial, IsPlain, goes}
 
 -- a helper that has done nothing
 pub record IsNew (first : Aid) : Type 0 where
@@ -31,85 +30,112 @@ pub record IsNew (first : Aid) : Type 0 where
   pub refused : first.plan.refused ≡ 0
   pub full : first.plan.full ≡ 0
 
--- where no guesses are to be made of numbers that are asked for, no kind is on
-no_kind : (report last stride : Bool) → (report && (last || stride)) ≡ false → report ≡ true → (last ≡ false) × (stride ≡ false)
-no_kind false last stride none asked = absurd (cc)
-no_kind true true stride none asked = absurd (cc)
-no_kind true false true none asked = absurd (cc)
-no_kind true false false none asked = (refl, refl)
+-- where no entries are to be kept none are saved, and of numbers that are asked for no kind of guess is on
+no_kind : (some report last stride : Bool) → (some || (report && (last || stride))) ≡ false → report ≡ true → (last ≡ false) × (stride ≡ false)
+no_kind true report last stride none asked = absurd (cc)
+no_kind false false last stride none asked = absurd (cc)
+no_kind false true true stride none asked = absurd (cc)
+no_kind false true false true none asked = absurd (cc)
+no_kind false true false false none asked = (refl, refl)
 
-no_kinds : (line : RunLine) → makes_guesses line ≡ false → line.report ≡ true → kinds_of (guessing_of line) ≡ []
+pub no_kinds : (line : RunLine) → keeps_entries line ≡ false → line.report ≡ true → kinds_of (guessing_of line) ≡ []
 no_kinds line none asked =
-    let off = no_kind line.report line.last line.stride none asked in
+    let off = no_kind (is_some line.load) line.report line.last line.stride none asked in
     λ i. kinds_of (record (guessing_of line) { last = off.0 i; stride = off.1 i })
 
-module _ (line : RunLine) (content : List ℕ) (image : loader.Image) (within : length content ≤ file_limit) (loads : load_of line content ≡ Ok image) (good : IsShape image.start.shape)
-    (was now : Walk) (is : was ≡ new_walk image (settings_of line)) (old new : Outside) (first last : Aid) (workers : Option WorkerCounts) (outcome : Outcome)
-    (w : Walked line.report was now old new first last workers outcome) (fresh : IsNew first) where
-  abbrev Serial : Type 0
-  Serial = AreSerial line content image within loads good was now is old new first last workers outcome w
+no_load : (load : Option (List ℕ)) (rest : Bool) → (is_some load || rest) ≡ false → load ≡ None
+no_load None rest none = refl
+no_load (Some name) rest none = absurd (cc)
 
-  abbrev visits : List Visit
-  visits = (goes line content image within loads good was now is old new first last workers outcome w).visits
+pub unloaded : (line : RunLine) → keeps_entries line ≡ false → line.load ≡ None
+unloaded line none = no_load line.load _ none
 
-  counted : tally_of visits (tally 0 0 0) ≡ tally w.counts.asked w.counts.skipped w.counts.hits
+-- as far as a line says, with visits at these addresses
+abbrev pub settings_at : RunLine → Recognised → Settings
+settings_at line recognised = record { limit = line.limit; recognised = recognised }
+
+-- a walk from an image's start
+module _ (line : RunLine) (image : loader.Image) (recognised : Recognised) (is_asked : Bool) (was now : Walk) (is : was ≡ new_walk image (settings_at line recognised)) (old new : Outside) (first last : Aid)
+    (workers : Option WorkerCounts) (outcome : Outcome) (w : Walked is_asked was now old new first last workers outcome) (fresh : IsNew first) where
+  pub goes : GoesHelped line.limit (is_mark recognised) (world_of (new_walk image (settings_at line recognised)) old) (world_of now new) first last now.count now.tally.given w.ended
+  goes = subst (λ (v : Walk). GoesHelped v.settings.limit (is_mark v.settings.recognised) (world_of v old) (world_of now new) first last now.count now.tally.given w.ended) is w.goes
+
+  abbrev pub told : Counts
+  told = counts_of w.counts last.plan.made last.plan.refused
+
+  -- what the walk says of its run over an input
+  abbrev pub SaysVisits : (left : List ℕ) → Type 0
+  SaysVisits left = HasVisits line.limit (is_mark recognised) image.start goes.visits first last line.limit (course_of_image image left)
+
+  counted : tally_of goes.visits (tally 0 0 0) ≡ tally w.counts.asked w.counts.skipped w.counts.hits
   counted =
-      let g = goes line content image within loads good was now is old new first last workers outcome w in
+      let g = goes in
       let asked : first.tally.asked + now.tally.asked ≡ w.counts.asked = omega (arith, w.asked, ap (λ (t : Tally). t.asked) fresh.tally) in
       let given : first.tally.given + now.tally.given ≡ w.counts.skipped = omega (arith, w.skipped, ap (λ (t : Tally). t.given) fresh.tally) in
       let hits : first.tally.hits + now.tally.hits ≡ w.counts.hits = omega (arith, w.hits, ap (λ (t : Tally). t.hits) fresh.tally) in
-      ap (λ (t : Tally). tally_of visits t) (sym fresh.tally) ∙ sym g.helped.tally ∙ w.raised ∙ (λ i. tally (asked i) (given i) (hits i))
+      ap (λ (t : Tally). tally_of g.visits t) (sym fresh.tally) ∙ sym g.helped.tally ∙ w.raised ∙ (λ i. tally (asked i) (given i) (hits i))
 
-  marked_by_line : line.report ≡ true → (left : List ℕ)
-      → AreVisits line.limit (course_of_image image left) (is_mark (settings_of line).recognised (course_of_image image left)) visits line.limit
-      → AreVisits line.limit (course_of_image image left) (is_mark (recognised_by line) (course_of_image image left)) visits line.limit
-  marked_by_line asked left are =
-      let same : (settings_of line).recognised ≡ recognised_by line = ap (λ (b : Bool). if b || has_workers line then recognised_by line else Nowhere) asked in
-      subst (λ (r : Recognised). AreVisits line.limit (course_of_image image left) (is_mark r (course_of_image image left)) visits line.limit) same are
+  marked_by_line : recognised ≡ recognised_by line → (left : List ℕ)
+      → AreVisits line.limit (course_of_image image left) (is_mark recognised (course_of_image image left)) goes.visits line.limit
+      → AreVisits line.limit (course_of_image image left) (is_mark (recognised_by line) (course_of_image image left)) goes.visits line.limit
+  marked_by_line same left are =
+      subst (λ (r : Recognised). AreVisits line.limit (course_of_image image left) (is_mark r (course_of_image image left)) goes.visits line.limit) same are
 
   -- the numbers are those of the visits
-  pub seen : AreSeen line content image within loads good was now is old new first last workers outcome w
-  seen = λ asked left has. record { visits = visits; are = marked_by_line asked left has.are; tally = counted }
+  pub seen : recognised ≡ recognised_by line → (left : List ℕ) → SaysVisits left
+      → AreOfVisits line.limit (is_mark (recognised_by line) (course_of_image image left)) (course_of_image image left) told
+  seen same left has = record { visits = goes.visits; are = marked_by_line same left has.are; tally = counted }
 
   -- at most 128 guesses were made at each of them
-  pub few : AreFew line content image within loads good was now is old new first last workers outcome w
+  pub few : told.made ≤ 128 * told.asked
   few =
-      let g = goes line content image within loads good was now is old new first last workers outcome w in
-      let all = visits-asked visits now.tally first.tally last.tally g.helped.tally w.raised in
+      let g = goes in
+      let all = visits-asked g.visits now.tally first.tally last.tally g.helped.tally w.raised in
       omega (arith, g.helped.plans.few, fresh.made, fresh.full, all, w.asked)
 
+  -- The numbers are those of a serial run from these entries on, and the helper tells the machine at its end.
+  pub record IsByMachine (left : List ℕ) (content : List Entry) : Type 0 where
+    pub run : IsSerialRun line.limit (is_mark (recognised_by line) (course_of_image image left)) (course_of_image image left) image.start.shape (guessing_of line) content (numbers_of told)
+    pub machine : last.machine ≡ Some run.now
+
   -- with the machine of a serial run
-  pub serial_of_machine : first.machine ≡ Some (serial_of image.start.shape (guessing_of line) []) → Serial
+  pub serial_of_machine : (content : List Entry) → first.machine ≡ Some (serial_of image.start.shape (guessing_of line) content) → recognised ≡ recognised_by line → (left : List ℕ)
+      → (run_of_image line image left).count ≡ now.count → SaysVisits left → last.plan.refused ≡ 0 → IsByMachine left content
   unfolding exec
-  serial_of_machine machine = λ alone asked left count has refused.
+  serial_of_machine content machine same left count has refused =
       let k = has.serial _ machine refl (refused ∙ sym fresh.refused) in
       let made : k.1 ≡ last.plan.made = omega (arith, k.4.1, fresh.made) in
       record {
-        visits = visits;
-        are = marked_by_line asked left has.are;
-        now = k.0;
-        serial = subst (λ (m : ℕ). IsSerial line.limit (course_of_image image left) (serial_of image.start.shape (guessing_of line) []) visits k.0 m) made k.4.0;
-        tally = counted;
-        executed = w.executed ∙ sym count;
+        run = record {
+          visits = goes.visits;
+          are = marked_by_line same left has.are;
+          now = k.0;
+          serial = subst (λ (m : ℕ). IsSerial line.limit (course_of_image image left) (serial_of image.start.shape (guessing_of line) content) goes.visits k.0 m) made k.4.0;
+          tally = counted;
+          executed = w.executed ∙ sym count;
+        };
+        machine = k.2;
       }
 
   -- with a helper that gives no jump, where no kind of guess is on
-  pub serial_of_none : makes_guesses line ≡ false → last.tally.hits ≡ 0 → last.plan.made ≡ 0 → Serial
+  pub serial_of_none : kinds_of (guessing_of line) ≡ [] → last.tally.hits ≡ 0 → last.plan.made ≡ 0 → recognised ≡ recognised_by line → (left : List ℕ)
+      → (run_of_image line image left).count ≡ now.count → SaysVisits left
+      → IsSerialRun line.limit (is_mark (recognised_by line) (course_of_image image left)) (course_of_image image left) image.start.shape (guessing_of line) [] (numbers_of told)
   unfolding exec
-  serial_of_none none no_hit no_guess = λ alone asked left count has refused.
-      let g = goes line content image within loads good was now is old new first last workers outcome w in
-      let unhit : (tally_of visits first.tally).hits ≡ 0 = ap (λ (t : Tally). t.hits) (sym g.helped.tally) ∙ no_hit in
-      let idle = idles line.limit (course_of_image image left) (settings_of line).recognised (serial_of image.start.shape (guessing_of line) []) (record { kinds = no_kinds line none asked; content = refl })
-      visits line.limit has.are (none_given visits first.tally unhit) in
+  serial_of_none none no_hit no_guess same left count has =
+      let g = goes in
+      let unhit : (tally_of g.visits first.tally).hits ≡ 0 = ap (λ (t : Tally). t.hits) (sym g.helped.tally) ∙ no_hit in
+      let idle = idles line.limit (course_of_image image left) recognised (serial_of image.start.shape (guessing_of line) []) (record { kinds = none; content = refl })
+      g.visits line.limit has.are (none_given g.visits first.tally unhit) in
       record {
-        visits = visits;
-        are = marked_by_line asked left has.are;
+        visits = g.visits;
+        are = marked_by_line same left has.are;
         now = idle.now;
-        serial = subst (λ (m : ℕ). IsSerial line.limit (course_of_image image left) (serial_of image.start.shape (guessing_of line) []) visits idle.now m) (sym no_guess) idle.serial;
+        serial = subst (λ (m : ℕ). IsSerial line.limit (course_of_image image left) (serial_of image.start.shape (guessing_of line) []) g.visits idle.now m) (sym no_guess) idle.serial;
         tally = counted;
         executed = w.executed ∙ sym count;
       }
 
   -- a helper that gives no jump runs it plainly
-  pub plain_of_none : last.tally.given ≡ 0 → IsPlain line content image within loads good was now is old new first last workers outcome w
-  plain_of_none none = λ alone unasked. let raised : last.tally.given ≡ first.tally.given + now.tally.given = ap (λ (t : Tally). t.given) w.raised in omega (arith, none, raised)
+  pub plain_of_none : last.tally.given ≡ 0 → now.tally.given ≡ 0
+  plain_of_none none = let raised : last.tally.given ≡ first.tally.given + now.tally.given = ap (λ (t : Tally). t.given) w.raised in omega (arith, none, raised)

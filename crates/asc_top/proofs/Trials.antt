@@ -16,17 +16,18 @@ use Rattle.asc_words.specs.declared.answer.Answer.{Answer}
 use Rattle.asc_words.specs.declared.answer.Answer.TheVariants as answers
 use Rattle.asc_words.specs.declared.answer.Counts.{Counts}
 use Rattle.asc_words.specs.declared.answer.Outcome.{Outcome}
+use Rattle.asc_words.specs.declared.answer.SavedFault.{SavedFault}
 use Rattle.asc_words.specs.declared.answer.TrialOutcome.{TrialOutcome}
 use Rattle.asc_words.specs.Answer.{outcome_of}
 use Rattle.asc_words.specs.Report.{trial_text}
 use Rattle.asc_words.specs.Line.{file_limit}
-use Rattle.asc_top.specs.Program.{Gives, GivesPart, ProgramResult, answer_at, load_of, meaning, result_of_load, run_of_image, trial_run}
+use Rattle.asc_top.specs.Program.{Gives, GivesPart, IsNoSaved, ProgramResult, answer_at, image_alone, load_of, meaning, result_of_load, run_of_image, trial_run}
 use Rattle.asc_top.specs.Numbers.{AreNumbers, AreTold, AreTrialNumbers, Means, Tries, exit_at, exit_of, result_of_trial, told_by_trial, trial_meaning, trial_of, trial_result}
 use Rattle.asc_top.specs.Ran.{Ran}
 use Rattle.asc_top.specs.Kinds.{Finished, kind_of, device_of_answer, Completes, IsRefusal}
 use Rattle.asc_top.specs.Answered.{IsAnswerFor, devices}
 use Rattle.asc_top.specs.Reported.{EndsTrial, IsPut, told_of_trial}
-use Rattle.asc_top.proofs.Causes.{meaning-within, runs-limit, runs-fault, image-is, done-never, usage-never, too_long-never, store_fault-never, report_fault-never}
+use Rattle.asc_top.proofs.Causes.{meaning-within, runs-limit, runs-fault, image-is, saved-is, done-never, usage-never, too_long-never, store_fault-never, report_fault-never}
 use Rattle.asc_top.proofs.Outputs.{out-exec}
 use Rattle.asc_top.proofs.Runs.{completed}
 
@@ -58,6 +59,7 @@ other_result n workers counts run (answers.Fault fault count) other = refl
 other_result n workers counts run (answers.Usage bad) other = refl
 other_result n workers counts run (answers.Image fault) other = refl
 other_result n workers counts run answers.TooLong other = refl
+other_result n workers counts run (answers.Saved fault) other = refl
 other_result n workers counts run answers.StoreFault other = refl
 other_result n workers counts run answers.Memory other = refl
 other_result n workers counts run answers.ReadFault other = refl
@@ -89,6 +91,7 @@ exits (answers.Fault fault count) counts status own is = absurd (cc)
 exits (answers.Usage bad) counts status own is = absurd (cc)
 exits (answers.Image fault) counts status own is = absurd (cc)
 exits answers.TooLong counts status own is = absurd (cc)
+exits (answers.Saved fault) counts status own is = absurd (cc)
 exits answers.StoreFault counts status own is = absurd (cc)
 exits answers.Memory counts status own is = absurd (cc)
 exits answers.ReadFault counts status own is = absurd (cc)
@@ -109,12 +112,16 @@ one_number : (a b : ℕ) → Some a ≡ Some b → a ≡ b
 one_number a b is = cc
 
 -- what the run of a trial means, by what its image loads as
-means_load : (n workers : ℕ) (load : Result loader.Image ElfFault) → load_of (trial_run workers) (image_of n) ≡ load → trial_meaning n workers ≡ result_of_load (trial_run workers) load []
-means_load n workers load is = meaning-within (trial_run workers) (image_of n) [] (image-within n) ∙ ap (λ (l : Result loader.Image ElfFault). result_of_load (trial_run workers) l []) is
+means_load : (n workers : ℕ) (load : Result loader.Image ElfFault) → load_of (trial_run workers) (image_of n) ≡ load → trial_meaning n workers ≡ result_of_load (trial_run workers) None load []
+means_load n workers load is = meaning-within (trial_run workers) (image_alone (image_of n)) [] (image-within n) ∙ ap (λ (l : Result loader.Image ElfFault). result_of_load (trial_run workers) None l []) is
+
+-- it has no saved entries
+unsaved : {line : RunLine} {content : List ℕ} (fault : SavedFault) → IsNoSaved fault line (image_alone content) → ⊥
+unsaved fault unloaded = let refused = unloaded.refused in cc
 
 -- the run of a trial over its own devices, which never fail
 module _ (n workers : ℕ) (remains : Option (List ℕ)) (put complained before after : ℕ) (outcome : Outcome)
-    (r : Ran (outside (Some []) (given_number 0) (given_number 0) before (faults 0 0 0)) (outside remains (given_number put) (given_number complained) after (faults 0 0 0)) (trial_run workers) (image_of n) outcome) where
+    (r : Ran (outside (Some []) (given_number 0) (given_number 0) before (faults 0 0 0)) (outside remains (given_number put) (given_number complained) after (faults 0 0 0)) (trial_run workers) (image_alone (image_of n)) outcome) where
   abbrev old : Outside
   old = outside (Some []) (given_number 0) (given_number 0) before (faults 0 0 0)
 
@@ -127,18 +134,18 @@ module _ (n workers : ℕ) (remains : Option (List ℕ)) (put complained before 
   undisturbed : device_of_answer outcome.answer ≡ None
   undisturbed = no_device (device_of_answer outcome.answer) r.faults
 
-  run_means : outcome.answer ≢ answers.Memory → Means old new outcome (trial_run workers) (image_of n)
+  run_means : outcome.answer ≢ answers.Memory → Means old new outcome (trial_run workers) (image_alone (image_of n))
   run_means given = r.means given undisturbed
 
   -- the run was made, and gave what it means
-  run_gives : (m : Means old new outcome (trial_run workers) (image_of n)) → Gives old new m.executed outcome.answer run
-  run_gives m = subst (λ (left : List ℕ). Gives old new m.executed outcome.answer (meaning (trial_run workers) (image_of n) left)) (sym m.agrees) m.gives
+  run_gives : (m : Means old new outcome (trial_run workers) (image_alone (image_of n))) → Gives old new m.executed outcome.answer run
+  run_gives m = subst (λ (left : List ℕ). Gives old new m.executed outcome.answer (meaning (trial_run workers) (image_alone (image_of n)) left)) (sym m.agrees) m.gives
 
   -- its numbers, where they are told
-  told_numbers : (m : Means old new outcome (trial_run workers) (image_of n)) (own : Counts) → outcome.counts ≡ Some own → (own.executed ≡ m.executed) × AreTrialNumbers n workers own
+  told_numbers : (m : Means old new outcome (trial_run workers) (image_alone (image_of n))) (own : Counts) → outcome.counts ≡ Some own → (own.executed ≡ m.executed) × AreTrialNumbers n workers own
   told_numbers m own are =
-      let told = subst (λ (c : Option Counts). AreTold (trial_run workers) (load_of (trial_run workers) (image_of n)) m.left m.executed (meaning (trial_run workers) (image_of n) m.left).count c) are m.told in
-      (told.0, subst (λ (left : List ℕ). AreNumbers (trial_run workers) (load_of (trial_run workers) (image_of n)) left own) (sym m.agrees) told.1)
+      let told = subst (λ (c : Option Counts). AreTold (trial_run workers) None (load_of (trial_run workers) (image_of n)) m.left m.executed (meaning (trial_run workers) (image_alone (image_of n)) m.left).count c) are m.told in
+      (told.0, subst (λ (left : List ℕ). AreNumbers (trial_run workers) None (load_of (trial_run workers) (image_of n)) left own) (sym m.agrees) told.1)
 
   -- its numbers, or those of no run where its image were none
   record Told (executed : ℕ) : Type 0 where
@@ -146,7 +153,7 @@ module _ (n workers : ℕ) (remains : Option (List ℕ)) (put complained before 
     numbers : AreTrialNumbers n workers counts
     executed_is : counts.executed ≡ executed
 
-  tells : (m : Means old new outcome (trial_run workers) (image_of n)) → Told m.executed
+  tells : (m : Means old new outcome (trial_run workers) (image_alone (image_of n))) → Told m.executed
   unfolding no_numbers
   tells m = go (load_of (trial_run workers) (image_of n)) refl outcome.counts refl
     where
@@ -161,7 +168,7 @@ module _ (n workers : ℕ) (remains : Option (List ℕ)) (put complained before 
           absurd (cc)
       go (Err fault) is None are = record {
         counts = no_numbers m.executed;
-        numbers = subst (λ (l : Result loader.Image ElfFault). AreNumbers (trial_run workers) l [] (no_numbers m.executed)) (sym is) tt;
+        numbers = subst (λ (l : Result loader.Image ElfFault). AreNumbers (trial_run workers) None l [] (no_numbers m.executed)) (sym is) tt;
         executed_is = refl;
       }
 
@@ -191,7 +198,7 @@ module _ (n workers : ℕ) (remains : Option (List ℕ)) (put complained before 
       let other = no_exit outcome.answer outcome.counts none (λ finished. r.counts.1 (refl, finished)) in
       let within = image-within n in
       let line = trial_run workers in
-      let content = image_of n in
+      let content = image_alone (image_of n) in
       let means_at : (answer : Answer) → outcome.answer ≡ answer → answer ≢ answers.Memory → Means old new outcome line content = λ answer is given. run_means (λ memory. given (sym is ∙ memory)) in
       let tries : Completes outcome.answer → Tries n workers (outside left out err before fs) (outside left out err after fs) outcome.answer =
       λ completes. tries_other left out err fs (completed outcome.answer completes).0 other in
@@ -200,11 +207,13 @@ module _ (n workers : ℕ) (remains : Option (List ℕ)) (put complained before 
         untold = tries;
         stopped = λ device failed. absurd (cc (failed, undisturbed));
         exit = λ code is. other code is;
+        silent = λ line is. absurd (cc);
         done = λ refused is. absurd (done-never line content within _ _ outcome (means_at _ is (λ memory. cc)) refused is);
         limit = λ count is. runs-limit line content within _ _ outcome (means_at _ is (λ memory. cc)) count is;
         fault = λ fault count is. runs-fault line content within _ _ outcome (means_at _ is (λ memory. cc)) fault count is;
         image = λ fault is. image-is line content within _ _ outcome (means_at _ is (λ memory. cc)) fault is;
         too_long = λ is. too_long-never line content within _ _ outcome (means_at _ is (λ memory. cc)) is;
+        saved = λ fault is. absurd (unsaved fault (saved-is line content within _ _ outcome (means_at _ is (λ memory. cc)) fault is));
         usage = λ bad is. absurd (usage-never line content within _ _ outcome (means_at _ is (λ memory. cc)) bad is);
         no_command = λ bad wrong. absurd (cc);
         store_fault = record { rose = λ is. absurd (store_fault-never line content within _ _ outcome (means_at _ is (λ memory. cc)) is); stays = λ _. refl };
@@ -248,7 +257,7 @@ module _ (n workers : ℕ) (remains : Option (List ℕ)) (put complained before 
           → (run.count ≡ own.executed + own.skipped) × (length run.io.out < 2 ^ 64)
       sized (Ok image) is own numbers status exit =
           let same = means_load n workers (Ok image) is in
-          let own_numbers = subst (λ (l : Result loader.Image ElfFault). AreNumbers (trial_run workers) l [] own) is numbers in
+          let own_numbers = subst (λ (l : Result loader.Image ElfFault). AreNumbers (trial_run workers) None l [] own) is numbers in
           let shape = r.shape image is in
           let few : length (run_of_image (trial_run workers) image []).io.out ≤ 1000000 * (image.start.shape.base + image.start.shape.size) =
           out-exec 1000000 image.low (loader.high_of image) image.start [] in
@@ -288,11 +297,13 @@ module _ (n workers : ℕ) (remains : Option (List ℕ)) (put complained before 
           untold = λ _. tries;
           stopped = λ device failed. absurd (cc);
           exit = λ code is. cc;
+          silent = λ line is. absurd (cc);
           done = λ refused is. (record { n = n; status = status; steps = own.executed + own.skipped; output = put; counts = told_by_trial workers own }, refl, given);
           limit = λ count is. absurd (cc);
           fault = λ fault count is. absurd (cc);
           image = λ fault is. absurd (cc);
           too_long = λ is. cc;
+          saved = λ fault is. absurd (cc);
           usage = λ bad is. absurd (cc);
           no_command = λ bad wrong. absurd (cc);
           store_fault = record { rose = λ is. absurd (cc); stays = λ _. refl };
@@ -333,11 +344,13 @@ module _ (n workers : ℕ) (remains : Option (List ℕ)) (put complained before 
             },
           );
           exit = λ code is. cc;
+          silent = λ line is. absurd (cc);
           done = λ refused is. absurd (cc);
           limit = λ count is. absurd (cc);
           fault = λ fault count is. absurd (cc);
           image = λ fault is. absurd (cc);
           too_long = λ is. cc;
+          saved = λ fault is. absurd (cc);
           usage = λ bad is. absurd (cc);
           no_command = λ bad wrong. absurd (cc);
           store_fault = record { rose = λ is. absurd (cc); stays = λ _. refl };
@@ -369,24 +382,24 @@ module _ (n workers : ℕ) (remains : Option (List ℕ)) (put complained before 
 -- the run of a trial, over devices and with a line that are those of a trial
 own_run : (n workers : ℕ) (line : RunLine) (file input : List ℕ) (output errors : ℕ) (remains : Option (List ℕ)) (put complained before after : ℕ) (outcome : Outcome)
     → line ≡ trial_run workers → file ≡ image_of n → input ≡ [] → output ≡ 0 → errors ≡ 0
-    → Ran (outside (Some input) (given_number output) (given_number errors) before (faults 0 0 0)) (outside remains (given_number put) (given_number complained) after (faults 0 0 0)) line file outcome
-    → Ran (outside (Some []) (given_number 0) (given_number 0) before (faults 0 0 0)) (outside remains (given_number put) (given_number complained) after (faults 0 0 0)) (trial_run workers) (image_of n) outcome
+    → Ran (outside (Some input) (given_number output) (given_number errors) before (faults 0 0 0)) (outside remains (given_number put) (given_number complained) after (faults 0 0 0)) line (image_alone file) outcome
+    → Ran (outside (Some []) (given_number 0) (given_number 0) before (faults 0 0 0)) (outside remains (given_number put) (given_number complained) after (faults 0 0 0)) (trial_run workers) (image_alone (image_of n)) outcome
 own_run n workers line file input output errors remains put complained before after outcome line_is file_is none unput uncomplained r =
-    subst (λ (l : RunLine). Ran (outside (Some []) (given_number 0) (given_number 0) before (faults 0 0 0)) (outside remains (given_number put) (given_number complained) after (faults 0 0 0)) l (image_of n) outcome) line_is
-    (subst (λ (f : List ℕ). Ran (outside (Some []) (given_number 0) (given_number 0) before (faults 0 0 0)) (outside remains (given_number put) (given_number complained) after (faults 0 0 0)) line f outcome) file_is
-    (subst (λ (o : Outside). Ran o (outside remains (given_number put) (given_number complained) after (faults 0 0 0)) line file outcome)
+    subst (λ (l : RunLine). Ran (outside (Some []) (given_number 0) (given_number 0) before (faults 0 0 0)) (outside remains (given_number put) (given_number complained) after (faults 0 0 0)) l (image_alone (image_of n)) outcome) line_is
+    (subst (λ (f : List ℕ). Ran (outside (Some []) (given_number 0) (given_number 0) before (faults 0 0 0)) (outside remains (given_number put) (given_number complained) after (faults 0 0 0)) line (image_alone f) outcome) file_is
+    (subst (λ (o : Outside). Ran o (outside remains (given_number put) (given_number complained) after (faults 0 0 0)) line (image_alone file) outcome)
     (λ i. outside (Some (none i)) (given_number (unput i)) (given_number (uncomplained i)) before (faults 0 0 0)) r))
 
 -- What a trial came to by what its run came to: where its guest ended, its text was put to out, or out failed.
 module _ (n workers : ℕ) (line : RunLine) (file input : List ℕ) (output errors : ℕ) (remains : Option (List ℕ)) (put complained before after : ℕ) (ran : Outcome)
     (line_is : line ≡ trial_run workers) (file_is : file ≡ image_of n) (none : input ≡ []) (unput : output ≡ 0) (uncomplained : errors ≡ 0)
-    (r : Ran (outside (Some input) (given_number output) (given_number errors) before (faults 0 0 0)) (outside remains (given_number put) (given_number complained) after (faults 0 0 0)) line file ran)
+    (r : Ran (outside (Some input) (given_number output) (given_number errors) before (faults 0 0 0)) (outside remains (given_number put) (given_number complained) after (faults 0 0 0)) line (image_alone file) ran)
     (files : Option (List File)) (asked : Option (List (List ℕ))) (store_faults : ℕ) (left : Option (List ℕ)) (out later err : Given) (input_faults out_faults later_faults err_faults : ℕ) (outcome : Outcome) where
   abbrev Answers : Outcome → Type 0
   Answers o = IsAnswerFor (Ok (lines.Trial n workers)) (devices files asked store_faults (outside left out err before (faults input_faults out_faults err_faults)))
       (devices files asked store_faults (outside left later err after (faults input_faults later_faults err_faults))) o
 
-  own : Ran (outside (Some []) (given_number 0) (given_number 0) before (faults 0 0 0)) (outside remains (given_number put) (given_number complained) after (faults 0 0 0)) (trial_run workers) (image_of n) ran
+  own : Ran (outside (Some []) (given_number 0) (given_number 0) before (faults 0 0 0)) (outside remains (given_number put) (given_number complained) after (faults 0 0 0)) (trial_run workers) (image_alone (image_of n)) ran
   own = own_run n workers line file input output errors remains put complained before after ran line_is file_is none unput uncomplained r
 
   by : (exit : Option (ℕ × Counts)) → exit_of ran ≡ exit → EndsTrial n workers put exit ran.answer out later out_faults later_faults outcome → Answers outcome

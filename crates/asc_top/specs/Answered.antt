@@ -1,6 +1,9 @@
 -- All that holds of an answer, whatever then becomes of its report.
-use Rattle.std.specs.Prelude.{◌≡◌, ◌≢◌, ◌⊎◌, ◌↔◌, ℕ, ◌<◌, List, [], length, Option, Some, None, Result, Ok, Err, IsSome, IsTrue}
+use Rattle.std.specs.Prelude.{◌≡◌, ◌≢◌, ◌⊎◌, ◌↔◌, ℕ, ◌+◌, ◌<◌, ◌≤◌, List, [], length, Option, Some, None, Result, Ok, Err, IsSome, IsTrue, nat_lt, if◌then◌else◌}
 use Rattle.asc_model.specs.declared.fault.Fault.{Fault}
+use Rattle.asc_model.specs.Shape.{Shape}
+use Rattle.asc_model.specs.Entry.{Entry}
+use Rattle.asc_model.specs.EntryFile.{entry_file}
 use Rattle.asc_outside.specs.Outside.{File, Blames, AsksFor, Given, MayHold, content_of, given_after}
 use Rattle.asc_elf.specs.declared.fault.ElfFault.{ElfFault}
 use Rattle.asc_calls.specs.GuestCall.{Device, Out}
@@ -15,11 +18,12 @@ use Rattle.asc_words.specs.declared.line.Line.TheVariants as lines
 use Rattle.asc_words.specs.declared.answer.Answer.{Answer}
 use Rattle.asc_words.specs.declared.answer.Answer.TheVariants as answers
 use Rattle.asc_words.specs.declared.answer.Outcome.{Outcome}
+use Rattle.asc_words.specs.declared.answer.SavedFault.{SavedFault}
 use Rattle.asc_words.specs.declared.answer.TrialOutcome.{TrialOutcome}
 use Rattle.asc_words.specs.declared.answer.Bad.{Bad}
 use Rattle.asc_words.specs.Line.{file_limit}
-use Rattle.asc_top.specs.Program.{meaning, Gives, GivesPart, Runs, IsNoImage, IsStopped, make_result, trial_run}
-use Rattle.asc_top.specs.Numbers.{Means, Tries, TriesPart, WorkersAreTold}
+use Rattle.asc_top.specs.Program.{Files, meaning, Gives, GivesPart, Runs, IsNoImage, IsNoSaved, IsStopped, image_alone, load_of, make_result, trial_run}
+use Rattle.asc_top.specs.Numbers.{Means, Saves, SavesPart, Tries, TriesPart, WorkersAreTold}
 use Rattle.asc_top.specs.Kinds.{Finished, kind_of, Completes, IsRefusal, device_of_answer}
 
 -- ---- what is told
@@ -45,18 +49,38 @@ abbrev pub IsHeld : Option (List File) → (name content : List ℕ) → Type 0
 IsHeld (Some files) name content = content_of files name ≡ Some content
 IsHeld None name content = ⊥
 
+-- the file that a run reads behind its image, where that is one that is run: the one of saved entries that its line names
+abbrev pub second_name : RunLine → (image : List ℕ) → Option (List ℕ)
+second_name line image = if nat_lt file_limit (length image) then None
+    else elim (load_of line image) [ Ok loaded ↦ line.load | Err fault ↦ None ]
+
+-- the file of a name, where there is one, has this content, and else there is none
+abbrev pub HasSecond : (Holds : (name content : List ℕ) → Type 0) → (name content : Option (List ℕ)) → Type 0
+HasSecond Holds (Some name) (Some content) = Holds name content
+HasSecond Holds (Some name) None = ⊥
+HasSecond Holds None (Some content) = ⊥
+HasSecond Holds None None = Unit {0}
+
+-- these are the contents of the files that a run reads
+abbrev pub AreFilesOf : (Holds : (name content : List ℕ) → Type 0) → RunLine → Files → Type 0
+AreFilesOf Holds line files =
+    Holds line.image files.image × HasSecond Holds (second_name line files.image) files.saved
+
 -- what words ask for: a line, or what is wrong with them
 abbrev pub Asked : Type 0
 Asked = Result Line Bad
 
 -- ---- the headline
 
--- What is done where no device fails and no memory is wanting. A run whose file and input are told gives what the file
--- means. A make gives its image, and a trial its text. Wrong words are answered, and nothing is done.
+-- What is done where no device fails and no memory is wanting. A run whose files and input are told gives what the files
+-- mean. A save whose file is told gives the file of the entries that its run leaves, a make gives its image, and a trial
+-- its text. Wrong words are answered, and nothing is done.
 abbrev pub Done : Asked → (old new : Devices) → Answer → Type 0
 Done (Ok (lines.Run line)) old new answered =
-    (content left : List ℕ) → IsHeld old.files line.image content → old.guest.left ≡ Some left
-    → (executed : ℕ) × Gives old.guest new.guest executed answered (meaning line content left)
+    (files : Files) (left : List ℕ) → AreFilesOf (IsHeld old.files) line files → old.guest.left ≡ Some left
+    → (executed : ℕ) × Gives old.guest new.guest executed answered (meaning line files left)
+Done (Ok (lines.Save line)) old new answered =
+    (content : List ℕ) → IsHeld old.files line.image content → Saves line content old.guest new.guest answered
 Done (Ok (lines.Make n)) old new answered = Gives old.guest new.guest 0 answered (make_result n)
 Done (Ok (lines.Trial n workers)) old new answered = Tries n workers old.guest new.guest answered
 Done (Err bad) old new answered = (answered ≡ answers.Usage bad) × (new.guest ≡ old.guest)
@@ -68,39 +92,51 @@ Headline asked old new answered = Completes answered → Done asked old new answ
 
 -- ---- what holds of an answer
 
--- the same where a run's file or input is not told: it gives what some file means that the store may hold
+-- the same where a file or input is not told: it gives what some files mean that the store may hold
 abbrev pub DoneUntold : Asked → (old new : Devices) → Outcome → Type 0
 DoneUntold (Ok (lines.Run line)) old new outcome =
-    (content : List ℕ) × MayHold old.files line.image content × Means old.guest new.guest outcome line content
+    (files : Files) × AreFilesOf (MayHold old.files) line files × Means old.guest new.guest outcome line files
+DoneUntold (Ok (lines.Save line)) old new outcome =
+    (content : List ℕ) × MayHold old.files line.image content
+    × Saves line content old.guest new.guest outcome.answer
 DoneUntold asked old new outcome = Done asked old new outcome.answer
 
 -- A device failed. Under the guest of a run: all is plain execution's up to the call in which that happened. Else it is
--- out, while it took an image or the text of a trial.
+-- out, while it took a file of entries, an image or the text of a trial.
 abbrev pub Stops : Asked → (old new : Devices) → Device → Type 0
 Stops (Ok (lines.Run line)) old new device =
-    (content : List ℕ) × MayHold old.files line.image content × IsStopped old.guest new.guest device line content
+    (files : Files) × AreFilesOf (MayHold old.files) line files × IsStopped old.guest new.guest device line files
+Stops (Ok (lines.Save line)) old new device = (device ≡ Out)
+    × ((content : List ℕ) × MayHold old.files line.image content × SavesPart line content old.guest new.guest)
 Stops (Ok (lines.Make n)) old new device = (device ≡ Out) × GivesPart old.guest new.guest 0 (make_result n)
 Stops (Ok (lines.Trial n workers)) old new device = (device ≡ Out) × TriesPart n workers old.guest new.guest
 Stops (Err bad) old new device = ⊥
 
--- the words ask for the run of a file, and the store may hold a file of its name whose content has P
-abbrev pub HasFile : Asked → Devices → (RunLine → List ℕ → Type 0) → Type 0
-HasFile (Ok (lines.Run line)) old P = (content : List ℕ) × MayHold old.files line.image content × P line content
+-- the words ask for a run, and the store may hold files of its names whose contents have P; or for a save, and it may
+-- hold such a file
+abbrev pub HasFile : Asked → Devices → (RunLine → Files → Type 0) → Type 0
+HasFile (Ok (lines.Run line)) old P = (files : Files) × AreFilesOf (MayHold old.files) line files × P line files
+HasFile (Ok (lines.Save line)) old P =
+    (content : List ℕ) × MayHold old.files line.image content × P line (image_alone content)
 HasFile (Ok (lines.Make n)) old P = ⊥
 HasFile (Ok (lines.Trial n workers)) old P = ⊥
 HasFile (Err bad) old P = ⊥
 
 -- the same, or they ask for a trial, whose image has P
-abbrev pub HasImage : Asked → Devices → ((told : Option (List ℕ)) → RunLine → List ℕ → Type 0) → Type 0
+abbrev pub HasImage : Asked → Devices → ((told : Option (List ℕ)) → RunLine → Files → Type 0) → Type 0
 HasImage (Ok (lines.Run line)) old P =
-    (content : List ℕ) × MayHold old.files line.image content × P old.guest.left line content
+    (files : Files) × AreFilesOf (MayHold old.files) line files × P old.guest.left line files
+HasImage (Ok (lines.Save line)) old P =
+    (content : List ℕ) × MayHold old.files line.image content × P (Some []) line (image_alone content)
 HasImage (Ok (lines.Make n)) old P = ⊥
-HasImage (Ok (lines.Trial n workers)) old P = P (Some []) (trial_run workers) (image_of n)
+HasImage (Ok (lines.Trial n workers)) old P = P (Some []) (trial_run workers) (image_alone (image_of n))
 HasImage (Err bad) old P = ⊥
 
--- an image was put to a sink, or the text of a trial
+-- a file of entries was put to a sink, or an image, or the text of a trial
 abbrev pub IsWritten : Asked → (before after : Given) → Type 0
 IsWritten (Ok (lines.Run line)) before after = ⊥
+IsWritten (Ok (lines.Save line)) before after =
+    (shape : Shape) × (entries : List Entry) × (after ≡ given_after before (entry_file shape entries))
 IsWritten (Ok (lines.Make n)) before after = after ≡ given_after before (image_of n)
 IsWritten (Ok (lines.Trial n workers)) before after =
     (trial : TrialOutcome) × (trial.n ≡ n) × (after ≡ given_after before (trial_text trial))
@@ -109,6 +145,7 @@ IsWritten (Err bad) before after = ⊥
 -- the numbers are told of the workers of a run, and of none else
 abbrev pub HasWorkersOf : Asked → Outcome → Type 0
 HasWorkersOf (Ok (lines.Run line)) outcome = WorkersAreTold line outcome.counts outcome.workers
+HasWorkersOf (Ok (lines.Save line)) outcome = outcome.workers ≡ None
 HasWorkersOf (Ok (lines.Make n)) outcome = outcome.workers ≡ None
 HasWorkersOf (Ok (lines.Trial n workers)) outcome = outcome.workers ≡ None
 HasWorkersOf (Err bad) outcome = outcome.workers ≡ None
@@ -116,18 +153,51 @@ HasWorkersOf (Err bad) outcome = outcome.workers ≡ None
 -- these words ask for the numbers of a run
 abbrev pub AskForCounts : Asked → Type 0
 AskForCounts (Ok (lines.Run line)) = IsTrue line.report
+AskForCounts (Ok (lines.Save line)) = ⊥
 AskForCounts (Ok (lines.Make n)) = ⊥
 AskForCounts (Ok (lines.Trial n workers)) = ⊥
 AskForCounts (Err bad) = ⊥
 
--- What the store was asked for until these words were answered so: for the image of a run, once, and else for nothing.
--- Nor was it for a run, where memory was wanting before.
-abbrev pub AsksForImage : Asked → Answer → (before after : Option (List (List ℕ))) → Type 0
-AsksForImage (Ok (lines.Run line)) answered before after =
-    AsksFor line.image before after ⊎ ((after ≡ before) × (answered ≡ answers.Memory))
-AsksForImage (Ok (lines.Make n)) answered before after = after ≡ before
-AsksForImage (Ok (lines.Trial n workers)) answered before after = after ≡ before
-AsksForImage (Err bad) answered before after = after ≡ before
+-- behind an image the store was asked, once, for the file of saved entries, where there is a name of one
+abbrev pub AsksForSecond : (name : Option (List ℕ)) → (before after : Option (List (List ℕ))) → Type 0
+AsksForSecond (Some name) before after = AsksFor name before after
+AsksForSecond None before after = after ≡ before
+
+-- What the store was asked for behind the image of a run that was answered so. Where the image is refused, it was asked
+-- for nothing. Where it failed or memory was wanting, that may have been for either file.
+abbrev pub AsksBehind : RunLine → Answer → (before after : Option (List (List ℕ))) → Type 0
+AsksBehind line answers.TooLong before after = after ≡ before
+AsksBehind line (answers.Image fault) before after = after ≡ before
+AsksBehind line answers.StoreFault before after = (after ≡ before) ⊎ AsksForSecond line.load before after
+AsksBehind line answers.Memory before after = (after ≡ before) ⊎ AsksForSecond line.load before after
+AsksBehind line _ before after = AsksForSecond line.load before after
+
+-- memory was wanting before the store was asked for anything
+abbrev pub AsksForNone : Answer → (before after : Option (List (List ℕ))) → Type 0
+AsksForNone answered before after = (after ≡ before) × (answered ≡ answers.Memory)
+
+-- What the store was asked for until these words were answered so: for the image of a run, and then for its saved
+-- entries; for the image of a save; and else for nothing.
+abbrev pub AsksForFiles : Asked → Answer → (before after : Option (List (List ℕ))) → Type 0
+AsksForFiles (Ok (lines.Run line)) answered before after =
+    ((between : Option (List (List ℕ))) × AsksFor line.image before between × AsksBehind line answered between after)
+    ⊎ AsksForNone answered before after
+AsksForFiles (Ok (lines.Save line)) answered before after =
+    AsksFor line.image before after ⊎ AsksForNone answered before after
+AsksForFiles (Ok (lines.Make n)) answered before after = after ≡ before
+AsksForFiles (Ok (lines.Trial n workers)) answered before after = after ≡ before
+AsksForFiles (Err bad) answered before after = after ≡ before
+
+-- a counter rose, by at most so many
+abbrev pub RisesWithin : (most : ℕ) → (before after : ℕ) → Type 0
+RisesWithin most before after = (n : ℕ) × (n ≤ most) × (after ≡ before + n)
+
+-- Where an answer is that the guest was not run, nothing was taken, put or counted. Memory may be wanting to the helper of
+-- a save after its guest was run: then the counter alone rose, by no more than the line's limit.
+abbrev pub IsUntouched : Asked → Answer → (old new : Outside) → Type 0
+IsUntouched (Ok (lines.Save line)) answers.Memory old new =
+    RisesWithin line.limit old.steps new.steps × (new ≡ record old { steps = new.steps })
+IsUntouched asked answered old new = new ≡ old
 
 -- All that holds of an outcome of what was asked by itself, whatever then becomes of its report. A cause is a field: that
 -- the answer comes only there. That it comes there, unless a device fails or memory is wanting, is the headline.
@@ -140,7 +210,9 @@ pub record IsAnswerFor (asked : Asked) (old new : Devices) (outcome : Outcome) :
   -- Exit: the plain run of a file that is not too long ends with that code.
   pub exit : (code : ℕ) → outcome.answer ≡ answers.Exit code
       → HasFile asked old (Runs old.guest.left (λ run. run.ended ≡ ends.Exit code))
-  -- Done: the whole of an image was put to out, or of a trial's text.
+  -- a save does not answer how its guest ended
+  pub silent : (line : RunLine) → asked ≡ Ok (lines.Save line) → kind_of outcome.answer ≢ Finished
+  -- Done: the whole of a file of entries was put to out, of an image, or of a trial's text.
   pub done : (refused : ℕ) → outcome.answer ≡ answers.Done refused → IsWritten asked old.guest.out new.guest.out
   -- Limit: it is still going on after that many steps, which are the line's limit.
   pub limit : (count : ℕ) → outcome.answer ≡ answers.Limit count
@@ -151,7 +223,9 @@ pub record IsAnswerFor (asked : Asked) (old new : Devices) (outcome : Outcome) :
   -- Image: the file is no image, for that fault.
   pub image : (fault : ElfFault) → outcome.answer ≡ answers.Image fault → HasImage asked old (λ told. IsNoImage fault)
   -- TooLong: the file is longer than what is read.
-  pub too_long : outcome.answer ≡ answers.TooLong → HasFile asked old (λ line content. file_limit < length content)
+  pub too_long : outcome.answer ≡ answers.TooLong → HasFile asked old (λ line files. file_limit < length files.image)
+  -- Saved: the image is one that is run, and the file of saved entries is refused, for that fault.
+  pub saved : (fault : SavedFault) → outcome.answer ≡ answers.Saved fault → HasFile asked old (IsNoSaved fault)
   -- Usage: that is wrong with the words. Where something is, it is answered, unless memory was wanting.
   pub usage : (bad : Bad) → outcome.answer ≡ answers.Usage bad → asked ≡ Err bad
   pub no_command : (bad : Bad) → asked ≡ Err bad → outcome.answer ≢ answers.Memory
@@ -167,10 +241,10 @@ pub record IsAnswerFor (asked : Asked) (old new : Devices) (outcome : Outcome) :
   -- the numbers of its workers beside them, where it has any
   pub workers : HasWorkersOf asked outcome
   -- where the guest was not run, nothing was taken, put or counted
-  pub refused : IsRefusal outcome.answer → new.guest ≡ old.guest
+  pub refused : IsRefusal outcome.answer → IsUntouched asked outcome.answer old.guest new.guest
   pub files : new.files ≡ old.files
-  -- the store was asked for the image of a run, once, and for nothing else
-  pub names : AsksForImage asked outcome.answer old.asked new.asked
+  -- the store was asked for the files that the line names, once for each, and for nothing else
+  pub names : AsksForFiles asked outcome.answer old.asked new.asked
 
 -- all that holds of an outcome of these words
 abbrev pub IsAnswerTo : (words : List (List ℕ)) → (old new : Devices) → Outcome → Type 0

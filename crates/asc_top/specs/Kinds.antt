@@ -11,7 +11,7 @@ pub data Kind : Type 0 where
   Written : Kind
   -- a device failed under the guest, or out while it took a text
   Stopped : Device → Kind
-  -- the file is none that is run
+  -- a file is none that is run, or no file of entries for it
   BadFile : Kind
   -- the words are wrong
   BadWords : Kind
@@ -30,6 +30,7 @@ kind_of answers.WriteFault = Stopped Out
 kind_of answers.ErrFault = Stopped Err
 kind_of (answers.Image fault) = BadFile
 kind_of answers.TooLong = BadFile
+kind_of (answers.Saved fault) = BadFile
 kind_of (answers.Usage bad) = BadWords
 kind_of answers.StoreFault = Unread
 kind_of answers.Memory = Unread

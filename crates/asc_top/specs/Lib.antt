@@ -8,3 +8,4 @@ pub mod Workers
 pub mod Ran
 pub mod Answered
 pub mod Reported
+pub mod Saves

@@ -1,11 +1,16 @@
 -- The numbers of a run, and what a trial tells of its own.
-use Rattle.std.specs.Prelude.{◌≡◌, ℕ, zero, suc, Bool, false, ◌+◌, ◌*◌, ◌<◌, ◌≤◌, ◌&&◌, ◌||◌, nat_lt, List, [], length, Option, Some, None, Result, Ok, Err, if◌then◌else◌}
+use Rattle.std.specs.Prelude.{◌≡◌, ℕ, zero, suc, Bool, MatchBool, false, ◌+◌, ◌*◌, ◌<◌, ◌≤◌, ◌&&◌, ◌||◌, nat_lt, List, [], length, Option, Some, None, Result, Ok, Err, if◌then◌else◌}
+use Rattle.std.specs.Option.{is_some}
+use Rattle.asc_model.specs.Entry.{Entry}
+use Rattle.asc_model.specs.EntryFile.{entry_file}
 use Rattle.asc_elf.specs.declared.fault.ElfFault.{ElfFault}
 use Rattle.asc_elf.specs.Image as loader
 use Rattle.asc_calls.specs.GuestCall.{nothing, io_of, Out}
 use Rattle.asc_calls.specs.World.{Outside, Agrees}
 use Rattle.asc_make.specs.File.{image_of}
 use Rattle.asc_find.specs.declared.guessing.Guessing.{Guessing}
+use Rattle.asc_shard.specs.Content.{content_of}
+use Rattle.asc_shard.specs.Shard.{run_capacity}
 use Rattle.asc_run.specs.declared.walk.Counts.{Counts as WalkCounts}
 use Rattle.asc_run.specs.declared.walk.Ended.{Ended}
 use Rattle.asc_run.specs.declared.walk.Ended.TheVariants as ends
@@ -26,8 +31,10 @@ use Rattle.asc_words.specs.declared.answer.Counts.{Counts}
 use Rattle.asc_words.specs.declared.answer.WorkerCounts.{WorkerCounts}
 use Rattle.asc_words.specs.declared.answer.Outcome.{Outcome}
 use Rattle.asc_words.specs.declared.answer.TrialOutcome.{TrialOutcome}
+use Rattle.asc_words.specs.declared.answer.SavedFault.{SavedFault}
+use Rattle.asc_words.specs.Line.{file_limit}
 use Rattle.asc_words.specs.Report.{trial_text}
-use Rattle.asc_top.specs.Program.{ProgramResult, Gives, GivesPart, load_of, run_of_image, meaning, trial_run}
+use Rattle.asc_top.specs.Program.{Files, ProgramResult, Gives, GivesPart, refusal, first_entries, image_alone, load_of, run_of_image, meaning, trial_run}
 
 -- ---- how a line is run
 
@@ -48,12 +55,19 @@ has_workers line = nat_lt 0 line.workers
 -- a line asks for workers
 abbrev pub asks_for_workers : Line → Bool
 asks_for_workers (lines.Run line) = has_workers line
+asks_for_workers (lines.Save line) = false
 asks_for_workers (lines.Make n) = false
 asks_for_workers (lines.Trial n workers) = nat_lt 0 workers
 
--- Without workers, what nobody sees is not guessed: only where the numbers are reported, and a kind of guess is on.
-abbrev pub makes_guesses : RunLine → Bool
-makes_guesses line = line.report && (line.last || line.stride)
+-- What nobody sees is not run: a run's visits matter where its numbers are reported, and where it has workers or saved
+-- entries.
+abbrev pub has_visits : RunLine → Bool
+has_visits line = line.report || has_workers line || is_some line.load
+
+-- Without workers, entries are kept where there are saved ones. Else they are where the numbers are reported, and a kind
+-- of guess is on.
+abbrev pub keeps_entries : RunLine → Bool
+keeps_entries line = is_some line.load || (line.report && (line.last || line.stride))
 
 -- the recognised address: the line's own, or, where a kind of guess is on, one that is chosen of the first steps
 abbrev pub recognised_by : RunLine → Recognised
@@ -63,11 +77,15 @@ recognised_by line =
       | None ↦ if line.last || line.stride then Chosen line.profile line.least else Nowhere
     ]
 
--- Nor is the address of a run visited that has no workers, and whose numbers are not reported.
+-- how far a line's image is run, and where it is visited
+abbrev pub visited_settings : RunLine → Settings
+visited_settings line = record { limit = line.limit; recognised = recognised_by line }
+
+-- the same for a run
 abbrev pub settings_of : RunLine → Settings
 settings_of line = record {
   limit = line.limit;
-  recognised = if line.report || has_workers line then recognised_by line else Nowhere;
+  recognised = if has_visits line then recognised_by line else Nowhere;
 }
 
 -- the numbers of a walk, beside how many guesses were made and how often memory was wanting
@@ -113,8 +131,14 @@ pub record AreOfVisits (limit : ℕ) (mark : ℕ → Bool) (run : Course) (count
   pub are : AreVisits limit run mark visits limit
   pub tally : tally_of visits (tally 0 0 0) ≡ tally counts.asked counts.skipped counts.hits
 
--- these are the numbers of a run of an image over an input
-pub record AreNumbersOf (line : RunLine) (image : loader.Image) (left : List ℕ) (counts : Counts) : Type 0 where
+-- the entries that were taken
+abbrev pub taken_of : Result (List Entry) SavedFault → List Entry
+taken_of (Ok entries) = entries
+taken_of (Err fault) = []
+
+-- these are the numbers of a run of an image over an input, which has these entries at first, the oldest before the others
+pub record AreNumbersOf (line : RunLine) (image : loader.Image) (entries : List Entry) (left : List ℕ) (counts : Counts)
+    : Type 0 where
   -- the steps executed and the steps jumped over are all its steps
   pub total : counts.executed + counts.skipped ≡ (run_of_image line image left).count
   -- they are those of its visits
@@ -125,20 +149,22 @@ pub record AreNumbersOf (line : RunLine) (image : loader.Image) (left : List ℕ
   -- where there are no workers and memory was never wanting, they are those of a serial run, by its definition
   pub serial : line.workers ≡ 0 → counts.refused ≡ 0
       → IsSerialRun line.limit (is_mark (recognised_by line) (course_of_image image left)) (course_of_image image left)
-      image.start.shape (guessing_of line) [] (numbers_of counts)
+      image.start.shape (guessing_of line) (content_of run_capacity entries) (numbers_of counts)
 
 -- these are the numbers of a loaded file, where it is an image
-abbrev pub AreNumbers : RunLine → Result loader.Image ElfFault → (left : List ℕ) → Counts → Type 0
-AreNumbers line (Ok image) left counts = AreNumbersOf line image left counts
-AreNumbers line (Err fault) left counts = Unit {0}
+abbrev pub AreNumbers : RunLine → (saved : Option (List ℕ)) → Result loader.Image ElfFault → (left : List ℕ) → Counts
+    → Type 0
+AreNumbers line saved (Ok image) left counts =
+    AreNumbersOf line image (taken_of (first_entries image saved)) left counts
+AreNumbers line saved (Err fault) left counts = Unit {0}
 
 -- What is told of the numbers of a run that executed so many steps of its count: they are its numbers. Where none are
--- told and there are no workers, it was run plainly.
-abbrev pub AreTold : RunLine → Result loader.Image ElfFault → (left : List ℕ) → (executed count : ℕ) → Option Counts
-    → Type 0
-AreTold line load left executed count None = line.workers ≡ 0 → executed ≡ count
-AreTold line load left executed count (Some counts) =
-    (counts.executed ≡ executed) × AreNumbers line load left counts
+-- told and there are neither workers nor saved entries, it was run plainly.
+abbrev pub AreTold : RunLine → (saved : Option (List ℕ)) → Result loader.Image ElfFault → (left : List ℕ)
+    → (executed count : ℕ) → Option Counts → Type 0
+AreTold line saved load left executed count None = line.workers ≡ 0 → line.load ≡ None → executed ≡ count
+AreTold line saved load left executed count (Some counts) =
+    (counts.executed ≡ executed) × AreNumbers line saved load left counts
 
 -- These are the numbers of a run's workers beside its own. Each guess that was made was run as a job, or was left. Each
 -- job that was run ended in one of five ways. Where memory was never wanting, each guess that was due was made, or found
@@ -160,14 +186,59 @@ WorkersAreTold line (Some counts) None = line.workers ≡ 0
 WorkersAreTold line None (Some workers) = ⊥
 WorkersAreTold line None None = Unit {0}
 
--- Over some input that agrees with what is told, the file means what was answered, taken, put and counted, and the
--- numbers that are told are its run's.
-pub record Means (old new : Outside) (outcome : Outcome) (line : RunLine) (content : List ℕ) : Type 0 where
+-- Over some input that agrees with what is told, the files mean what was answered, taken, put and counted, and the
+-- numbers that are told are their run's.
+pub record Means (old new : Outside) (outcome : Outcome) (line : RunLine) (files : Files) : Type 0 where
   pub left : List ℕ
   pub agrees : Agrees old.left left
   pub executed : ℕ
-  pub gives : Gives old new executed outcome.answer (meaning line content left)
-  pub told : AreTold line (load_of line content) left executed (meaning line content left).count outcome.counts
+  pub gives : Gives old new executed outcome.answer (meaning line files left)
+  pub told : AreTold line files.saved (load_of line files.image) left executed (meaning line files left).count
+      outcome.counts
+
+-- ---- saved entries
+
+-- A save's run of an image, with its numbers: over no input, without workers, and from no entry on.
+pub record SaveRun (line : RunLine) (image : loader.Image) : Type 0 where
+  pub numbers : Numbers
+  pub serial : IsSerialRun line.limit (is_mark (recognised_by line) (course_of_image image [])) (course_of_image image [])
+      image.start.shape (guessing_of line) [] numbers
+
+-- the entries that it leaves
+abbrev pub entries_of_save : {line : RunLine} → {image : loader.Image} → SaveRun line image → List Entry
+entries_of_save run = run.serial.now.content
+
+-- what a save puts to out: the file of the entries that its run leaves
+abbrev pub save_result : (line : RunLine) → (image : loader.Image) → SaveRun line image → ProgramResult
+save_result line image run = record {
+  answer = answers.Done 0;
+  io = io_of Out (entry_file image.start.shape (entries_of_save run));
+  count = (run_of_image line image []).count;
+}
+
+-- an image's run was made, and the file of its entries was put to out, however the guest ended
+pub record SavesImage (line : RunLine) (image : loader.Image) (old new : Outside) (answered : Answer) : Type 0 where
+  pub run : SaveRun line image
+  pub gives : Gives old new run.numbers.executed answered (save_result line image run)
+
+-- what a save of a loaded file did
+abbrev pub SavesLoaded : RunLine → Result loader.Image ElfFault → (old new : Outside) → Answer → Type 0
+SavesLoaded line (Err fault) old new answered = Gives old new 0 answered (refusal (answers.Image fault))
+SavesLoaded line (Ok image) old new answered = SavesImage line image old new answered
+
+-- What a save of a file did: one that is too long and one that is no image are refused.
+abbrev pub Saves : RunLine → (content : List ℕ) → (old new : Outside) → Answer → Type 0
+Saves line content old new answered =
+    MatchBool (nat_lt file_limit (length content)) (Gives old new 0 answered (refusal answers.TooLong))
+    (SavesLoaded line (load_of line content) old new answered)
+
+-- out failed while it took the file of entries
+pub record SavesPart (line : RunLine) (content : List ℕ) (old new : Outside) : Type 0 where
+  pub within : length content ≤ file_limit
+  pub image : loader.Image
+  pub loads : load_of line content ≡ Ok image
+  pub run : SaveRun line image
+  pub gives : GivesPart old new run.numbers.executed (save_result line image run)
 
 -- ---- trials
 
@@ -205,7 +276,7 @@ result_of_trial n workers counts run answered = record { answer = answered; io =
 
 -- what the run of a trial means, which has no input
 abbrev pub trial_meaning : (n workers : ℕ) → ProgramResult
-trial_meaning n workers = meaning (trial_run workers) (image_of n) []
+trial_meaning n workers = meaning (trial_run workers) (image_alone (image_of n)) []
 
 abbrev pub trial_result : (n workers : ℕ) → Counts → ProgramResult
 trial_result n workers counts =
@@ -213,7 +284,8 @@ trial_result n workers counts =
 
 -- these are the numbers of a trial's run
 abbrev pub AreTrialNumbers : (n workers : ℕ) → Counts → Type 0
-AreTrialNumbers n workers counts = AreNumbers (trial_run workers) (load_of (trial_run workers) (image_of n)) [] counts
+AreTrialNumbers n workers counts =
+    AreNumbers (trial_run workers) None (load_of (trial_run workers) (image_of n)) [] counts
 
 -- a trial came to its result, with its run's numbers
 pub record Tries (n workers : ℕ) (old new : Outside) (answered : Answer) : Type 0 where

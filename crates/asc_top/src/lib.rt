@@ -3,10 +3,12 @@
 
 mod make;
 mod numbers;
+mod opened;
 mod program;
 mod run;
+mod save;
 mod settings;
 mod trial;
 
-pub use asc_words::{Answer, Bad, Line, Outcome};
+pub use asc_words::{Answer, Bad, Line, Outcome, SavedFault};
 pub use program::{outcome_alone, reported, top};

@@ -8,6 +8,7 @@ ghost use Rattle.asc_top.specs.Reported.{IsReported, report_with};
 
 use crate::make::make;
 use crate::run::{run_alone, run_beside};
+use crate::save::save;
 use crate::trial::{trial_alone, trial_beside};
 use asc_outside::{Failed, Gate, Sink, Source, Store, put_all};
 use asc_shape::Steps;
@@ -21,14 +22,15 @@ use std::thread::Threads;
 /// report.
 ///
 /// The words are the program's own name, a subcommand and its arguments (`asc_words::parse`). `run` runs an image of the
-/// store, `make` puts a generated image to out, and `trial` runs one and puts a text on it to out.
+/// store, `save` runs one and puts the entries that its run leaves to out, `make` puts a generated image to out, and
+/// `trial` runs one and puts a text on it to out.
 ///
 /// Where a line has workers, they run in threads of their own beside the run, and their end is waited for. The gate is
 /// passed at their points and at those of the run.
 ///
 /// The answer is the first of these that has a cause: wrong words, the store's failure, a file that is too long, a file
-/// that is no image, want of memory, and how the run ended, or that a text was written. Where report fails, the answer is
-/// ReportFault in place of that one.
+/// that is no image, want of memory, the same of saved entries, and how the run ended, or that a text was written. Where
+/// report fails, the answer is ReportFault in place of that one.
 pub fn top<
     T: Threads + Wait + Sync + Copy + Drop + Send,
     F: Store,
@@ -93,8 +95,8 @@ pub fn reported<R: Sink>(outcome: Outcome, report: &mut R) -> Answer
     }
 }
 
-/// What the words of a command line come to that ask for no worker, before it is reported: a run without any, a generated
-/// image, a trial without any, or wrong words. It starts no thread and waits for none.
+/// What the words of a command line come to that ask for no worker, before it is reported: a run without any, saved
+/// entries, a generated image, a trial without any, or wrong words. It starts no thread and waits for none.
 ///
 /// Where the words ask for workers, it answers the line, and nothing was done.
 pub fn outcome_alone<F: Store, I: Source, O: Sink, E: Sink, L: Ledger>(
@@ -135,7 +137,7 @@ fn asks_for_workers(line: &Line) -> bool
 {
     match line {
         Line::Run(run) => run.workers > 0,
-        Line::Make { .. } => false,
+        Line::Save(_) | Line::Make { .. } => false,
         Line::Trial { workers, .. } => *workers > 0,
     }
 }
@@ -162,6 +164,7 @@ fn outcome_of_alone<F: Store, I: Source, O: Sink, E: Sink, L: Ledger>(
 {
     match line {
         Line::Run(line) => run_alone(alloc, &line, store, input, out, err, steps),
+        Line::Save(line) => save(alloc, &line, store, out, steps),
         Line::Make { n } => make(alloc, n, out),
         Line::Trial { n, .. } => trial_alone(alloc, n, out, steps),
     }
@@ -233,7 +236,7 @@ fn outcome_of_beside<
 {
     match line {
         Line::Run(line) => run_beside(rt, alloc, &line, store, input, out, err, gate, steps),
-        Line::Make { .. } => unreachable!(),
+        Line::Save(_) | Line::Make { .. } => unreachable!(),
         Line::Trial { n, workers } => trial_beside(rt, alloc, n, workers, out, gate, steps),
     }
 }

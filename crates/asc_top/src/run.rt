@@ -1,25 +1,27 @@
 //! `asc run`, and runs of a file that is at hand.
-ghost use Rattle.std.specs.Prelude.{◌≡◌, ◌<◌, ◌≤◌, ◌^◌, length, IfErr, IfOk, IsNone, None, Ok};
-ghost use Rattle.asc_calls.specs.World.{Outside, faults, outside};
+ghost use Rattle.std.specs.Prelude.{◌≡◌, ◌<◌, ◌≤◌, ◌^◌, length, map, IfOk, IsNone, None, Ok};
+ghost use Rattle.std.specs.Arc.{arc_value};
+ghost use Rattle.asc_calls.specs.World.{faults, outside};
 ghost use Rattle.asc_run.specs.Helped.{aid, HasRoom};
-ghost use Rattle.asc_words.specs.Line.{IsRunWithin};
-ghost use Rattle.asc_words.specs.Answer.{outcome_of};
-ghost use Rattle.asc_words.specs.Line.{file_limit};
-ghost use Rattle.asc_top.specs.Ran.{IsRead, IsWalkOf, Ran, RanBeside, Walked};
+ghost use Rattle.asc_run.specs.declared.last_visits.TheConstants.{MOST_AHEAD};
+ghost use Rattle.asc_words.specs.Line.{IsRunWithin, file_limit};
+ghost use Rattle.asc_top.specs.Program.{Files, image_alone};
+ghost use Rattle.asc_top.specs.Ran.{AreOpened, Ran, RanBeside, Walked, loaded_helper};
 ghost use Rattle.asc_top.specs.Answered.{IsAnswerFor, devices};
 
 use crate::numbers::{answer_at, counts_of, reported_at, workers_of};
-use crate::settings::{crew_of, guessing_of, makes_guesses, settings_of};
-use asc_elf::read;
-use asc_find::Nothing;
+use crate::opened::{open, walk_of};
+use crate::settings::{crew_of, guessing_of, keeps_entries, settings_of};
+use asc_find::{Guessing, Nothing};
 use asc_live::go_beside;
-use asc_outside::{Gate, Loaded, Memory, Sink, Source, Store, StoreFault};
+use asc_outside::{Gate, Memory, Sink, Source, Store};
 use asc_run::{Bare, Helper, Serial, Walk};
-use asc_shape::Steps;
-use asc_words::{Answer, FILE_LIMIT, Line, Outcome, RunLine};
+use asc_shape::{Shape, Steps};
+use asc_traj::Entry;
+use asc_words::{Answer, Line, Outcome, RunLine};
 use std::alloc::Global;
-use std::sync::Wait;
 use std::sync::ledger::Ledger;
+use std::sync::{Arc, Wait};
 use std::thread::Threads;
 
 /// Runs the file that a line names, without workers.
@@ -42,8 +44,17 @@ pub(crate) fn run_alone<F: Store, I: Source, O: Sink, E: Sink, L: Ledger>(
         (outside (I.left input.new) (O.given out.new) (E.given err.new) steps.new
         (faults (I.faults input.new) (O.faults out.new) (E.faults err.new)))) result }
 {
-    match file_of(alloc, line, store) {
-        Ok(file) => run_file_alone(alloc, line, &file, input, out, err, steps),
+    match open(alloc, line, store) {
+        Ok(opened) => walk_alone(
+            alloc,
+            line,
+            opened.walk,
+            &opened.first,
+            input,
+            out,
+            err,
+            steps,
+        ),
         Err(answer) => Outcome::of(answer),
     }
 }
@@ -78,34 +89,24 @@ pub(crate) fn run_beside<
         (outside (I.left input.new) (O.given out.new) (E.given err.new) steps.new
         (faults (I.faults input.new) (O.faults out.new) (E.faults err.new)))) result }
 {
-    match file_of(alloc, line, store) {
-        Ok(file) => run_file_beside(rt, alloc, line, &file, input, out, err, gate, steps),
+    match open(alloc, line, store) {
+        Ok(mut opened) => walk_beside(
+            rt,
+            alloc,
+            line,
+            &mut opened.walk,
+            &opened.first,
+            gate,
+            input,
+            out,
+            err,
+            steps,
+        ),
         Err(answer) => Outcome::of(answer),
     }
 }
 
-/// The content of the file that a line names, or the answer where it can't be run.
-fn file_of<F: Store>(alloc: Global, line: &RunLine, store: &mut F) -> Result<Vec<u8>, Answer>
-    ensures read { IfOk result (λ file. IsRead line.now file.items
-        (F.files store.old) (F.asked store.old) (F.faults store.old)
-        (F.files store.new) (F.asked store.new) (F.faults store.new)) }
-    ensures unread { IfErr result (λ answer. (guest : Outside) → IsAnswerFor (Ok (Line.Run line.now))
-        (devices (F.files store.old) (F.asked store.old) (F.faults store.old) guest)
-        (devices (F.files store.new) (F.asked store.new) (F.faults store.new) guest) (outcome_of answer)) }
-{
-    let mut file = Vec::new(alloc);
-    match store.read(line.image.as_str(), &mut file, FILE_LIMIT) {
-        Err(StoreFault::Failed) => Err(Answer::StoreFault),
-        Err(StoreFault::Memory) => Err(Answer::Memory),
-        Ok(Loaded::Longer) => Err(Answer::TooLong),
-        Ok(Loaded::Whole) => Ok(file),
-    }
-}
-
-/// Runs a file, as a line asks that has no workers.
-///
-/// What nobody sees is not run: nothing is guessed where the numbers are not reported, since guesses change nothing else
-/// then.
+/// Runs a file, as a line asks that has no workers and names no saved entries.
 pub(crate) fn run_file_alone<I: Source, O: Sink, E: Sink, L: Ledger>(
     alloc: Global,
     line: &RunLine,
@@ -122,23 +123,15 @@ pub(crate) fn run_file_alone<I: Source, O: Sink, E: Sink, L: Ledger>(
         (outside (I.left input.old) (O.given out.old) (E.given err.old) steps.old
         (faults (I.faults input.old) (O.faults out.old) (E.faults err.old)))
         (outside (I.left input.new) (O.given out.new) (E.given err.new) steps.new
-        (faults (I.faults input.new) (O.faults out.new) (E.faults err.new))) line.now file.now result }
+        (faults (I.faults input.new) (O.faults out.new) (E.faults err.new))) line.now (image_alone file.now) result }
 {
-    let mut walk = match walk_of(alloc, line, file) {
-        Ok(walk) => walk,
-        Err(answer) => return Outcome::of(answer),
-    };
-    if !makes_guesses(line) {
-        let mut helper = Bare::new(Nothing::new());
-        return run_with(line.report, &mut walk, &mut helper, input, out, err, steps);
-    }
-    match Serial::new(alloc, walk.shape(), guessing_of(line)) {
-        Ok(mut helper) => run_with(line.report, &mut walk, &mut helper, input, out, err, steps),
-        Err(Memory) => Outcome::of(Answer::Memory),
+    match walk_of(alloc, line, settings_of(line), file) {
+        Ok(walk) => walk_alone(alloc, line, walk, &[], input, out, err, steps),
+        Err(answer) => Outcome::of(answer),
     }
 }
 
-/// Runs a file, as a line asks that has workers.
+/// Runs a file, as a line asks that has workers and names no saved entries.
 pub(crate) fn run_file_beside<
     T: Threads + Wait + Sync + Copy + Drop + Send,
     I: Source,
@@ -164,36 +157,80 @@ pub(crate) fn run_file_beside<
         (outside (I.left input.old) (O.given out.old) (E.given err.old) steps.old
         (faults (I.faults input.old) (O.faults out.old) (E.faults err.old)))
         (outside (I.left input.new) (O.given out.new) (E.given err.new) steps.new
-        (faults (I.faults input.new) (O.faults out.new) (E.faults err.new))) line.now file.now result }
+        (faults (I.faults input.new) (O.faults out.new) (E.faults err.new))) line.now (image_alone file.now) result }
 {
-    match walk_of(alloc, line, file) {
-        Ok(mut walk) => walk_beside(rt, alloc, line, &mut walk, gate, input, out, err, steps),
+    match walk_of(alloc, line, settings_of(line), file) {
+        Ok(mut walk) => walk_beside(
+            rt,
+            alloc,
+            line,
+            &mut walk,
+            &[],
+            gate,
+            input,
+            out,
+            err,
+            steps,
+        ),
         Err(answer) => Outcome::of(answer),
     }
 }
 
-/// The new walk of a file, as a line asks, or the answer where there is none.
-fn walk_of(alloc: Global, line: &RunLine, file: &[u8]) -> Result<Walk, Answer>
+/// Runs a walk that has not begun to its end, as a line asks that has no workers, with these entries before its first
+/// visit.
+///
+/// What nobody sees is not run: nothing is guessed where there are no saved entries and the numbers are not reported,
+/// since guesses change nothing else then.
+fn walk_alone<I: Source, O: Sink, E: Sink, L: Ledger>(
+    alloc: Global,
+    line: &RunLine,
+    mut walk: Walk,
+    first: &[Arc<Entry>],
+    input: &mut I,
+    out: &mut O,
+    err: &mut E,
+    steps: &mut Steps<L>,
+) -> Outcome
+    requires new { IsNone walk.ended }
     requires line { IsRunWithin line.now }
-    requires file { length file.now ≤ file_limit }
-    ensures walk { IfOk result (IsWalkOf line.now file.now) }
-    ensures new { IfOk result (λ walk. IsNone walk.ended) }
-    ensures none { IfErr result (λ answer. (guest : Outside) → Ran guest guest line.now file.now (outcome_of answer)) }
+    requires none { line.now.workers ≡ 0 }
+    ensures { (files : Files) → AreOpened line.now files walk (map arc_value first.now) → Ran
+        (outside (I.left input.old) (O.given out.old) (E.given err.old) steps.old
+        (faults (I.faults input.old) (O.faults out.old) (E.faults err.old)))
+        (outside (I.left input.new) (O.given out.new) (E.given err.new) steps.new
+        (faults (I.faults input.new) (O.faults out.new) (E.faults err.new))) line.now files result }
 {
-    let image = match read(file, 1024 * line.memory, line.version) {
-        Ok(image) => image,
-        Err(fault) => return Err(Answer::Image(fault)),
-    };
-    // That its state has a good shape.
-    let _ = image.shape();
-    match Walk::new(alloc, &image, settings_of(line)) {
-        Ok(walk) => Ok(walk),
-        Err(Memory) => Err(Answer::Memory),
+    if !keeps_entries(line) {
+        let mut helper = Bare::new(Nothing::new());
+        return run_with(line.report, &mut walk, &mut helper, input, out, err, steps);
+    }
+    match helper_with(alloc, walk.shape(), guessing_of(line), first) {
+        Ok(mut helper) => run_with(line.report, &mut walk, &mut helper, input, out, err, steps),
+        Err(Memory) => Outcome::of(Answer::Memory),
     }
 }
 
+/// A helper that was not visited yet, and has these entries.
+fn helper_with(
+    alloc: Global,
+    shape: Shape,
+    guessing: Guessing,
+    first: &[Arc<Entry>],
+) -> Result<Serial, Memory>
+    requires laps { 1 ≤ guessing.laps }
+    requires span { 1 ≤ guessing.span }
+    requires ahead { guessing.ahead ≤ MOST_AHEAD }
+    ensures { IfOk result (λ helper. helper ≡ loaded_helper shape guessing (map arc_value first.now)) }
+{
+    let mut helper = Serial::new(alloc, shape, guessing)?;
+    for entry in first {
+        helper.preload(Arc::try_clone(entry)?);
+    }
+    Ok(helper)
+}
+
 /// Runs a walk that has not begun to its end, with a helper, and tells its numbers where they are asked for.
-fn run_with<H: Helper, I: Source, O: Sink, E: Sink, L: Ledger>(
+pub(crate) fn run_with<H: Helper, I: Source, O: Sink, E: Sink, L: Ledger>(
     is_asked: bool,
     walk: &mut Walk,
     helper: &mut H,
@@ -223,7 +260,8 @@ fn run_with<H: Helper, I: Source, O: Sink, E: Sink, L: Ledger>(
     }
 }
 
-/// Runs a walk that has not begun to its end, with workers beside it, and tells their numbers where they are asked for.
+/// Runs a walk that has not begun to its end, with workers beside it, and tells their numbers where they are asked for. Its
+/// look-ups know these entries from the beginning.
 fn walk_beside<
     T: Threads + Wait + Sync + Copy + Drop + Send,
     G: Gate + Sync,
@@ -236,6 +274,7 @@ fn walk_beside<
     alloc: Global,
     line: &RunLine,
     walk: &mut Walk,
+    first: &[Arc<Entry>],
     gate: &G,
     input: &mut I,
     out: &mut O,
@@ -257,7 +296,7 @@ fn walk_beside<
         walk,
         guessing_of(line),
         crew_of(line),
-        &[],
+        first,
         gate,
         input,
         out,

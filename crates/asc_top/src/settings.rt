@@ -2,7 +2,7 @@
 ghost use Rattle.std.specs.Prelude.{◌≡◌};
 ghost use Rattle.asc_run.specs.Visits.{HasBounds};
 ghost use Rattle.asc_words.specs.Line.{IsRunWithin};
-ghost use Rattle.asc_top.specs.Numbers.{guessing_of, makes_guesses, recognised_by, settings_of};
+ghost use Rattle.asc_top.specs.Numbers.{guessing_of, has_visits, keeps_entries, recognised_by, settings_of, visited_settings};
 ghost use Rattle.asc_top.specs.Workers.{crew_of};
 
 use asc_find::Guessing;
@@ -10,11 +10,18 @@ use asc_live::Crew;
 use asc_run::{Recognised, Settings};
 use asc_words::RunLine;
 
-/// Whether a line without workers has guesses made.
-pub(crate) fn makes_guesses(line: &RunLine) -> bool
-    ensures { result ≡ makes_guesses line.now }
+/// Whether a line without workers has entries kept.
+pub(crate) fn keeps_entries(line: &RunLine) -> bool
+    ensures { result ≡ keeps_entries line.now }
 {
-    line.report && (line.last || line.stride)
+    line.load.is_some() || (line.report && (line.last || line.stride))
+}
+
+/// Whether a run's visits matter: its numbers are reported, or it has workers or saved entries.
+fn has_visits(line: &RunLine) -> bool
+    ensures { result ≡ has_visits line.now }
+{
+    line.report || line.workers > 0 || line.load.is_some()
 }
 
 /// What a line asks to be guessed.
@@ -40,7 +47,19 @@ pub(crate) fn crew_of(line: &RunLine) -> Crew
     }
 }
 
-/// How a line asks for a walk.
+/// How a line asks for a walk that is visited.
+pub(crate) fn visited_settings(line: &RunLine) -> Settings
+    requires { IsRunWithin line.now }
+    ensures settings { result ≡ visited_settings line.now }
+    ensures bounds { HasBounds result.recognised }
+{
+    Settings {
+        limit: line.limit,
+        recognised: recognised_by(line),
+    }
+}
+
+/// How a line asks for the walk of a run.
 pub(crate) fn settings_of(line: &RunLine) -> Settings
     requires { IsRunWithin line.now }
     ensures settings { result ≡ settings_of line.now }
@@ -48,7 +67,7 @@ pub(crate) fn settings_of(line: &RunLine) -> Settings
 {
     Settings {
         limit: line.limit,
-        recognised: if line.report || line.workers > 0 {
+        recognised: if has_visits(line) {
             recognised_by(line)
         } else {
             Recognised::Nowhere

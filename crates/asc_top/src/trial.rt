@@ -170,5 +170,6 @@ fn trial_run(alloc: Global, workers: usize) -> RunLine
         workers,
         queue: 256,
         report: true,
+        load: None,
     }
 }

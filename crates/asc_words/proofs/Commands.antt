@@ -1,6 +1,6 @@
 -- A command as it is built, argument by argument.
-use Rattle.std.proofs.Common.{◌≡◌, ◌∙◌, ◌||◌, ap, ap₂, true, false}
-use Rattle.clap.specs.Words.{App, Rule, app_of, rule_of, with_rule, with_subcommand}
+use Rattle.std.proofs.Common.{◌≡◌, ◌∙◌, ◌++◌, ◌∷◌, ◌||◌, [], ap, ap₂, true, false}
+use Rattle.clap.specs.Words.{App, Rule, app_of, rule_of, with_subcommand}
 use Rattle.clap.specs.Simple.{Shape, app_of_fields}
 use Rattle.clap.specs.Built.{AddsArg, AddsSubcommand}
 use Rattle.clap.specs.declared.builder.arg.Arg.{Arg}
@@ -9,21 +9,27 @@ use Rattle.clap.specs.declared.builder.command.Command.TheViews.{out-Command}
 use Rattle.clap.specs.declared.builder.command.Command.TheOpen.{Command-F}
 use Rattle.asc_words.specs.Subcommands.{IsSubcommand}
 
+-- ---- a subcommand
+
+-- a new command is read so
+pub as_new : (command : Command) (app : App) → (out-Command command).has_globals ≡ false → app_of command ≡ app → IsSubcommand command app.top
+as_new command app local reads = record { shape = ap (λ (a : App). a.top) reads; local = local }
+
+-- with an argument more
+pub with_arg : (old new : Command) (arg : Arg) (described : Shape) (rule : Rule) → IsSubcommand old described → AddsArg old arg new → rule_of arg ≡ rule
+    → arg.global ≡ false → IsSubcommand new (record described { rules = described.rules ++ rule ∷ [] })
+with_arg old new arg described rule is adds describes local = record {
+  shape = ap (λ (a : App). a.top) (adds.shape local)
+      ∙ ap₂ (λ (s : Shape) (r : Rule). record s { rules = s.rules ++ r ∷ [] }) is.shape describes;
+  local = adds.globals ∙ ap₂ (λ a b. a || b) is.local local;
+}
+
+-- ---- asc
+
 -- a command without global arguments, which a parse reads so
 pub record Reads (command : Command) (app : App) : Type 0 where
   pub local : (out-Command command).has_globals ≡ false
   pub reads : app_of command ≡ app
-
-pub with_arg : (old new : Command) (arg : Arg) (app : App) (rule : Rule) → Reads old app → AddsArg old arg new → rule_of arg ≡ rule → arg.global ≡ false
-    → Reads new (with_rule app rule)
-with_arg old new arg app rule reads adds is local = record {
-  local = adds.globals ∙ ap₂ (λ a b. a || b) reads.local local;
-  reads = adds.shape local ∙ ap₂ with_rule reads.reads is;
-}
-
--- a command that is read so is this subcommand
-pub as_subcommand : (command : Command) (app : App) → Reads command app → IsSubcommand command app.top
-as_subcommand command app reads = record { shape = ap (λ (a : App). a.top) reads.reads; local = reads.local }
 
 -- with a subcommand more
 pub with_sub : (old sub new : Command) (app : App) (described : Shape) → Reads old app → AddsSubcommand old sub new → IsSubcommand sub described

@@ -1,7 +1,10 @@
 -- The line of words that clap takes, and of words that it refuses.
-use Rattle.std.proofs.Common.{◌≡◌, ◌∙◌, ◌^◌, ◌-◌, ◌<◌, ◌≤◌, ◌⊎◌, ℕ, arith, codes, inl, inr, true, refl, sym, ap, subst, List, [], ◌∷◌, Option, Some, None, Result, Ok, Err, IsErrAnd, Bor}
+use Rattle.std.proofs.Common.{◌≡◌, ◌≢◌, ◌∙◌, ◌^◌, ◌-◌, ◌<◌, ◌≤◌, ◌⊎◌, ℕ, arith, codes, inl, inr, true, false, refl, sym, ap, subst, List, [], ◌∷◌, Option, Some, None, Result, Ok, Err, IsErrAnd, Bor}
 use Rattle.std.specs.Prelude.{option_map, if◌then◌else◌, Box}
 use Rattle.std.specs.Box.{box_value}
+use Rattle.std.specs.Result.{result_map_both}
+use Rattle.std.specs.Str.{bytes_eq}
+use Rattle.std.proofs.lemmas.Slice.Eq.{bytes_eq-Decides}
 use Rattle.clap.specs.Matches.{found_of, subcommand_name_of}
 use Rattle.clap.specs.Simple.{App, HasMatchesOf, is_simple, subcommand_of, subcommand_rows, subcommand_rows_of}
 use Rattle.clap.specs.Walk.{Row, Text, first_of, is_empty, rows_of}
@@ -19,10 +22,11 @@ use Rattle.asc_words.specs.Laws.{HaveLine, HaveLineOf, LinesAreWithin}
 use Rattle.asc_words.specs.declared.answer.Bad.{Bad}
 use Rattle.asc_words.specs.declared.answer.Bad.TheVariants.{Words}
 use Rattle.asc_words.specs.declared.line.Line.{Line}
-use Rattle.asc_words.specs.declared.line.Line.TheVariants.{Run, Make, Trial}
-use Rattle.asc_words.specs.Line.{IsWithin, address_of, guesses_of, line_of, line_found, make_of, number_in, run_at, run_of, run_with, text_in, trial_of}
-use Rattle.asc_words.specs.Rows.{IsMake, IsRun, IsTrial, line_fault}
+use Rattle.asc_words.specs.declared.line.Line.TheVariants.{Run, Save, Make, Trial}
+use Rattle.asc_words.specs.Line.{IsSaveWithin, IsWithin, address_of, guesses_of, line_of, line_found, make_of, number_in, run_of, run_with, save_of, shared_at, shared_of, shared_with, text_in, trial_of}
+use Rattle.asc_words.specs.Rows.{HasShared, IsMake, IsRun, IsSave, IsTrial, line_fault}
 use Rattle.asc_words.specs.declared.line.Guesses.{Guesses}
+use Rattle.asc_words.specs.declared.line.RunLine.{RunLine}
 use Rattle.asc_words.specs.declared.line.LineFault.TheVariants as faults
 use Rattle.asc_words.proofs.Fitting.{not_empty}
 use Rattle.asc_words.proofs.Numbers.{number_within}
@@ -92,29 +96,65 @@ have_line words none = go (taken words none)
   where
     go : IsTaken (subcommand_of asc_command words) → HaveLine words
     go (inl run) = inl (have_line_of words (codes "run") IsRun run_of (λ rows. refl) none run)
-    go (inr (inl make)) = inr (inl (have_line_of words (codes "make") IsMake make_of (λ rows. refl) none make))
-    go (inr (inr trial)) = inr (inr (have_line_of words (codes "trial") IsTrial trial_of (λ rows. refl) none trial))
+    go (inr (inl save)) = inr (inl (have_line_of words (codes "save") IsSave save_of (λ rows. refl) none save))
+    go (inr (inr (inl make))) = inr (inr (inl (have_line_of words (codes "make") IsMake make_of (λ rows. refl) none make)))
+    go (inr (inr (inr trial))) = inr (inr (inr (have_line_of words (codes "trial") IsTrial trial_of (λ rows. refl) none trial)))
 
 -- the lines are within their ranges
-run_at_within : (rows : List Row) → IsRun rows → (guesses : Result Guesses Bad) (pc : Result (Option ℕ) Bad) (line : Line) → run_at rows guesses pc ≡ Ok line → IsWithin line
-run_at_within rows is (Err bad) pc line e = absurd (cc)
-run_at_within rows is (Ok guesses) (Err bad) line e = absurd (cc)
-run_at_within rows is (Ok guesses) (Ok pc) line e =
-    let same : Run (run_with rows guesses pc) ≡ line = cc in
-    subst (λ (l : Line). IsWithin l) same (record {
-      memory = number_within (codes "memory") 64 65536 rows is.memory;
-      limit = (number_within (codes "steps") 0 (2 ^ 40) rows is.limit).1;
-      profile = number_within (codes "profile") 2 65536 rows is.profile;
-      least = number_within (codes "min") 2 65536 rows is.least;
-      laps = number_within (codes "laps") 1 1000000 rows is.laps;
-      span = number_within (codes "span") 1 1000000000 rows is.span;
-      ahead = number_within (codes "ahead") 1 64 rows is.ahead;
-      workers = (number_within (codes "workers") 0 64 rows is.workers).1;
-      queue = number_within (codes "queue") 1 1024 rows is.queue;
-    })
+shared_within : (rows : List Row) → HasShared rows → (guesses : Guesses) (pc : Option ℕ) → IsSaveWithin (shared_with rows guesses pc)
+shared_within rows is guesses pc = record {
+  within = record {
+    memory = number_within (codes "memory") 64 65536 rows is.memory;
+    limit = (number_within (codes "steps") 0 (2 ^ 40) rows is.limit).1;
+    profile = number_within (codes "profile") 2 65536 rows is.profile;
+    least = number_within (codes "min") 2 65536 rows is.least;
+    laps = number_within (codes "laps") 1 1000000 rows is.laps;
+    span = number_within (codes "span") 1 1000000000 rows is.span;
+    ahead = number_within (codes "ahead") 1 64 rows is.ahead;
+    workers = omega arith;
+    queue = number_within (codes "queue") 1 1024 rows is.queue;
+  };
+  alone = refl;
+  quiet = refl;
+  loads_none = refl;
+}
+
+shared_at_within : (rows : List Row) → HasShared rows → (guesses : Result Guesses Bad) (pc : Result (Option ℕ) Bad) (line : RunLine)
+    → shared_at rows guesses pc ≡ Ok line → IsSaveWithin line
+shared_at_within rows is (Err bad) pc line e = absurd (cc)
+shared_at_within rows is (Ok guesses) (Err bad) line e = absurd (cc)
+shared_at_within rows is (Ok guesses) (Ok pc) line e =
+    let same : shared_with rows guesses pc ≡ line = cc in subst IsSaveWithin same (shared_within rows is guesses pc)
+
+shared_of_within : (rows : List Row) → HasShared rows → (line : RunLine) → shared_of rows ≡ Ok line → IsSaveWithin line
+shared_of_within rows is = shared_at_within rows is (guesses_of (text_in (codes "guess") rows)) (address_of (first_of (codes "pc") rows))
 
 pub run_within : (rows : List Row) → IsRun rows → (line : Line) → run_of rows ≡ Ok line → IsWithin line
-run_within rows is = run_at_within rows is (guesses_of (text_in (codes "guess") rows)) (address_of (first_of (codes "pc") rows))
+run_within rows is line e = go (shared_of rows) refl e
+  where
+    go : (r : Result RunLine Bad) → shared_of rows ≡ r → result_map_both (λ (l : RunLine). Run (run_with rows l)) (λ bad. bad) r ≡ Ok line → IsWithin line
+    go (Err bad) shared e = absurd (cc)
+    go (Ok l) shared e =
+        let same : Run (run_with rows l) ≡ line = cc in
+        let within = (shared_of_within rows is.shared l shared).within in
+        subst IsWithin same (record {
+          memory = within.memory;
+          limit = within.limit;
+          profile = within.profile;
+          least = within.least;
+          laps = within.laps;
+          span = within.span;
+          ahead = within.ahead;
+          workers = (number_within (codes "workers") 0 64 rows is.workers).1;
+          queue = within.queue;
+        })
+
+pub save_within : (rows : List Row) → IsSave rows → (line : Line) → save_of rows ≡ Ok line → IsWithin line
+save_within rows is line e = go (shared_of rows) refl e
+  where
+    go : (r : Result RunLine Bad) → shared_of rows ≡ r → result_map_both (λ (l : RunLine). Save l) (λ bad. bad) r ≡ Ok line → IsWithin line
+    go (Err bad) shared e = absurd (cc)
+    go (Ok l) shared e = let same : Save l ≡ line = cc in subst IsWithin same (shared_of_within rows is l shared)
 
 below_all : (n : ℕ) → n ≤ 2 ^ 64 - 1 → n < 2 ^ 64
 below_all n is = omega arith
@@ -136,10 +176,11 @@ lines_within words line is = go (fault_of asc_command words) refl
   where
     within : HaveLine words → IsWithin line
     within (inl run) = run_within run.rows run.values line (sym run.line ∙ is)
-    within (inr (inl make)) =
+    within (inr (inl save)) = save_within save.rows save.values line (sym save.line ∙ is)
+    within (inr (inr (inl make))) =
         let same : Make (number_in (codes "number") make.rows) ≡ line = ok_is _ _ line make.line is in
         subst (λ (l : Line). IsWithin l) same (make_within make.rows make.values)
-    within (inr (inr trial)) =
+    within (inr (inr (inr trial))) =
         let same : Trial (number_in (codes "number") trial.rows) (number_in (codes "workers") trial.rows) ≡ line = ok_is _ _ line trial.line is in
         subst (λ (l : Line). IsWithin l) same (trial_within trial.rows trial.values)
 
@@ -159,10 +200,11 @@ pub record IsFoundAs (words : List Text) (m : ArgMatches) (name : Text) (AreValu
   pub names : subcommand_name_of m ≡ Some name
   pub found : option_map (λ p. p.1) (subcommand_rows_of m) ≡ Some rows
 
--- it is one of the three
+-- it is one of the four
 abbrev pub IsFound : List Text → ArgMatches → Type 0
 IsFound words m =
     IsFoundAs words m (codes "run") IsRun run_of
+    ⊎ IsFoundAs words m (codes "save") IsSave save_of
     ⊎ IsFoundAs words m (codes "make") IsMake make_of
     ⊎ IsFoundAs words m (codes "trial") IsTrial trial_of
 
@@ -184,8 +226,9 @@ module _ (words : List Text) (m : ArgMatches) (same : subcommand_rows_of m ≡ s
 
   found_of_lines : HaveLine words → IsFound words m
   found_of_lines (inl run) = inl (found_as (codes "run") IsRun run_of run)
-  found_of_lines (inr (inl make)) = inr (inl (found_as (codes "make") IsMake make_of make))
-  found_of_lines (inr (inr trial)) = inr (inr (found_as (codes "trial") IsTrial trial_of trial))
+  found_of_lines (inr (inl save)) = inr (inl (found_as (codes "save") IsSave save_of save))
+  found_of_lines (inr (inr (inl make))) = inr (inr (inl (found_as (codes "make") IsMake make_of make)))
+  found_of_lines (inr (inr (inr trial))) = inr (inr (inr (found_as (codes "trial") IsTrial trial_of trial)))
 
 pub found : (app : App) (words : List Text) (m : ArgMatches) → app ≡ asc_command → (is_simple_and_free app ≡ true → fault_of app words ≡ [])
     → HasMatchesOf app words m → IsFound words m
@@ -197,6 +240,9 @@ found app words m is kinds matches =
 pub passed_up : {T E : Type 0} (r : Result T E) (x y : E) → IsErrAnd r (λ e. e ≡ x) → r ≡ Err y → x ≡ y
 passed_up (Ok t) x y is same = absurd is
 passed_up (Err e) x y is same = cc
+
+differ : (a b : Text) → bytes_eq a b ≡ false → a ≢ b
+differ a b other is = let same : bytes_eq a b ≡ true = (bytes_eq-Decides a b).1 is in cc
 
 -- the subcommand that the code holds, and what the line is made of
 pub record IsMetAs (words : List Text) (p : Bor Text × Bor ArgMatches) (name : Text) (AreValues : List Row → Type 0) (made : List Row → Result Line Bad) : Type 0 where
@@ -219,23 +265,46 @@ module _ (words : List Text) (m : ArgMatches) (met : Option (Bor Text × Bor Arg
           values = subst AreValues (sym same_rows) of.values;
         }
 
-    -- which of the three it is
+    -- what holds of the name and of what was found, whichever of the four it is
+    met_any : (P : Text → Type 0) → IsFound words m
+        → (IsMetAs words p (codes "run") IsRun run_of → P (codes "run"))
+        → (IsMetAs words p (codes "save") IsSave save_of → P (codes "save"))
+        → (IsMetAs words p (codes "make") IsMake make_of → P (codes "make"))
+        → (IsMetAs words p (codes "trial") IsTrial trial_of → P (codes "trial")) → P p.0.now
+    met_any P (inl run) of_run of_save of_make of_trial = let met = met_as (codes "run") IsRun run_of run in subst P (sym met.is) (of_run met)
+    met_any P (inr (inl save)) of_run of_save of_make of_trial = let met = met_as (codes "save") IsSave save_of save in subst P (sym met.is) (of_save met)
+    met_any P (inr (inr (inl make))) of_run of_save of_make of_trial = let met = met_as (codes "make") IsMake make_of make in subst P (sym met.is) (of_make met)
+    met_any P (inr (inr (inr trial))) of_run of_save of_make of_trial = let met = met_as (codes "trial") IsTrial trial_of trial in subst P (sym met.is) (of_trial met)
+
+    -- which of the four it is
     pub met_run : IsFound words m → p.0.now ≡ codes "run" → IsMetAs words p (codes "run") IsRun run_of
-    met_run (inl run) name = met_as (codes "run") IsRun run_of run
-    met_run (inr (inl make)) name = let other = (met_as (codes "make") IsMake make_of make).is in absurd (cc)
-    met_run (inr (inr trial)) name = let other = (met_as (codes "trial") IsTrial trial_of trial).is in absurd (cc)
+    met_run of = met_any (λ name. name ≡ codes "run" → IsMetAs words p (codes "run") IsRun run_of) of
+        (λ met is. met)
+        (λ met is. absurd (differ (codes "save") (codes "run") refl is))
+        (λ met is. absurd (differ (codes "make") (codes "run") refl is))
+        (λ met is. absurd (differ (codes "trial") (codes "run") refl is))
+
+    pub met_save : IsFound words m → p.0.now ≡ codes "save" → IsMetAs words p (codes "save") IsSave save_of
+    met_save of = met_any (λ name. name ≡ codes "save" → IsMetAs words p (codes "save") IsSave save_of) of
+        (λ met is. absurd (differ (codes "run") (codes "save") refl is))
+        (λ met is. met)
+        (λ met is. absurd (differ (codes "make") (codes "save") refl is))
+        (λ met is. absurd (differ (codes "trial") (codes "save") refl is))
 
     pub met_make : IsFound words m → p.0.now ≡ codes "make" → IsMetAs words p (codes "make") IsMake make_of
-    met_make (inl run) name = let other = (met_as (codes "run") IsRun run_of run).is in absurd (cc)
-    met_make (inr (inl make)) name = met_as (codes "make") IsMake make_of make
-    met_make (inr (inr trial)) name = let other = (met_as (codes "trial") IsTrial trial_of trial).is in absurd (cc)
+    met_make of = met_any (λ name. name ≡ codes "make" → IsMetAs words p (codes "make") IsMake make_of) of
+        (λ met is. absurd (differ (codes "run") (codes "make") refl is))
+        (λ met is. absurd (differ (codes "save") (codes "make") refl is))
+        (λ met is. met)
+        (λ met is. absurd (differ (codes "trial") (codes "make") refl is))
 
     pub met_trial : IsFound words m → p.0.now ≡ codes "trial" → IsMetAs words p (codes "trial") IsTrial trial_of
-    met_trial (inl run) name = let other = (met_as (codes "run") IsRun run_of run).is in absurd (cc)
-    met_trial (inr (inl make)) name = let other = (met_as (codes "make") IsMake make_of make).is in absurd (cc)
-    met_trial (inr (inr trial)) name = met_as (codes "trial") IsTrial trial_of trial
+    met_trial of = met_any (λ name. name ≡ codes "trial" → IsMetAs words p (codes "trial") IsTrial trial_of) of
+        (λ met is. absurd (differ (codes "run") (codes "trial") refl is))
+        (λ met is. absurd (differ (codes "save") (codes "trial") refl is))
+        (λ met is. absurd (differ (codes "make") (codes "trial") refl is))
+        (λ met is. met)
 
-    pub met_one : IsFound words m → (p.0.now ≡ codes "run") ⊎ (p.0.now ≡ codes "make") ⊎ (p.0.now ≡ codes "trial")
-    met_one (inl run) = inl (met_as (codes "run") IsRun run_of run).is
-    met_one (inr (inl make)) = inr (inl (met_as (codes "make") IsMake make_of make).is)
-    met_one (inr (inr trial)) = inr (inr (met_as (codes "trial") IsTrial trial_of trial).is)
+    pub met_one : IsFound words m → (p.0.now ≡ codes "run") ⊎ (p.0.now ≡ codes "save") ⊎ (p.0.now ≡ codes "make") ⊎ (p.0.now ≡ codes "trial")
+    met_one of = met_any (λ name. (name ≡ codes "run") ⊎ (name ≡ codes "save") ⊎ (name ≡ codes "make") ⊎ (name ≡ codes "trial")) of
+        (λ met. inl refl) (λ met. inr (inl refl)) (λ met. inr (inr (inl refl))) (λ met. inr (inr (inr refl)))

@@ -1,5 +1,5 @@
 -- What is known of words that clap takes for asc's command.
-use Rattle.std.proofs.Common.{◌≡◌, ◌∙◌, ◌||◌, ◌^◌, ◌-◌, ◌⊎◌, ℕ, zero, suc, inl, inr, Bool, codes, cond, true, false, not, refl, ap, subst, List, [], ◌∷◌, Option, Some, None, is_some}
+use Rattle.std.proofs.Common.{◌≡◌, ◌∙◌, ◌||◌, ◌^◌, ◌-◌, ◌⊎◌, ℕ, zero, suc, inl, inr, Bool, codes, cond, true, false, not, refl, ap, subst, List, [], ◌∷◌, ◌++◌, Option, Some, None, is_some}
 use Rattle.std.specs.Prelude.{option_and_then, option_map, slice_get}
 use Rattle.std.specs.List.{find}
 use Rattle.std.specs.Str.{bytes_eq}
@@ -17,8 +17,8 @@ use Rattle.clap.specs.Takes.{is_given}
 use Rattle.clap.specs.Kinds.{Kinds, or_else}
 use Rattle.clap.specs.Faults.{check_fault, defaults_fault, entered_fault, fault_of, level_fault, settle_fault, walk_fault}
 use Rattle.clap.specs.declared.error.kind.ErrorKind.TheVariants as kind
-use Rattle.asc_words.specs.Command.{asc_command, flag, number_argument, number_option, required, run_command, text_with_default}
-use Rattle.asc_words.specs.Rows.{HasFlag, HasNumber, HasText, IsMake, IsRun, IsTrial}
+use Rattle.asc_words.specs.Command.{asc_command, flag, number_argument, number_option, required, run_command, text_option, text_with_default, workers_option}
+use Rattle.asc_words.specs.Rows.{HasFlag, HasNumber, HasShared, HasText, IsMake, IsRun, IsSave, IsTrial}
 use Rattle.asc_words.proofs.Fitting.{AllFit, AreDistinct, AreOptions, Found, distinct_of, options_of, defaults_fit, found_for, given_row, made_by_defaults, neither, not_chosen, settle_fits, walk_fits}
 
 -- ---- a level of a command
@@ -123,11 +123,14 @@ shape_at (suc n) (s ∷ subs) = shape_at n subs
 abbrev built_run : Shape
 built_run = shape_at 0 (built asc_command).subs
 
+abbrev built_save : Shape
+built_save = shape_at 1 (built asc_command).subs
+
 abbrev built_make : Shape
-built_make = shape_at 1 (built asc_command).subs
+built_make = shape_at 2 (built asc_command).subs
 
 abbrev built_trial : Shape
-built_trial = shape_at 2 (built asc_command).subs
+built_trial = shape_at 3 (built asc_command).subs
 
 abbrev image : Rule
 image = with_index 1 (filled (required (codes "image")))
@@ -141,40 +144,68 @@ report = filled (flag (codes "report"))
 abbrev number : Rule
 number = with_index 1 (filled number_argument)
 
+-- what `asc save` and `asc run` both take, where the rules of others may stand behind these
+module _ (s : Shape) (more : List Rule) (shared : s.rules ≡ built_save.rules ++ more) (once : s.args_override_self ≡ false)
+    (options : AreOptions s.rules) (distinct : AreDistinct s.rules) (words : List Text) (level : Passes s [] words false [])
+    (given : is_given (codes "image") (rows_found s words) ≡ true) where
+  rule_is : (name : Text) (rule : Option Rule) → find (λ b. bytes_eq b.id name) (built_save.rules ++ more) ≡ rule → find (λ b. bytes_eq b.id name) s.rules ≡ rule
+  rule_is name rule is = ap (find (λ b. bytes_eq b.id name)) shared ∙ is
+
+  shared_number : (name : Text) (least most : ℕ) (default : Text)
+      → find (λ b. bytes_eq b.id name) (built_save.rules ++ more) ≡ Some (filled (number_option name least most default))
+      → HasNumber name least most (rows_found s words)
+  shared_number name least most default is = number_of s once options distinct words level name least most default (rule_is name _ is)
+
+  shared_values : HasShared (rows_found s words)
+  shared_values = record {
+    image = has_text image (rows_found s words) (of_given s once options distinct words level image (rule_is (codes "image") _ refl) given);
+    memory = shared_number (codes "memory") 64 65536 (codes "1024") refl;
+    limit = shared_number (codes "steps") 0 (2 ^ 40) (codes "1099511627776") refl;
+    machine = shared_number (codes "machine") 1 2 (codes "2") refl;
+    guess = has_text guess (rows_found s words) (of_default s once options distinct words level guess (rule_is (codes "guess") _ refl) refl);
+    profile = shared_number (codes "profile") 2 65536 (codes "4096") refl;
+    least = shared_number (codes "min") 2 65536 (codes "4") refl;
+    laps = shared_number (codes "laps") 1 1000000 (codes "1") refl;
+    span = shared_number (codes "span") 1 1000000000 (codes "1000000") refl;
+    ahead = shared_number (codes "ahead") 1 64 (codes "4") refl;
+    queue = shared_number (codes "queue") 1 1024 (codes "256") refl;
+  }
+
 run_options : AreOptions built_run.rules
 run_options = options_of built_run.rules refl
 
 run_distinct : AreDistinct built_run.rules
 run_distinct = distinct_of built_run.rules refl
 
+-- the rules that only `asc run` has
+abbrev run_rules : List Rule
+run_rules = filled workers_option ∷ filled (text_option (codes "load")) ∷ report ∷ []
+
 module _ (words : List Text) (level : Passes built_run [] words false []) where
-  image_given : is_given (codes "image") (rows_found built_run words) ≡ true
+  run_image_given : is_given (codes "image") (rows_found built_run words) ≡ true
   unfolding end_of rows_found
-  image_given = is_there (is_given (codes "image") (rows_found built_run words)) (not_chosen _ kind.MissingRequiredArgument level.of_check)
-
-  run_number : (name : Text) (least most : ℕ) (default : Text) → find (λ b. bytes_eq b.id name) built_run.rules ≡ Some (filled (number_option name least most default))
-      → HasNumber name least most (rows_found built_run words)
-  run_number = number_of built_run refl run_options run_distinct words level
-
-  run_default : (a : Rule) → find (λ b. bytes_eq b.id a.id) built_run.rules ≡ Some a → is_empty a.defaults ≡ false → Found a (rows_found built_run words)
-  run_default = of_default built_run refl run_options run_distinct words level
+  run_image_given = is_there (is_given (codes "image") (rows_found built_run words)) (not_chosen _ kind.MissingRequiredArgument level.of_check)
 
   run_values : IsRun (rows_found built_run words)
   run_values = record {
-    image = has_text image (rows_found built_run words) (of_given built_run refl run_options run_distinct words level image refl image_given);
-    memory = run_number (codes "memory") 64 65536 (codes "1024") refl;
-    limit = run_number (codes "steps") 0 (2 ^ 40) (codes "1099511627776") refl;
-    machine = run_number (codes "machine") 1 2 (codes "2") refl;
-    guess = has_text guess (rows_found built_run words) (run_default guess refl refl);
-    profile = run_number (codes "profile") 2 65536 (codes "4096") refl;
-    least = run_number (codes "min") 2 65536 (codes "4") refl;
-    laps = run_number (codes "laps") 1 1000000 (codes "1") refl;
-    span = run_number (codes "span") 1 1000000000 (codes "1000000") refl;
-    ahead = run_number (codes "ahead") 1 64 (codes "4") refl;
-    workers = run_number (codes "workers") 0 64 (codes "0") refl;
-    queue = run_number (codes "queue") 1 1024 (codes "256") refl;
-    report = has_flag report (rows_found built_run words) refl (run_default report refl refl);
+    shared = shared_values built_run run_rules refl refl run_options run_distinct words level run_image_given;
+    workers = number_of built_run refl run_options run_distinct words level (codes "workers") 0 64 (codes "0") refl;
+    report = has_flag report (rows_found built_run words) refl (of_default built_run refl run_options run_distinct words level report refl refl);
   }
+
+save_options : AreOptions built_save.rules
+save_options = options_of built_save.rules refl
+
+save_distinct : AreDistinct built_save.rules
+save_distinct = distinct_of built_save.rules refl
+
+module _ (words : List Text) (level : Passes built_save [] words false []) where
+  save_image_given : is_given (codes "image") (rows_found built_save words) ≡ true
+  unfolding end_of rows_found
+  save_image_given = is_there (is_given (codes "image") (rows_found built_save words)) (not_chosen _ kind.MissingRequiredArgument level.of_check)
+
+  save_values : IsSave (rows_found built_save words)
+  save_values = shared_values built_save [] refl refl save_options save_distinct words level save_image_given
 
 make_options : AreOptions built_make.rules
 make_options = options_of built_make.rules refl
@@ -219,12 +250,17 @@ pub record IsTakenAs (met : Option (Text × List Row)) (name : Text) (AreValues 
   pub names : met ≡ Some (name, rows)
   pub values : AreValues rows
 
--- it is one of the three
+-- it is one of the four
 abbrev pub IsTaken : Option (Text × List Row) → Type 0
-IsTaken met = IsTakenAs met (codes "run") IsRun ⊎ IsTakenAs met (codes "make") IsMake ⊎ IsTakenAs met (codes "trial") IsTrial
+IsTaken met =
+    IsTakenAs met (codes "run") IsRun
+    ⊎ IsTakenAs met (codes "save") IsSave
+    ⊎ IsTakenAs met (codes "make") IsMake
+    ⊎ IsTakenAs met (codes "trial") IsTrial
 
-abbrev met_by : (is_run is_make is_trial : Bool) → Option Shape
-met_by is_run is_make is_trial = cond is_run (Some built_run) (cond is_make (Some built_make) (cond is_trial (Some built_trial) None))
+abbrev met_by : (is_run is_save is_make is_trial : Bool) → Option Shape
+met_by is_run is_save is_make is_trial =
+    cond is_run (Some built_run) (cond is_save (Some built_save) (cond is_make (Some built_make) (cond is_trial (Some built_trial) None)))
 
 module _ (words below : List Text) where
   -- what the words may be refused for, where this subcommand is met at the words below
@@ -232,26 +268,29 @@ module _ (words below : List Text) where
   Faults met = level_fault (built asc_command).top (names_of (built asc_command)) nothing_held words
       (is_some (option_map (λ s. rows_at s below) met)) (option_map_or (λ s. level_fault s [] nothing_held below false []) met [])
 
-  taken_by : (is_run is_make is_trial : Bool) → Faults (met_by is_run is_make is_trial) ≡ []
-      → IsTaken (option_map (λ s. rows_at s below) (met_by is_run is_make is_trial))
+  -- nothing is wrong with the words of the subcommand
+  met_passes : (s : Shape) → Faults (Some s) ≡ [] → Passes s [] below false []
+  met_passes s none = passes s [] below false [] (passes _ _ words true (level_fault s [] nothing_held below false []) none).of_below
+
+  taken_by : (is_run is_save is_make is_trial : Bool) → Faults (met_by is_run is_save is_make is_trial) ≡ []
+      → IsTaken (option_map (λ s. rows_at s below) (met_by is_run is_save is_make is_trial))
   unfolding end_of rows_found
-  taken_by true is_make is_trial none =
-      let level = passes _ _ words true (level_fault built_run [] nothing_held below false []) none in
-      inl (record { rows = rows_found built_run below; names = refl; values = run_values below (passes built_run [] below false [] level.of_below) })
-  taken_by false true is_trial none =
-      let level = passes _ _ words true (level_fault built_make [] nothing_held below false []) none in
-      inr (inl (record { rows = rows_found built_make below; names = refl; values = make_values below (passes built_make [] below false [] level.of_below) }))
-  taken_by false false true none =
-      let level = passes _ _ words true (level_fault built_trial [] nothing_held below false []) none in
-      inr (inr (record { rows = rows_found built_trial below; names = refl; values = trial_values below (passes built_trial [] below false [] level.of_below) }))
-  taken_by false false false none = let level = passes _ _ words false [] none in let missing = level.of_check in cc
+  taken_by true is_save is_make is_trial none =
+      inl (record { rows = rows_found built_run below; names = refl; values = run_values below (met_passes built_run none) })
+  taken_by false true is_make is_trial none =
+      inr (inl (record { rows = rows_found built_save below; names = refl; values = save_values below (met_passes built_save none) }))
+  taken_by false false true is_trial none =
+      inr (inr (inl (record { rows = rows_found built_make below; names = refl; values = make_values below (met_passes built_make none) })))
+  taken_by false false false true none =
+      inr (inr (inr (record { rows = rows_found built_trial below; names = refl; values = trial_values below (met_passes built_trial none) })))
+  taken_by false false false false none = let level = passes _ _ words false [] none in let missing = level.of_check in cc
 
 taken_at : (words : List Text) (stop : Option (Text × List Text))
     → level_fault (built asc_command).top (names_of (built asc_command)) nothing_held words (is_some (entered (built asc_command) stop)) (entered_fault (built asc_command) stop) ≡ []
     → IsTaken (entered (built asc_command) stop)
 taken_at words None none = let level = passes _ _ words false [] none in let missing = level.of_check in cc
 taken_at words (Some p) none =
-    taken_by words p.1 (answers_to p.0 (label_of built_run)) (answers_to p.0 (label_of built_make)) (answers_to p.0 (label_of built_trial)) none
+    taken_by words p.1 (answers_to p.0 (label_of built_run)) (answers_to p.0 (label_of built_save)) (answers_to p.0 (label_of built_make)) (answers_to p.0 (label_of built_trial)) none
 
 -- where clap refuses nothing, the words name a subcommand, and what it takes has its values
 pub taken : (words : List Text) → fault_of asc_command words ≡ [] → IsTaken (subcommand_of asc_command words)

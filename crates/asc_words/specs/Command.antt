@@ -1,5 +1,5 @@
 -- The command line of asc as `clap`, the kit's parser of command lines, sees it.
-use Rattle.std.specs.Prelude.{ℕ, ◌^◌, ◌-◌, codes, true, false, List, [], ◌∷◌, Some}
+use Rattle.std.specs.Prelude.{ℕ, ◌^◌, ◌-◌, codes, true, false, List, [], ◌∷◌, ◌++◌, Some}
 use Rattle.clap.specs.Walk.{Rule, Text}
 use Rattle.clap.specs.Simple.{App, Shape, new_rule, new_shape}
 use Rattle.clap.specs.declared.builder.action.ArgAction.TheVariants.{SetTrue}
@@ -37,9 +37,9 @@ flag name = record (new_rule name) { long = Some name; action = Some SetTrue }
 abbrev pub workers_option : Rule
 workers_option = number_option (codes "workers") 0 64 (codes "0")
 
--- what `asc run` takes: a row for each argument
-abbrev pub run_arguments : List Rule
-run_arguments =
+-- what `asc run` and `asc save` both take: a row for each argument
+abbrev pub shared_arguments : List Rule
+shared_arguments =
     required (codes "image")
     ∷ number_option (codes "memory") 64 65536 (codes "1024")
     ∷ number_option (codes "steps") 0 (2 ^ 40) (codes "1099511627776")
@@ -51,10 +51,16 @@ run_arguments =
     ∷ number_option (codes "laps") 1 1000000 (codes "1")
     ∷ number_option (codes "span") 1 1000000000 (codes "1000000")
     ∷ number_option (codes "ahead") 1 64 (codes "4")
-    ∷ workers_option
     ∷ number_option (codes "queue") 1 1024 (codes "256")
-    ∷ flag (codes "report")
     ∷ []
+
+-- what `asc run` takes: workers, a file of saved entries and a report besides
+abbrev pub run_arguments : List Rule
+run_arguments = shared_arguments ++ workers_option ∷ text_option (codes "load") ∷ flag (codes "report") ∷ []
+
+-- what `asc save` takes
+abbrev pub save_arguments : List Rule
+save_arguments = shared_arguments
 
 -- the number of a generated image
 abbrev pub number_argument : Rule
@@ -75,6 +81,9 @@ subcommand_with name arguments = record (new_shape name) { rules = arguments }
 abbrev pub run_command : Shape
 run_command = subcommand_with (codes "run") run_arguments
 
+abbrev pub save_command : Shape
+save_command = subcommand_with (codes "save") save_arguments
+
 abbrev pub make_command : Shape
 make_command = subcommand_with (codes "make") make_arguments
 
@@ -90,5 +99,5 @@ asc_command = record {
     disable_help_flag = true;
     disable_help_subcommand = true;
   };
-  subs = run_command ∷ make_command ∷ trial_command ∷ [];
+  subs = run_command ∷ save_command ∷ make_command ∷ trial_command ∷ [];
 }

@@ -1,7 +1,8 @@
 -- What the words of a command line mean.
-use Rattle.std.specs.Prelude.{ℕ, ◌^◌, ◌<◌, ◌≤◌, ◌==◌, ◌&&◌, Bool, true, false, codes, nat_le, List, [], length, Option, Some, None, Result, Ok, Err, unwrap_or, if◌then◌else◌}
+use Rattle.std.specs.Prelude.{ℕ, ◌≡◌, ◌^◌, ◌<◌, ◌≤◌, ◌==◌, ◌&&◌, Bool, true, false, codes, nat_le, List, [], length, Option, Some, None, Result, Ok, Err, unwrap_or, if◌then◌else◌}
 use Rattle.std.specs.Char.{is_ascii_hexdigit}
 use Rattle.std.specs.List.{list_all}
+use Rattle.std.specs.Result.{result_map_both}
 use Rattle.std.specs.Str.{bytes_eq}
 use Rattle.std.specs.Str.Parse.{digits_value, without_leading_plus}
 use Rattle.clap.specs.Walk.{Row, Text, first_of, one_of, is_empty}
@@ -12,7 +13,7 @@ use Rattle.asc_model.specs.declared.version.Version.TheVariants.{One, Two}
 use Rattle.asc_words.specs.declared.answer.Bad.{Bad}
 use Rattle.asc_words.specs.declared.answer.Bad.TheVariants.{Words, Pc}
 use Rattle.asc_words.specs.declared.line.Line.{Line}
-use Rattle.asc_words.specs.declared.line.Line.TheVariants.{Run, Make, Trial}
+use Rattle.asc_words.specs.declared.line.Line.TheVariants.{Run, Save, Make, Trial}
 use Rattle.asc_words.specs.declared.line.Guesses.{Guesses}
 use Rattle.asc_words.specs.declared.line.RunLine.{RunLine}
 use Rattle.asc_words.specs.Command.{asc_command}
@@ -57,8 +58,9 @@ guesses_of text =
 abbrev pub version_numbered : ℕ → Version
 version_numbered number = if number == 1 then One else Two
 
-abbrev pub run_with : List Row → Guesses → (pc : Option ℕ) → RunLine
-run_with rows guesses pc = record {
+-- what `asc run` and `asc save` are both asked for, with no workers, no report and no saved entries
+abbrev pub shared_with : List Row → Guesses → (pc : Option ℕ) → RunLine
+shared_with rows guesses pc = record {
   image = text_in (codes "image") rows;
   memory = number_in (codes "memory") rows;
   limit = number_in (codes "steps") rows;
@@ -71,20 +73,37 @@ run_with rows guesses pc = record {
   laps = number_in (codes "laps") rows;
   span = number_in (codes "span") rows;
   ahead = number_in (codes "ahead") rows;
-  workers = number_in (codes "workers") rows;
+  workers = 0;
   queue = number_in (codes "queue") rows;
-  report = flag_in (codes "report") rows;
+  report = false;
+  load = None;
 }
 
 -- wrong words come before a wrong address
-abbrev pub run_at : List Row → Result Guesses Bad → Result (Option ℕ) Bad → Result Line Bad
-run_at rows (Err bad) pc = Err bad
-run_at rows (Ok guesses) (Ok pc) = Ok (Run (run_with rows guesses pc))
-run_at rows (Ok guesses) (Err bad) = Err bad
+abbrev pub shared_at : List Row → Result Guesses Bad → Result (Option ℕ) Bad → Result RunLine Bad
+shared_at rows (Err bad) pc = Err bad
+shared_at rows (Ok guesses) (Ok pc) = Ok (shared_with rows guesses pc)
+shared_at rows (Ok guesses) (Err bad) = Err bad
 
--- the line of `asc run`, of what clap found for its arguments, or what is wrong with them
+-- this, of what clap found for the arguments, or what is wrong with them
+abbrev pub shared_of : List Row → Result RunLine Bad
+shared_of rows = shared_at rows (guesses_of (text_in (codes "guess") rows)) (address_of (first_of (codes "pc") rows))
+
+-- with what only `asc run` is asked for
+abbrev pub run_with : List Row → RunLine → RunLine
+run_with rows line = record line {
+  workers = number_in (codes "workers") rows;
+  report = flag_in (codes "report") rows;
+  load = first_of (codes "load") rows;
+}
+
+-- the line of `asc run`
 abbrev pub run_of : List Row → Result Line Bad
-run_of rows = run_at rows (guesses_of (text_in (codes "guess") rows)) (address_of (first_of (codes "pc") rows))
+run_of rows = result_map_both (λ line. Run (run_with rows line)) (λ bad. bad) (shared_of rows)
+
+-- the line of `asc save`
+abbrev pub save_of : List Row → Result Line Bad
+save_of rows = result_map_both (λ line. Save line) (λ bad. bad) (shared_of rows)
 
 -- the line of `asc make`
 abbrev pub make_of : List Row → Result Line Bad
@@ -98,6 +117,7 @@ trial_of rows = Ok (Trial (number_in (codes "number") rows) (number_in (codes "w
 abbrev pub line_found : Option (Text × List Row) → Result Line Bad
 line_found (Some (name, rows)) =
     if bytes_eq name (codes "run") then run_of rows
+    else if bytes_eq name (codes "save") then save_of rows
     else if bytes_eq name (codes "make") then make_of rows
     else if bytes_eq name (codes "trial") then trial_of rows
     else Err Words
@@ -126,8 +146,16 @@ pub record IsRunWithin (line : RunLine) : Type 0 where
   pub workers : line.workers ≤ 64
   pub queue : IsBetween 1 1024 line.queue
 
+-- so are those of `asc save`, which has no workers, no report and no saved entries
+pub record IsSaveWithin (line : RunLine) : Type 0 where
+  pub within : IsRunWithin line
+  pub alone : line.workers ≡ 0
+  pub quiet : line.report ≡ false
+  pub loads_none : line.load ≡ None
+
 -- its numbers are within their ranges
 abbrev pub IsWithin : Line → Type 0
 IsWithin (Run line) = IsRunWithin line
+IsWithin (Save line) = IsSaveWithin line
 IsWithin (Make n) = n < 2 ^ 64
 IsWithin (Trial n workers) = (n < 2 ^ 64) × (workers ≤ 64)

@@ -4,14 +4,17 @@ use Rattle.std.specs.Int.{to_be_bytes, w32}
 use Rattle.hex.specs.Hex.{encode_lower}
 use Rattle.asc_model.specs.declared.fault.FaultKind.{FaultKind}
 use Rattle.asc_model.specs.declared.fault.FaultKind.TheVariants as kinds
+use Rattle.asc_model.specs.declared.save_fault.SaveFault.TheVariants as save
 use Rattle.asc_elf.specs.declared.fault.ElfFault.{ElfFault}
 use Rattle.asc_elf.specs.declared.fault.ElfFault.TheVariants as elf
 use Rattle.asc_words.specs.declared.answer.Answer.{Answer}
 use Rattle.asc_words.specs.declared.answer.Counts.{Counts}
 use Rattle.asc_words.specs.declared.answer.Outcome.{Outcome}
+use Rattle.asc_words.specs.declared.answer.SavedFault.{SavedFault}
+use Rattle.asc_words.specs.declared.answer.SavedFault.TheVariants as saved
 use Rattle.asc_words.specs.declared.answer.TrialOutcome.{TrialOutcome}
 use Rattle.asc_words.specs.declared.answer.WorkerCounts.{WorkerCounts}
-use Rattle.asc_words.specs.declared.answer.Answer.TheVariants.{Exit, Done, Usage, Image, TooLong, StoreFault, Memory, ReadFault, WriteFault, ErrFault, ReportFault, Limit, Fault as Failed}
+use Rattle.asc_words.specs.declared.answer.Answer.TheVariants.{Exit, Done, Usage, Image, TooLong, Saved, StoreFault, Memory, ReadFault, WriteFault, ErrFault, ReportFault, Limit, Fault as Failed}
 
 -- the number of a machine fault's kind
 abbrev pub kind_number : FaultKind → ℕ
@@ -46,6 +49,26 @@ abbrev pub header_text : ElfFault → List ℕ
 header_text (elf.Segment index) = codes " header " ++ decimal index
 header_text fault = []
 
+-- the number of a fault of saved entries
+abbrev pub saved_number : SavedFault → ℕ
+saved_number (saved.File save.Short) = 1
+saved_number (saved.File save.Magic) = 2
+saved_number (saved.File save.Version) = 3
+saved_number (saved.File save.Machine) = 4
+saved_number (saved.File save.Shape) = 5
+saved_number (saved.File save.Count) = 6
+saved_number (saved.File (save.Entry index)) = 7
+saved_number (saved.File save.Long) = 8
+saved_number (saved.File (save.Untrue index)) = 9
+saved_number saved.OtherShape = 10
+saved_number saved.TooLong = 11
+
+-- where it is that of an entry, which
+abbrev pub entry_text : SavedFault → List ℕ
+entry_text (saved.File (save.Entry index)) = codes " entry " ++ decimal index
+entry_text (saved.File (save.Untrue index)) = codes " entry " ++ decimal index
+entry_text fault = []
+
 -- a word as eight lower-case hexadecimal digits
 abbrev pub word_text : ℕ → List ℕ
 word_text word = encode_lower (to_be_bytes w32 word)
@@ -59,6 +82,7 @@ answer_text (Usage bad) = codes "asc: usage\n"
 answer_text (Image fault) =
     codes "asc: image fault " ++ decimal (image_number fault) ++ header_text fault ++ codes "\n"
 answer_text TooLong = codes "asc: image too long\n"
+answer_text (Saved fault) = codes "asc: saved fault " ++ decimal (saved_number fault) ++ entry_text fault ++ codes "\n"
 answer_text StoreFault = codes "asc: store failed\n"
 answer_text Memory = codes "asc: out of memory\n"
 answer_text ReadFault = codes "asc: input failed\n"

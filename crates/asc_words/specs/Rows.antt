@@ -30,8 +30,8 @@ pub record HasFlag (id : Text) (rows : List Row) : Type 0 where
 abbrev pub HasText : Text → List Row → Type 0
 HasText id rows = is_some (first_of id rows) ≡ true
 
--- what `asc run` takes has its values
-pub record IsRun (rows : List Row) : Type 0 where
+-- what `asc run` and `asc save` both take has its values
+pub record HasShared (rows : List Row) : Type 0 where
   pub image : HasText (codes "image") rows
   pub memory : HasNumber (codes "memory") 64 65536 rows
   pub limit : HasNumber (codes "steps") 0 (2 ^ 40) rows
@@ -42,9 +42,17 @@ pub record IsRun (rows : List Row) : Type 0 where
   pub laps : HasNumber (codes "laps") 1 1000000 rows
   pub span : HasNumber (codes "span") 1 1000000000 rows
   pub ahead : HasNumber (codes "ahead") 1 64 rows
-  pub workers : HasNumber (codes "workers") 0 64 rows
   pub queue : HasNumber (codes "queue") 1 1024 rows
+
+-- what `asc run` takes has its values
+pub record IsRun (rows : List Row) : Type 0 where
+  pub shared : HasShared rows
+  pub workers : HasNumber (codes "workers") 0 64 rows
   pub report : HasFlag (codes "report") rows
+
+-- what `asc save` takes has its values
+abbrev pub IsSave : List Row → Type 0
+IsSave = HasShared
 
 -- what `asc make` takes has its value
 pub record IsMake (rows : List Row) : Type 0 where

@@ -2,6 +2,7 @@ ghost use Rattle.std.specs.Prelude.{◌≡◌};
 
 use crate::line::LineFault;
 use asc_elf::ElfFault;
+use asc_model::SaveFault;
 use asc_step::Fault;
 
 /// What is wrong with a command line.
@@ -13,12 +14,24 @@ pub enum Bad {
     Pc,
 }
 
+/// Why the file that `--load` names is refused.
+#[derive(Clone, Copy, Debug, PartialEq, Eq)]
+pub enum SavedFault {
+    /// It is no file of saved entries.
+    File(SaveFault),
+    /// Its shape is not the image's.
+    OtherShape,
+    /// It has more than `FILE_LIMIT` bytes.
+    TooLong,
+}
+
 /// How the program ends.
 #[derive(Clone, Copy, Debug, PartialEq, Eq)]
 pub enum Answer {
     /// The guest ended with this code.
     Exit(u8),
-    /// `asc make` or `asc trial` has written its text. A trial's helper was refused memory so often, and else it is 0.
+    /// `asc make`, `asc trial` or `asc save` has written its text. A trial's helper was refused memory so often, and else
+    /// it is 0.
     Done(u64),
     /// The guest had done this many steps when its limit was reached.
     Limit(u64),
@@ -30,9 +43,11 @@ pub enum Answer {
     Image(ElfFault),
     /// The file has more than `FILE_LIMIT` bytes.
     TooLong,
+    /// The file of saved entries is refused.
+    Saved(SavedFault),
     /// The store failed, or has no file of that name.
     StoreFault,
-    /// Want of memory, before the guest's first step.
+    /// Want of memory, before the guest's first step. On `asc save` also where memory was wanting for an entry.
     Memory,
     /// The guest's input failed.
     ReadFault,
@@ -134,7 +149,7 @@ impl Answer {
             Answer::Exit(code) => *code,
             Answer::Done(_) => 0,
             Answer::Usage(_) => 64,
-            Answer::Image(_) | Answer::TooLong => 65,
+            Answer::Image(_) | Answer::TooLong | Answer::Saved(_) => 65,
             Answer::StoreFault => 66,
             Answer::Memory => 71,
             Answer::ReadFault | Answer::WriteFault | Answer::ErrFault | Answer::ReportFault => 74,

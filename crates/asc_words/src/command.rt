@@ -1,7 +1,7 @@
 //! The command that `clap` reads.
 ghost use Rattle.std.specs.Prelude.{◌≡◌, IfOk, false};
 ghost use Rattle.clap.specs.Words.{app_of, rule_of};
-ghost use Rattle.asc_words.specs.Command.{asc_command, flag, number_argument, make_command, number_option, required, run_command, text_option, text_with_default, trial_command, workers_option};
+ghost use Rattle.asc_words.specs.Command.{asc_command, flag, number_argument, make_command, number_option, required, run_command, save_command, shared_arguments, subcommand_with, text_option, text_with_default, trial_command, workers_option};
 ghost use Rattle.asc_words.specs.Subcommands.{IsSubcommand};
 
 use clap::builder::ValueParser;
@@ -17,15 +17,33 @@ pub(crate) fn asc_command<'a>(alloc: Global) -> Result<Command<'a>, AllocError>
         .disable_help_flag(true)
         .disable_help_subcommand(true)
         .subcommand(run_command(alloc)?)?
+        .subcommand(save_command(alloc)?)?
         .subcommand(make_command(alloc)?)?
         .subcommand(trial_command(alloc)?)
 }
 
-/// `asc run`: a row for each argument.
+/// `asc run`.
 fn run_command<'a>(alloc: Global) -> Result<Command<'a>, AllocError>
     ensures { IfOk result (λ command. IsSubcommand command run_command) }
 {
-    Command::new(alloc, "run")
+    shared_command(alloc, "run")?
+        .arg(workers(alloc))?
+        .arg(text(alloc, "load"))?
+        .arg(flag(alloc, "report"))
+}
+
+/// `asc save`.
+fn save_command<'a>(alloc: Global) -> Result<Command<'a>, AllocError>
+    ensures { IfOk result (λ command. IsSubcommand command save_command) }
+{
+    shared_command(alloc, "save")
+}
+
+/// A subcommand of this name, with what `asc run` and `asc save` both take: a row for each argument.
+fn shared_command<'a>(alloc: Global, name: &'a str) -> Result<Command<'a>, AllocError>
+    ensures { IfOk result (λ command. IsSubcommand command (subcommand_with name.entry.now shared_arguments)) }
+{
+    Command::new(alloc, name)
         .arg(required(alloc, "image"))?
         .arg(number(alloc, "memory", 64, 65_536, "1024"))?
         .arg(number(alloc, "steps", 0, 1 << 40, "1099511627776"))?
@@ -37,9 +55,7 @@ fn run_command<'a>(alloc: Global) -> Result<Command<'a>, AllocError>
         .arg(number(alloc, "laps", 1, 1_000_000, "1"))?
         .arg(number(alloc, "span", 1, 1_000_000_000, "1000000"))?
         .arg(number(alloc, "ahead", 1, 64, "4"))?
-        .arg(workers(alloc))?
-        .arg(number(alloc, "queue", 1, 1024, "256"))?
-        .arg(flag(alloc, "report"))
+        .arg(number(alloc, "queue", 1, 1024, "256"))
 }
 
 /// `asc make`.

@@ -8,7 +8,7 @@ mod laws;
 mod line;
 mod report;
 
-pub use answer::{Answer, Bad, Counts, Outcome, TrialOutcome, WorkerCounts};
+pub use answer::{Answer, Bad, Counts, Outcome, SavedFault, TrialOutcome, WorkerCounts};
 pub use given::given_words;
 pub use laws::{lines_are_within, taken_words_have_lines};
 pub use line::{FILE_LIMIT, FileName, Line, LineFault, RunLine, parse};

@@ -1,8 +1,8 @@
 ghost use Rattle.std.specs.Prelude.{ℕ, ◌≡◌, IfOk, Ok, Err, map, option_map};
 ghost use Rattle.std.specs.String.{string_bytes};
 ghost use Rattle.clap.specs.Words.{found_of, rows_of};
-ghost use Rattle.asc_words.specs.Rows.{HasFlag, HasNumber, IsRun};
-ghost use Rattle.asc_words.specs.Line.{IsWithin, address_of, flag_in, guesses_of, is_address, line_of, number_in, run_of, version_numbered};
+ghost use Rattle.asc_words.specs.Rows.{HasFlag, HasNumber, HasShared, IsRun};
+ghost use Rattle.asc_words.specs.Line.{IsWithin, address_of, flag_in, guesses_of, is_address, line_of, number_in, run_of, shared_of, version_numbered};
 
 use crate::answer::Bad;
 use crate::command::asc_command;
@@ -46,7 +46,7 @@ impl FileName {
     }
 }
 
-/// What `asc run` is asked for: a field for each argument, and two for `--guess`.
+/// What `asc run` or `asc save` is asked for: a field for each argument, and two for `--guess`.
 #[derive(Debug, Drop)]
 pub struct RunLine {
     /// The image's name in the store.
@@ -79,6 +79,8 @@ pub struct RunLine {
     pub queue: usize,
     /// Whether the numbers of the run are reported.
     pub report: bool,
+    /// The file of saved entries that is loaded before the run.
+    pub load: Option<FileName>,
 }
 
 /// What a command line asks for: a variant for each subcommand.
@@ -86,6 +88,8 @@ pub struct RunLine {
 pub enum Line {
     /// `asc run`.
     Run(RunLine),
+    /// `asc save`: no workers, no report, and no entries to load.
+    Save(RunLine),
     /// `asc make`: the generated image of this number.
     Make { n: u64 },
     /// `asc trial`: a run of the generated image of this number, with at most 64 workers.
@@ -148,6 +152,7 @@ pub fn parse(alloc: Global, words: &[String]) -> Result<Line, LineFault>
     let (name, found) = matches.subcommand().unwrap();
     match name {
         "run" => Ok(Line::Run(run_line(alloc, found)?)),
+        "save" => Ok(Line::Save(shared_line(alloc, found)?)),
         "make" => Ok(Line::Make {
             n: number(found, "number"),
         }),
@@ -173,6 +178,23 @@ fn run_line(alloc: Global, found: &ArgMatches<'_>) -> Result<RunLine, LineFault>
     ensures usage { (bad : Bad) → result ≡ Err (LineFault.Usage bad)
         → run_of (rows_of (found_of found.now)) ≡ Err bad }
 {
+    let line = shared_line(alloc, found)?;
+    let load = file_name(alloc, found.get_str("load"))?;
+    Ok(RunLine {
+        workers: number(found, "workers") as usize,
+        report: flag(found, "report"),
+        load,
+        ..line
+    })
+}
+
+/// What `asc run` and `asc save` are both asked for, of what was found for their arguments.
+fn shared_line(alloc: Global, found: &ArgMatches<'_>) -> Result<RunLine, LineFault>
+    requires { HasShared (rows_of (found_of found.now)) }
+    ensures line { IfOk result (λ line. shared_of (rows_of (found_of found.now)) ≡ Ok line) }
+    ensures usage { (bad : Bad) → result ≡ Err (LineFault.Usage bad)
+        → shared_of (rows_of (found_of found.now)) ≡ Err bad }
+{
     let guesses = guesses_of(found.get_str("guess").unwrap())?;
     let pc = address(found.get_str("pc"))?;
     Ok(RunLine {
@@ -188,10 +210,21 @@ fn run_line(alloc: Global, found: &ArgMatches<'_>) -> Result<RunLine, LineFault>
         laps: number(found, "laps"),
         span: number(found, "span"),
         ahead: number(found, "ahead") as u32,
-        workers: number(found, "workers") as usize,
+        workers: 0,
         queue: number(found, "queue") as usize,
-        report: flag(found, "report"),
+        report: false,
+        load: None,
     })
+}
+
+/// The file's name that a text is, where there is one.
+fn file_name(alloc: Global, text: Option<&str>) -> Result<Option<FileName>, AllocError>
+    ensures { IfOk result (λ name. name ≡ option_map (λ s. s.now) text.entry) }
+{
+    match text {
+        None => Ok(None),
+        Some(text) => Ok(Some(FileName::new(String::from_str(alloc, text)?))),
+    }
 }
 
 /// The guesses that a word asks for.

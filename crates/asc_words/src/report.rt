@@ -1,11 +1,12 @@
 //! The texts of answers and trials, built in bytes on the stack.
 ghost use Rattle.std.specs.Prelude.{◌≡◌, ◌+◌, ◌≤◌, ◌++◌, codes, decimal, drop, length};
 ghost use Rattle.arrayvec.specs.ArrayVec.{array_vec_len};
-ghost use Rattle.asc_words.specs.Report.{answer_text, header_text, image_number, kind_number, report_text, trial_counts_text, trial_line, trial_text, word_text};
+ghost use Rattle.asc_words.specs.Report.{answer_text, entry_text, header_text, image_number, kind_number, report_text, saved_number, trial_counts_text, trial_line, trial_text, word_text};
 
-use crate::answer::{Answer, Counts, Outcome, TrialOutcome, WorkerCounts};
+use crate::answer::{Answer, Counts, Outcome, SavedFault, TrialOutcome, WorkerCounts};
 use arrayvec::ArrayVec;
 use asc_elf::ElfFault;
+use asc_model::SaveFault;
 use asc_step::{Fault, FaultKind};
 use itoa::Buffer;
 
@@ -83,6 +84,7 @@ fn line(answer: &Answer) -> Text
         Answer::Usage(_) => put(&mut line, b"asc: usage\n"),
         Answer::Image(fault) => put_image_fault(&mut line, fault),
         Answer::TooLong => put(&mut line, b"asc: image too long\n"),
+        Answer::Saved(fault) => put_saved_fault(&mut line, fault),
         Answer::StoreFault => put(&mut line, b"asc: store failed\n"),
         Answer::Memory => put(&mut line, b"asc: out of memory\n"),
         Answer::ReadFault => put(&mut line, b"asc: input failed\n"),
@@ -106,6 +108,22 @@ fn put_image_fault(line: &mut Text, fault: &ElfFault)
     if let ElfFault::Segment(index) = fault {
         put(line, b" header ");
         put_number(line, u64::from(*index));
+    }
+    put(line, b"\n");
+}
+
+/// Appends the line of a fault of saved entries.
+fn put_saved_fault(line: &mut Text, fault: &SavedFault)
+    requires { array_vec_len line.old ≡ 0 }
+    ensures line { line.new.items ≡ line.old.items ++ codes "asc: saved fault " ++ decimal (saved_number fault.now)
+        ++ entry_text fault.now ++ codes "\n" }
+    ensures room { array_vec_len line.new ≤ 96 }
+{
+    put(line, b"asc: saved fault ");
+    put_number(line, saved_number(fault));
+    if let SavedFault::File(SaveFault::Entry(index) | SaveFault::Untrue(index)) = fault {
+        put(line, b" entry ");
+        put_number(line, *index as u64);
     }
     put(line, b"\n");
 }
@@ -278,5 +296,24 @@ fn image_number(fault: &ElfFault) -> u64
         ElfFault::NoLoad => 13,
         ElfFault::TooLarge => 14,
         ElfFault::Entry => 15,
+    }
+}
+
+/// The number of a fault of saved entries.
+fn saved_number(fault: &SavedFault) -> u64
+    ensures { result ≡ saved_number fault.now }
+{
+    match fault {
+        SavedFault::File(SaveFault::Short) => 1,
+        SavedFault::File(SaveFault::Magic) => 2,
+        SavedFault::File(SaveFault::Version) => 3,
+        SavedFault::File(SaveFault::Machine) => 4,
+        SavedFault::File(SaveFault::Shape) => 5,
+        SavedFault::File(SaveFault::Count) => 6,
+        SavedFault::File(SaveFault::Entry(_)) => 7,
+        SavedFault::File(SaveFault::Long) => 8,
+        SavedFault::File(SaveFault::Untrue(_)) => 9,
+        SavedFault::OtherShape => 10,
+        SavedFault::TooLong => 11,
     }
 }

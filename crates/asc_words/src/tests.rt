@@ -1,8 +1,9 @@
 use crate::{
-    Answer, Bad, Counts, Line, LineFault, Outcome, RunLine, TrialOutcome, WorkerCounts,
+    Answer, Bad, Counts, Line, LineFault, Outcome, RunLine, SavedFault, TrialOutcome, WorkerCounts,
     given_words, parse, text, trial_text,
 };
 use asc_elf::ElfFault;
+use asc_model::SaveFault;
 use asc_shape::Version;
 use asc_step::{Fault, FaultKind};
 use std::alloc::{AllocError, Global};
@@ -11,7 +12,7 @@ use std::test::Fail;
 
 // Command lines, with one space between two words, and what they mean by clap's rules: the image, the memory in KiB, the
 // limit and the version, and then what differs from its default.
-static LINES: [(&str, &str); 161] = [
+static LINES: [(&str, &str); 182] = [
     // the image alone
     ("asc run a", "a 1024 1099511627776 2"),
     ("asc run ", " 1024 1099511627776 2"),
@@ -184,6 +185,34 @@ static LINES: [(&str, &str); 161] = [
     ),
     ("asc run a --ahead 2 --ahead 2", "refused"),
     ("asc run a --queue", "refused"),
+    // a file of saved entries
+    ("asc run i --load f", "i 1024 1099511627776 2 load f"),
+    (
+        "asc run --load=f.asce i --workers 2 --report",
+        "i 1024 1099511627776 2 workers 2 report load f.asce",
+    ),
+    ("asc run i --load=", "i 1024 1099511627776 2 load "),
+    ("asc run i --load", "refused"),
+    ("asc run i --load --report", "refused"),
+    ("asc run i --load f --load f", "refused"),
+    ("asc make 0 --load f", "refused"),
+    ("asc trial 0 --load f", "refused"),
+    ("asc save i", "save i 1024 1099511627776 2"),
+    ("asc save run", "save run 1024 1099511627776 2"),
+    (
+        "asc save --memory=64 i --steps 5 --machine 1 --guess both --pc 1f --profile 6 --min 3 --laps 5 --span 7 --ahead 2 --queue 9",
+        "save i 64 5 1 both pc 31 profile 6 min 3 laps 5 span 7 ahead 2 queue 9",
+    ),
+    ("asc save", "refused"),
+    ("asc Save i", "refused"),
+    ("asc save i j", "refused"),
+    ("asc save i --workers 1", "refused"),
+    ("asc save i --workers 0", "refused"),
+    ("asc save i --report", "refused"),
+    ("asc save i --load x", "refused"),
+    ("asc save i --queue 0", "refused"),
+    ("asc save i --guess x --pc 1000g", "refused"),
+    ("asc save i --pc 1000g", "no address"),
     // generated images
     ("asc make 0", "make 0"),
     ("asc make 300", "make 300"),
@@ -264,6 +293,10 @@ fn run_text(alloc: Global, line: &RunLine) -> Result<String, AllocError> {
     if line.report {
         meaning.push_str(" report")?;
     }
+    if let Some(name) = &line.load {
+        let name = name.as_str();
+        meaning.push_str(format!(in alloc; " load {name}")?.as_str())?;
+    }
     Ok(meaning)
 }
 
@@ -271,6 +304,10 @@ fn run_text(alloc: Global, line: &RunLine) -> Result<String, AllocError> {
 fn meaning_of(alloc: Global, words: &[String]) -> Result<String, AllocError> {
     match parse(alloc, words) {
         Ok(Line::Run(line)) => run_text(alloc, &line),
+        Ok(Line::Save(line)) => {
+            let meaning = run_text(alloc, &line)?;
+            format!(in alloc; "save {meaning}")
+        }
         Ok(Line::Make { n }) => format!(in alloc; "make {n}"),
         Ok(Line::Trial { n, workers }) => format!(in alloc; "trial {n} workers {workers}"),
         Err(LineFault::Usage(Bad::Pc)) => String::from_str(alloc, "no address"),
@@ -303,7 +340,7 @@ const LAST: Fault = Fault {
 };
 
 // The answers' table: the exit status of each answer, and its line.
-static ANSWERS: [(Answer, u8, &str); 41] = [
+static ANSWERS: [(Answer, u8, &str); 54] = [
     (Answer::Exit(0), 0, ""),
     (Answer::Exit(255), 255, ""),
     (Answer::Done(0), 0, ""),
@@ -347,6 +384,71 @@ static ANSWERS: [(Answer, u8, &str); 41] = [
     ),
     (Answer::Image(ElfFault::Entry), 65, "asc: image fault 15\n"),
     (Answer::TooLong, 65, "asc: image too long\n"),
+    (
+        Answer::Saved(SavedFault::File(SaveFault::Short)),
+        65,
+        "asc: saved fault 1\n",
+    ),
+    (
+        Answer::Saved(SavedFault::File(SaveFault::Magic)),
+        65,
+        "asc: saved fault 2\n",
+    ),
+    (
+        Answer::Saved(SavedFault::File(SaveFault::Version)),
+        65,
+        "asc: saved fault 3\n",
+    ),
+    (
+        Answer::Saved(SavedFault::File(SaveFault::Machine)),
+        65,
+        "asc: saved fault 4\n",
+    ),
+    (
+        Answer::Saved(SavedFault::File(SaveFault::Shape)),
+        65,
+        "asc: saved fault 5\n",
+    ),
+    (
+        Answer::Saved(SavedFault::File(SaveFault::Count)),
+        65,
+        "asc: saved fault 6\n",
+    ),
+    (
+        Answer::Saved(SavedFault::File(SaveFault::Entry(0))),
+        65,
+        "asc: saved fault 7 entry 0\n",
+    ),
+    (
+        Answer::Saved(SavedFault::File(SaveFault::Entry(usize::MAX))),
+        65,
+        "asc: saved fault 7 entry 18446744073709551615\n",
+    ),
+    (
+        Answer::Saved(SavedFault::File(SaveFault::Long)),
+        65,
+        "asc: saved fault 8\n",
+    ),
+    (
+        Answer::Saved(SavedFault::File(SaveFault::Untrue(1023))),
+        65,
+        "asc: saved fault 9 entry 1023\n",
+    ),
+    (
+        Answer::Saved(SavedFault::File(SaveFault::Untrue(usize::MAX))),
+        65,
+        "asc: saved fault 9 entry 18446744073709551615\n",
+    ),
+    (
+        Answer::Saved(SavedFault::OtherShape),
+        65,
+        "asc: saved fault 10\n",
+    ),
+    (
+        Answer::Saved(SavedFault::TooLong),
+        65,
+        "asc: saved fault 11\n",
+    ),
     (Answer::StoreFault, 66, "asc: store failed\n"),
     (Answer::Memory, 71, "asc: out of memory\n"),
     (Answer::ReadFault, 74, "asc: input failed\n"),

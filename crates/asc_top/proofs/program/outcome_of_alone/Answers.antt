@@ -31,3 +31,13 @@ returns-in-Trial g c =
     subst (λ (line : Line). IsAnswerFor (Ok line) (devices (g.F.Store.files c.args.store.now) (g.F.Store.asked c.args.store.now) (g.F.Store.faults c.args.store.now) old)
     (devices (g.F.Store.files c.args.store.now) (g.F.Store.asked c.args.store.now) (g.F.Store.faults c.args.store.now) new) c.trial_alone.result)
     (sym (c.in-Trial.is ∙ ap (λ workers. lines.Trial c.in-Trial.n workers) none)) (c.trial_alone.ensures _ _ _ _ _ _ _)
+
+pub returns-in-Save : goal.returns-in-Save
+returns-in-Save g c =
+    let old = outside (g.I.Source.left c.args.input.now) (g.O.Sink.given c.args.out.now) (g.E.Sink.given c.args.err.now) c.args.steps.now
+    (faults (g.I.Source.faults c.args.input.now) (g.O.Sink.faults c.args.out.now) (g.E.Sink.faults c.args.err.now)) in
+    let new = outside (g.I.Source.left c.args.input.now) (g.O.Sink.given c.save.new.out) (g.E.Sink.given c.args.err.now) c.save.new.steps
+    (faults (g.I.Source.faults c.args.input.now) (g.O.Sink.faults c.save.new.out) (g.E.Sink.faults c.args.err.now)) in
+    subst (λ (line : Line). IsAnswerFor (Ok line) (devices (g.F.Store.files c.args.store.now) (g.F.Store.asked c.args.store.now) (g.F.Store.faults c.args.store.now) old)
+    (devices (g.F.Store.files c.save.new.store) (g.F.Store.asked c.save.new.store) (g.F.Store.faults c.save.new.store) new) c.save.result)
+    (sym c.in-Save.is) (c.save.ensures _ _ _ _)

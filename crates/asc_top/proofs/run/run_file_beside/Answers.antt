@@ -1,19 +1,25 @@
 -- What a file comes to with workers beside its walk.
-use Rattle.std.proofs.Common.{sym, subst}
+use Rattle.std.proofs.Common.{[], refl, sym, subst}
 use Rattle.asc_calls.specs.World.{faults, outside}
+use Rattle.asc_run.specs.declared.walk.Settings.{Settings}
 use Rattle.asc_words.specs.declared.answer.Outcome.{Outcome}
-use Rattle.asc_top.specs.Ran.{Ran}
+use Rattle.asc_top.specs.Program.{image_alone}
+use Rattle.asc_top.specs.Numbers.{settings_of}
+use Rattle.asc_top.specs.Ran.{IsWalkOf, Ran}
 use Rattle.asc_top.proofs.Beside.{ran_beside}
+use Rattle.asc_top.proofs.Refused.{ran_no_walk}
 use Rattle.asc_top.proofs.run.run_file_beside.Goals as goal
 
 pub returns-in-Ok : goal.returns-in-Ok
 returns-in-Ok g c =
-    let w = c.in-Ok.ensures.walk in
-    ran_beside c.args.line.now c.args.file.now w.image c.requires.file w.loads w.good _ _ w.walk_is _ _ c.walk_beside.result c.requires.some c.walk_beside.ensures
+    let line = c.args.line.now in
+    let own : IsWalkOf line (settings_of line) c.args.file.now c.in-Ok.walk =
+    subst (λ (s : Settings). IsWalkOf line s c.args.file.now c.in-Ok.walk) c.settings_of.ensures.settings c.in-Ok.ensures.walk in
+    ran_beside line (image_alone c.args.file.now) _ [] (record { within = c.requires.file; own = own; taken = refl; none = λ _. refl }) _ _ _ c.walk_beside.result c.requires.some c.walk_beside.ensures
 
 pub returns-in-Err : goal.returns-in-Err
 returns-in-Err g c =
     let guest = outside (g.I.Source.left c.args.input.now) (g.O.Sink.given c.args.out.now) (g.E.Sink.given c.args.err.now) c.args.steps.now
     (faults (g.I.Source.faults c.args.input.now) (g.O.Sink.faults c.args.out.now) (g.E.Sink.faults c.args.err.now)) in
-    subst (λ (o : Outcome). Ran guest guest c.args.line.now c.args.file.now o) (sym c.of.ensures)
-    (c.in-Err.ensures.none guest)
+    subst (λ (o : Outcome). Ran guest guest c.args.line.now (image_alone c.args.file.now) o) (sym c.of.ensures)
+    (ran_no_walk c.args.line.now c.args.file.now c.in-Err.answer guest c.requires.file c.in-Err.ensures.none)

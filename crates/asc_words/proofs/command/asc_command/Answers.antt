@@ -8,5 +8,6 @@ returns c =
     let bare : Reads c.new.result (new_app _) = record { local = c.new.ensures.local; reads = c.new.ensures.app } in
     let top = with_each _ _ _ c.disable_help_subcommand.result _ bare c.subcommand_required.ensures c.disable_help_flag.ensures c.disable_help_subcommand.ensures in
     let one = with_sub _ _ _ _ _ top c.in_ok-subcommand.ensures c.in_ok-run_command.ensures in
-    let two = with_sub _ _ _ _ _ one c.in_ok-subcommand-2.ensures c.in_ok-make_command.ensures in
-    IfOk-weaker c.subcommand-3.result _ _ (λ new adds. (with_sub _ _ new _ _ two adds c.in_ok-trial_command.ensures).reads) c.subcommand-3.ensures
+    let two = with_sub _ _ _ _ _ one c.in_ok-subcommand-2.ensures c.in_ok-save_command.ensures in
+    let three = with_sub _ _ _ _ _ two c.in_ok-subcommand-3.ensures c.in_ok-make_command.ensures in
+    IfOk-weaker c.subcommand-4.result _ _ (λ new adds. (with_sub _ _ new _ _ three adds c.in_ok-trial_command.ensures).reads) c.subcommand-4.ensures

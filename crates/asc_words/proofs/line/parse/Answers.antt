@@ -1,10 +1,17 @@
-use Rattle.std.proofs.Common.{◌∙◌, Err, Ok, ap, sym, subst, inl, inr, ◌^◌, ◌-◌}
+use Rattle.std.proofs.Common.{◌∙◌, Err, Ok, Result, ap, sym, subst, inl, inr, ◌^◌, ◌-◌}
+use Rattle.std.specs.Result.{result_map_both}
+use Rattle.asc_words.specs.declared.answer.Bad.{Bad}
+use Rattle.asc_words.specs.declared.line.RunLine.{RunLine}
 use Rattle.asc_words.specs.declared.line.Line.{Line}
-use Rattle.asc_words.specs.declared.line.Line.TheVariants.{Make, Trial}
+use Rattle.asc_words.specs.declared.line.Line.TheVariants.{Make, Save, Trial}
 use Rattle.asc_words.specs.declared.line.LineFault.{LineFault}
 use Rattle.asc_words.specs.Line.{IsWithin}
-use Rattle.asc_words.proofs.Lines.{found, met_make, met_one, met_run, met_trial, passed_up, refused_by, run_within, trial_within}
+use Rattle.asc_words.proofs.Lines.{found, met_make, met_one, met_run, met_save, met_trial, passed_up, refused_by, run_within, save_within, trial_within}
 use Rattle.asc_words.proofs.line.parse.Goals as goal
+
+-- the line of `asc save`
+abbrev saved : Result RunLine Bad → Result Line Bad
+saved = result_map_both (λ line. Save line) (λ bad. bad)
 
 pub returns-in_err-matches-clause-usage : goal.returns-in_err-matches-clause-usage
 returns-in_err-matches-clause-usage c =
@@ -39,6 +46,35 @@ returns-in_err-run_line-in-run-clause-usage c = λ bad usage.
     let met = met_run _ _ c.subcommand.result c.unwrap.result c.unwrap.ensures c.subcommand.ensures.name c.subcommand.ensures.rows of c.in-run.is in
     let passed = passed_up _ _ _ c.from_residual-in_err-run_line-in-run.ensures.1 usage in
     met.line ∙ c.run_line.ensures.usage bad (c.in_err-run_line-in-run.was ∙ ap (λ (fault : LineFault). Err fault) passed)
+
+pub shared_line-requires : goal.shared_line-requires
+shared_line-requires c =
+    let parse = c.in_ok-matches.ensures in
+    let of = found _ _ c.in_ok-matches.matches c.in_ok-asc_command.ensures parse.kinds parse.matches in
+    let met = met_save _ _ c.subcommand.result c.unwrap.result c.unwrap.ensures c.subcommand.ensures.name c.subcommand.ensures.rows of c.in-save.is in
+    met.values
+
+pub returns-in-save-clause-line : goal.returns-in-save-clause-line
+returns-in-save-clause-line c =
+    let parse = c.in_ok-matches.ensures in
+    let of = found _ _ c.in_ok-matches.matches c.in_ok-asc_command.ensures parse.kinds parse.matches in
+    let met = met_save _ _ c.subcommand.result c.unwrap.result c.unwrap.ensures c.subcommand.ensures.name c.subcommand.ensures.rows of c.in-save.is in
+    met.line ∙ ap saved c.in_ok-shared_line-in-save.ensures.line
+
+pub returns-in-save-clause-within : goal.returns-in-save-clause-within
+returns-in-save-clause-within c =
+    let parse = c.in_ok-matches.ensures in
+    let of = found _ _ c.in_ok-matches.matches c.in_ok-asc_command.ensures parse.kinds parse.matches in
+    let met = met_save _ _ c.subcommand.result c.unwrap.result c.unwrap.ensures c.subcommand.ensures.name c.subcommand.ensures.rows of c.in-save.is in
+    save_within _ met.values _ (ap saved c.in_ok-shared_line-in-save.ensures.line)
+
+pub returns-in_err-shared_line-in-save-clause-usage : goal.returns-in_err-shared_line-in-save-clause-usage
+returns-in_err-shared_line-in-save-clause-usage c = λ bad usage.
+    let parse = c.in_ok-matches.ensures in
+    let of = found _ _ c.in_ok-matches.matches c.in_ok-asc_command.ensures parse.kinds parse.matches in
+    let met = met_save _ _ c.subcommand.result c.unwrap.result c.unwrap.ensures c.subcommand.ensures.name c.subcommand.ensures.rows of c.in-save.is in
+    let passed = passed_up _ _ _ c.from_residual-in_err-shared_line-in-save.ensures.1 usage in
+    met.line ∙ ap saved (c.shared_line.ensures.usage bad (c.in_err-shared_line-in-save.was ∙ ap (λ (fault : LineFault). Err fault) passed))
 
 pub number-requires : goal.number-requires
 number-requires c =
@@ -89,6 +125,7 @@ unreachable-requires c =
     let one = met_one _ _ c.subcommand.result c.unwrap.result c.unwrap.ensures c.subcommand.ensures.name c.subcommand.ensures.rows of in
     elim one [
       | inl run ↦ c.in_default.not-run run
-      | inr (inl make) ↦ c.in_default.not-make make
-      | inr (inr trial) ↦ c.in_default.not-trial trial
+      | inr (inl save) ↦ c.in_default.not-save save
+      | inr (inr (inl make)) ↦ c.in_default.not-make make
+      | inr (inr (inr trial)) ↦ c.in_default.not-trial trial
     ]

@@ -1,0 +1,326 @@
+//! Saved entries: files that saves leave, runs that load one, and files that are refused.
+use crate::images::{CODE, FIRST, wrap};
+use crate::outside::{Devices, Got, SOUND, run_gated};
+use crate::whole_runs::COUNTS;
+use asc_elf::ElfFault;
+use asc_model::SaveFault;
+use asc_outside::Open;
+use asc_top::{Answer, SavedFault};
+use std::alloc::{AllocError, Global};
+use std::process::Abort;
+use std::sync::Wait;
+use std::test::Fail;
+use std::thread::Threads;
+
+/// A run of the counting loop that loads the file with these bytes put over it and so many bytes, and what comes of it.
+struct Row {
+    line: &'static str,
+    bytes: &'static [(usize, u8)],
+    length: usize,
+    answer: Answer,
+    report: &'static str,
+}
+
+/// The file as it was saved.
+const SAVED: Row = Row {
+    line: "asc run image --pc 10008 --guess none --load saved",
+    bytes: &[],
+    length: 724,
+    answer: Answer::Exit(0),
+    report: "",
+};
+
+/// Its first step counts, and two jumps are given: of 4 steps and of 2.
+const REPORTED: Row = Row {
+    line: "asc run image --pc 10008 --guess none --load saved --report",
+    report: "asc: executed 7 skipped 6 asked 4 hits 2 made 0 refused 0\n",
+    ..SAVED
+};
+
+static ROWS: [Row; 17] = [
+    SAVED,
+    REPORTED,
+    Row {
+        line: "asc run image --pc 10008 --guess none --load saved --report --workers 2",
+        ..REPORTED
+    },
+    Row {
+        length: 723,
+        answer: Answer::Saved(SavedFault::File(SaveFault::Short)),
+        report: "asc: saved fault 1\n",
+        ..SAVED
+    },
+    Row {
+        bytes: &[(0, 0x42)],
+        answer: Answer::Saved(SavedFault::File(SaveFault::Magic)),
+        report: "asc: saved fault 2\n",
+        ..SAVED
+    },
+    Row {
+        bytes: &[(4, 2)],
+        answer: Answer::Saved(SavedFault::File(SaveFault::Version)),
+        report: "asc: saved fault 3\n",
+        ..SAVED
+    },
+    Row {
+        bytes: &[(5, 3)],
+        answer: Answer::Saved(SavedFault::File(SaveFault::Machine)),
+        report: "asc: saved fault 4\n",
+        ..SAVED
+    },
+    Row {
+        bytes: &[(6, 1)],
+        answer: Answer::Saved(SavedFault::File(SaveFault::Machine)),
+        report: "asc: saved fault 4\n",
+        ..SAVED
+    },
+    // a size of 65,532
+    Row {
+        bytes: &[(12, 0xFC), (13, 0xFF), (14, 0)],
+        answer: Answer::Saved(SavedFault::File(SaveFault::Shape)),
+        report: "asc: saved fault 5\n",
+        ..SAVED
+    },
+    // a count of 1,025
+    Row {
+        bytes: &[(16, 1), (17, 4)],
+        answer: Answer::Saved(SavedFault::File(SaveFault::Count)),
+        report: "asc: saved fault 6\n",
+        ..SAVED
+    },
+    // no steps
+    Row {
+        bytes: &[(20, 0)],
+        answer: Answer::Saved(SavedFault::File(SaveFault::Entry(0))),
+        report: "asc: saved fault 7 entry 0\n",
+        ..SAVED
+    },
+    Row {
+        length: 725,
+        answer: Answer::Saved(SavedFault::File(SaveFault::Long)),
+        report: "asc: saved fault 8\n",
+        ..SAVED
+    },
+    // a step more
+    Row {
+        bytes: &[(20, 3)],
+        answer: Answer::Saved(SavedFault::File(SaveFault::Untrue(0))),
+        report: "asc: saved fault 9 entry 0\n",
+        ..SAVED
+    },
+    Row {
+        bytes: &[(723, 0xA5)],
+        answer: Answer::Saved(SavedFault::File(SaveFault::Untrue(3))),
+        report: "asc: saved fault 9 entry 3\n",
+        ..SAVED
+    },
+    // refused beside workers too
+    Row {
+        line: "asc run image --pc 10008 --guess none --load saved --report --workers 2",
+        bytes: &[(723, 0xA5)],
+        answer: Answer::Saved(SavedFault::File(SaveFault::Untrue(3))),
+        report: "asc: saved fault 9 entry 3\n",
+        ..SAVED
+    },
+    Row {
+        line: "asc run image --memory 64 --pc 10008 --guess none --load saved",
+        answer: Answer::Saved(SavedFault::OtherShape),
+        report: "asc: saved fault 10\n",
+        ..SAVED
+    },
+    Row {
+        line: "asc run image --pc 10008 --guess none --load absent",
+        answer: Answer::StoreFault,
+        report: "asc: store failed\n",
+        ..SAVED
+    },
+];
+
+/// A save of an image of these words, of which a call of out may fail, and what comes of it.
+struct Save {
+    line: &'static str,
+    words: &'static [u32],
+    out_fails: u64,
+    answer: Answer,
+    out: &'static [u8],
+    report: &'static str,
+}
+
+/// A file without entries: `ASCE`, the file's version and the machine's, and the guest's base, size and count of entries.
+const EMPTY: [u8; 20] = [
+    0x41, 0x53, 0x43, 0x45, 1, 2, 0, 0, 0, 0, 1, 0, 0, 0, 0x10, 0, 0, 0, 0, 0,
+];
+
+/// The guest comes to its limit.
+const STOPPED: Save = Save {
+    line: "asc save image --steps 2",
+    words: COUNTS,
+    out_fails: 0,
+    answer: Answer::Done(0),
+    out: &EMPTY,
+    report: "",
+};
+
+static SAVES: [Save; 5] = [
+    STOPPED,
+    // It ends with code 7, or meets a word that is no instruction.
+    Save {
+        words: &[0x05D0_0893, 0x0070_0513, 0x0000_0073],
+        ..STOPPED
+    },
+    Save {
+        words: &[0],
+        ..STOPPED
+    },
+    Save {
+        out_fails: 1,
+        answer: Answer::WriteFault,
+        out: &[],
+        report: "asc: output failed\n",
+        ..STOPPED
+    },
+    // What it writes is only counted.
+    Save {
+        words: &[
+            0x0010_0513, // ADDI x10,x0,1
+            0x0001_05B7, // LUI x11,0x10
+            0x0040_0613, // ADDI x12,x0,4
+            0x0400_0893, // ADDI x17,x0,64
+            0x0000_0073, // ECALL
+            0x05D0_0893, // ADDI x17,x0,93
+            0x0000_0073, // ECALL
+        ],
+        ..STOPPED
+    },
+];
+
+/// Room for the file, which is put 200 bytes at a time.
+const ROOMY: Devices = Devices {
+    most: 200,
+    room: 1024,
+    ..SOUND
+};
+
+/// Runs the words of a command line over a store that has this image, and this file as `saved`.
+fn run_saved<R: Abort + Threads + Wait + Sync + Copy + Drop + Send>(
+    rt: &R,
+    alloc: Global,
+    line: &str,
+    image: Vec<u8>,
+    saved: Vec<u8>,
+    devices: &Devices,
+) -> Result<Got, AllocError> {
+    let mut files = Vec::new(alloc);
+    files.push((String::from_str(alloc, "image")?, image))?;
+    files.push((String::from_str(alloc, "saved")?, saved))?;
+    run_gated(rt, alloc, line, files, devices, &Open)
+}
+
+/// The number in the bytes from a place on, the lowest first.
+fn number(file: &[u8], at: usize) -> usize {
+    let bytes = file.iter().skip(at).take(4);
+    bytes.rev().fold(0, |n: usize, byte| {
+        n.wrapping_mul(256).wrapping_add(*byte as usize)
+    })
+}
+
+/// The steps of a file's first four entries, each of which stands behind the places of the one before.
+fn steps(file: &[u8]) -> [usize; 4] {
+    let mut steps = [0; 4];
+    let mut at: usize = 20;
+    for step in &mut steps {
+        *step = number(file, at);
+        let cells = number(file, at.wrapping_add(8)).wrapping_add(number(
+            file,
+            at.wrapping_add(12),
+        ));
+        at = at.wrapping_add(cells.wrapping_mul(5)).wrapping_add(16);
+    }
+    steps
+}
+
+/// A file with bytes put over it, and cut or made longer.
+fn changed(alloc: Global, file: &[u8], row: &Row) -> Result<Vec<u8>, AllocError> {
+    let mut file = file.to_vec(alloc)?;
+    for (at, new) in row.bytes {
+        for byte in file.iter_mut().skip(*at).take(1) {
+            *byte = *new;
+        }
+    }
+    file.resize(row.length, 0)?;
+    Ok(file)
+}
+
+#[test]
+fn saved_entries(rt: HostRuntime) -> Result<(), Fail> {
+    let alloc = rt.alloc();
+    let image = wrap(alloc, COUNTS)?;
+    let line = "asc save image --pc 10008 --guess stride --ahead 2";
+    let got = run_saved(
+        &rt,
+        alloc,
+        line,
+        image.to_vec(alloc)?,
+        Vec::new(alloc),
+        &ROOMY,
+    )?;
+    assert_eq!(rt;
+        (got.answer, got.asked(&rt)),
+        (Answer::Done(0), 1),
+        "at {line}"
+    );
+    let file = got.out.bytes();
+    assert_eq!(rt; (file.len(), steps(file)), (724, [2, 4, 2, 2]), "at {line}");
+    for row in &ROWS {
+        let line = row.line;
+        let saved = changed(alloc, file, row)?;
+        let got = run_saved(&rt, alloc, line, image.to_vec(alloc)?, saved, &ROOMY)?;
+        let (report, want) = (got.report.bytes(), row.report.as_bytes());
+        assert_eq!(rt; (got.answer, got.asked(&rt)), (row.answer, 2), "at {line}");
+        // Beside workers a second line follows.
+        let is_begun = line.contains("--workers") && report.starts_with(want);
+        assert!(rt; report == want || is_begun, "at {line}");
+    }
+    Ok(())
+}
+
+/// Files of saves whose guests leave no entry, however they end.
+#[test]
+fn saves(rt: HostRuntime) -> Result<(), Fail> {
+    let alloc = rt.alloc();
+    for save in &SAVES {
+        let devices = Devices {
+            fails: [0, 0, save.out_fails, 0, 0],
+            ..SOUND
+        };
+        let image = wrap(alloc, save.words)?;
+        let got = run_saved(&rt, alloc, save.line, image, Vec::new(alloc), &devices)?;
+        let put = (got.out.bytes(), got.report.bytes());
+        assert_eq!(rt;
+            (got.answer, put),
+            (save.answer, (save.out, save.report.as_bytes()))
+        );
+        assert_eq!(rt; got.asked(&rt), 1);
+    }
+    Ok(())
+}
+
+/// A file that is no image is refused before saved entries are asked for, and entries of a byte too many behind it.
+#[test]
+fn refused_before_and_behind(rt: HostRuntime) -> Result<(), Fail> {
+    let alloc = rt.alloc();
+    let line = "asc run image --load saved";
+    let mut short = FIRST.to_vec(alloc)?;
+    short.truncate(CODE);
+    let long = vec![in alloc; 0; 67_108_865]?;
+    let got = run_saved(&rt, alloc, line, short, Vec::new(alloc), &SOUND)?;
+    assert_eq!(rt; got.answer, Answer::Image(ElfFault::Segment(0)));
+    assert_eq!(rt; got.asked(&rt), 1);
+    let got = run_saved(&rt, alloc, line, FIRST.to_vec(alloc)?, long, &SOUND)?;
+    assert_eq!(rt; got.answer, Answer::Saved(SavedFault::TooLong));
+    assert_eq!(rt;
+        (got.asked(&rt), got.report.bytes()),
+        (2, "asc: saved fault 11\n".as_bytes())
+    );
+    Ok(())
+}
