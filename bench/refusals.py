@@ -6,11 +6,11 @@
 PROGRAM is the built asc, crates/asc_cli/out/asc_cli where it is not given. `cc` compiles bench/refusing.c, an allocator
 that is preloaded and refuses. It wants Linux with glibc.
 
-Four commands are run: a run of a loop of 13 steps with guesses and --report, without workers and with two; `asc trial
-0`; and `asc make 0`. In one row of runs the first allocation alone is refused, then the second alone, and so on. In
-another row all are refused from the first on, from the second on, and so on. A row ends where a run made fewer
-allocations than that. With workers, whose number of them is not the same each time, it ends where N runs did so one
-after another (5).
+Six commands are run: a run of a loop of 13 steps with guesses and --report, without workers, with two, and with saved
+entries; `asc save` of it; `asc trial 0`; and `asc make 0`. In one row of runs the first allocation alone is refused,
+then the second alone, and so on. In another row all are refused from the first on, from the second on, and so on. A row
+ends where a run made fewer allocations than that. With workers, whose number of them is not the same each time, it ends
+where N runs did so one after another (5).
 
 Each run has to end in one of two ways: with status 71, the line `asc: out of memory` and nothing put out; or as with
 memory. Then the status is 0, output is the same, and steps executed and skipped are 13, or of the trial as many as it
@@ -197,10 +197,13 @@ def main():
     with tempfile.TemporaryDirectory() as folder:
         counting = Path(folder, "counting")
         counting.write_bytes(image())
-        run = ["run", str(counting), "--pc", "10008", "--guess", "both", "--ahead", "2", "--report", "--workers"]
-        commands = [Command("run, no workers", [*run, "0"]), Command("run, two workers", [*run, "2"], 2),
+        guesses = [str(counting), "--pc", "10008", "--guess", "both", "--ahead", "2"]
+        run, save, kept = ["run", *guesses, "--report"], ["save", *guesses], Path(folder, "kept")
+        commands = [Command("run, no workers", run), Command("run, two workers", [*run, "--workers", "2"], 2),
+                    Command("run, saved entries", [*run, "--load", str(kept)]), Command("save", save),
                     Command("trial 0", ["trial", "0"]), Command("make 0", ["make", "0"])]
         refusing = Refusing(asked.program, folder)
+        kept.write_bytes(refusing.run(save, 0, False)[0][1])
         print(f"{'command':22} {'refused':11} {'allocations':>11} {'memory':>8} {'as with it':>10} {'wanting':>9} "
               f"{'wrong':>6}")
         right = [tried(refusing, command, max(1, asked.misses)) for command in commands]

@@ -11,8 +11,8 @@ _asc() {
         before=${COMP_WORDS[COMP_CWORD - 2]}
     fi
     if [ "$COMP_CWORD" -eq 1 ]; then
-        offered="run make trial"
-    elif [ "${COMP_WORDS[1]}" != run ] && [ "$before" != --workers ]; then
+        offered="run save make trial"
+    elif [[ ${COMP_WORDS[1]} != @(run|save) && $before != --workers ]]; then
         [ "${COMP_WORDS[1]}" = trial ] && offered=--workers
     else
         case $before in
@@ -31,8 +31,8 @@ _asc() {
             *)
                 case $word in
                     -*)
-                        offered="--memory --steps --machine --guess --pc --profile --min --laps --span --ahead \
-                            --workers --queue --report"
+                        offered="--memory --steps --machine --guess --pc --profile --min --laps --span --ahead --queue"
+                        [ "${COMP_WORDS[1]}" = save ] || offered+=" --workers --load --report"
                         ;;
                     *)
                         mapfile -t COMPREPLY < <(compgen -f -- "$word")

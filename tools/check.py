@@ -54,14 +54,24 @@ def module(path):
 
 # ---- the options of asc, which the man page, asc-why and the completion repeat
 
+def rows_of(text, name):
+    """The rows of a list of arguments."""
+    rows = re.search(rf"^{name} =(.*?)∷ \[\]", text, re.M | re.S)[1]
+    return [row.strip() for row in rows.split("∷")]
+
+
 def options():
-    """Each option of `asc run`, from its definition: its range or its words and its default, or what it takes."""
+    """Each option of `asc run`, from its definition: its range or its words and its default, or what it takes. Those that
+    `asc save` has too stand first; how many these are is also answered."""
     text = (ROOT / "crates/asc_words/specs/Command.antt").read_text()
     lines = (ROOT / "crates/asc_words/specs/Line.antt").read_text()
-    rows = re.search(r"^run_arguments =\n(.*?)^ *∷ \[\]", text, re.M | re.S)[1]
-    rows = rows.replace("workers_option", re.search(r"^workers_option = (.*)$", text, re.M)[1])
+    workers = re.search(r"^workers_option = (.*)$", text, re.M)[1]
+    shared, (first, *others) = rows_of(text, "shared_arguments"), rows_of(text, "run_arguments")
+    same("what run_arguments begins with", first, "shared_arguments ++ workers_option")
+    same("what asc save takes", re.findall(r"^save_arguments = (.*)$", text, re.M), ["shared_arguments"])
     found = {}
-    for kind, name, rest in re.findall(r"(\w+) \(codes \"(\w+)\"\)(.*)", rows):
+    for row in [*shared, workers, *others]:
+        kind, name, rest = re.fullmatch(r"(\w+) \(codes \"(\w+)\"\)(.*)", row).groups()
         numbers = re.fullmatch(r" (\d+|\(2 \^ \d+\)) (\d+|\(2 \^ \d+\)) \(codes \"(\w+)\"\)", rest)
         if kind == "number_option" and numbers:
             least, most = (eval(number.replace("^", "**")) for number in numbers.groups()[:2])
@@ -71,16 +81,17 @@ def options():
             found[f"--{name}"] = (tuple(re.findall(r"codes \"(\w+)\"", guesses)),
                                   re.search(r'codes "(\w+)"', rest)[1])
         elif kind in ("text_option", "flag"):
-            found[f"--{name}"] = {"text_option": "an address", "flag": "nothing"}[kind], None
+            found[f"--{name}"] = {"pc": "an address", "load": "a file"}.get(name, "nothing"), None
         else:
             same(f"the kind of {name} in run_arguments", kind, "required")
-    return found
+    return found, len(shared) - 1
 
 
 def check_options(why):
-    known = options()
+    known, shared = options()
     same("options that asc-why knows", why.OPTIONS, {name: taken for name, (taken, _) in known.items()})
-    same("asc-why's default of --memory", why.DEFAULT_MEMORY, known["--memory"][1])
+    same("options of asc save that it knows", list(why.COMMANDS["save"][1]), list(known)[:shared])
+    same("asc-why's defaults", (why.DEFAULT_MEMORY, why.DEFAULT_MACHINE), (known["--memory"][1], known["--machine"][1]))
     page = (ROOT / "docs/asc.1").read_text()
     plain = page.replace("\\-", "-")
     same("options of the man page", re.findall(r"^\.BI? (--\w+)", plain, re.M), list(known))
@@ -99,16 +110,20 @@ def check_options(why):
     return known
 
 
+# The options behind the first three, as the tests of asc_words write them.
+BEHIND = "--guess --pc --profile --min --laps --span --ahead --workers --queue --report --load".split()
+
+
 def meaning(command, behind, values, known):
     """A command line as the tests of asc_words write it: what differs from its default stands behind the first four."""
-    if command != "run":
+    if command in ("make", "trial"):
         return f"{command} {behind}" + (f" workers {values.get('--workers', 0)}" if command == "trial" else "")
     told = [str(values.get(name, known[name][1])) for name in ("--memory", "--steps", "--machine")]
-    for name, (_, default) in list(known.items())[3:]:
-        value = values.get(name, default)
-        if value != default:
+    for name in BEHIND:
+        value = values.get(name, known[name][1])
+        if value != known[name][1]:
             told.append({"--guess": value, "--report": "report"}.get(name, f"{name[2:]} {value}"))
-    return " ".join([behind, *told])
+    return " ".join([*(["save"] if command == "save" else []), behind, *told])
 
 
 def check_words(why, known):
@@ -166,6 +181,28 @@ REFUSED = [
     (elf(entry=0), "its entry is 0x0: a linker script with neither ENTRY nor a section .text"),
 ]
 
+
+def kept(count=0, entries=b"", magic=b"ASCE", form=1, machine=2, base=0x10000, size=1 << 20):
+    """A file of saved entries."""
+    return magic + struct.pack("<BBHIII", form, machine, 0, base, size, count) + entries
+
+
+# Files of saved entries that are refused, and what is said of each.
+NOT_LOADED = [
+    (b"ASCE", "it ends too early: a file cut short"),
+    (kept(count=1), "it ends too early: a file cut short"),
+    (kept(magic=b"\x7fELF"), "it is no file of saved entries: asc wants what `asc save` writes"),
+    (kept(form=2), "it is of another version of such files"),
+    (kept(machine=3), "its header tells of no machine that there is: a damaged file"),
+    (kept(base=1), "its header tells of no memory that there may be: a damaged file"),
+    (kept(count=1025), "its header tells of more than 1024 entries: a damaged file"),
+    (kept(1, struct.pack("<QII", 0, 0, 0)), "entry 0 has steps, counts or places out of range: a damaged file"),
+    (kept(entries=b"x"), "bytes follow its last entry: a damaged file"),
+    (kept(1, struct.pack("<QII", 1, 0, 0)), "entry 0 is not what its steps do: a damaged file, or a forged one"),
+    (kept(machine=1, base=0x20000, size=1 << 16), "it is of 64 KiB from 0x20000 on and machine 1, and the run has 1024 KiB "
+                                                  "from 0x10000 on and machine 2"),
+]
+
 # Code that meets a fault, options, and what is said of it.
 OUTSIDE = ", outside memory, which is 0x10000 to 0x10ffff"
 FAULTS = [
@@ -196,7 +233,7 @@ LINES = [
     (f'echo 0 | "$@" {MATRIX}', None),
     (f'"$@" {HELLO} --mem 64',
      "there is no option --mem: there are --memory, --steps, --machine, --guess, --pc, --profile, "
-     "--min, --laps, --span, --ahead, --workers, --queue, --report, and none is abbreviated"),
+     "--min, --laps, --span, --ahead, --queue, --workers, --load, --report, and none is abbreviated"),
     (f'"$@" {HELLO} --memory 63', "--memory 63 is out of range, which is 64 to 65536"),
     (f'"$@" {HELLO} --memory 1M', "--memory wants a number in decimal digits, from 64 to 65536, and '1M' is none"),
     (f'"$@" {HELLO} --pc 0x10054',
@@ -207,6 +244,8 @@ LINES = [
     (f'"$@" {HELLO} more', "'more' is one word more than the image"),
     ('"$@"', "there is no image"),
     ('"$@" none', "there is no file none"),
+    (f'"$@" {HELLO} --load none', "there is no file none"),
+    (f'"$@" {HELLO} --load', "--load wants the name of a file"),
     ('"$@" -', "there is no file -; standard input is /dev/stdin"),
     ('"$@" /', "/ is a folder"),
     (f'"$@" {HELLO} --steps 3', "a greater --steps lets it go on, up to 1099511627776"),
@@ -223,10 +262,19 @@ def outcome(words, **given):
     return run.stdout, run.stderr, run.returncode
 
 
-def explained(what, program, line, wanted, folder):
+# The same of the word save.
+SAVES = [
+    (f'"$@" {HELLO} >/dev/null', None),
+    (f'"$@" {HELLO} --report', "there is no option --report: there are --memory, --steps, --machine, --guess, --pc, "
+     "--profile, --min, --laps, --span, --ahead, --queue, and none is abbreviated"),
+    (f'"$@" {HELLO} >/dev/full', "standard output: the device failed, as a full disk"),
+]
+
+
+def explained(what, program, line, wanted, folder, command="run"):
     """One command line on asc and on asc-why: the same but for a line more, which is as wanted."""
-    alone = outcome(["sh", "-c", line, "sh", program, "run"], cwd=folder)
-    told = outcome(["sh", "-c", line, "sh", TOOLS / "asc-why", "--asc", program, "run"], cwd=folder)
+    alone = outcome(["sh", "-c", line, "sh", program, command], cwd=folder)
+    told = outcome(["sh", "-c", line, "sh", TOOLS / "asc-why", "--asc", program, command], cwd=folder)
     added = f"asc-why: {wanted}\n".encode() if wanted else b""
     same(f"asc-why: {what}", told, (alone[0], alone[1] + added, alone[2]))
 
@@ -234,10 +282,16 @@ def explained(what, program, line, wanted, folder):
 def check_why(program, folder):
     for line, wanted in LINES:
         explained(line, program, line, wanted, folder)
+    for line, wanted in SAVES:
+        explained(f"save: {line}", program, line, wanted, folder, "save")
     path = folder / "image"
     for file, wanted in REFUSED:
         path.write_bytes(file)
         explained(wanted, program, '"$@" image', f"image: {wanted}", folder)
+    path.write_bytes(elf())
+    for file, wanted in NOT_LOADED:
+        (folder / "kept").write_bytes(file)
+        explained(wanted, program, '"$@" image --load kept', f"kept: {wanted}", folder)
     for code, options, wanted in FAULTS:
         path.write_bytes(elf(code))
         more = "" if "fetch" in wanted else NO_SYMBOLS
@@ -524,13 +578,17 @@ def check_completion(known):
         script = 'source "$1"; shift; COMP_WORDS=("$@"); COMP_CWORD=$(($# - 1)); _asc; printf "%s\\n" "${COMPREPLY[@]}"'
         return outcome(["bash", "-c", script, "bash", TOOLS / "asc.bash", *words], cwd=ROOT)[0].decode().split()
 
-    same("the first word", offered("asc", ""), ["run", "make", "trial"])
+    same("the first word", offered("asc", ""), ["run", "save", "make", "trial"])
     same("options of trial", offered("asc", "trial", "7", "--"), ["--workers"])
     same("numbers of trial's workers", offered("asc", "trial", "--workers", ""), ["0", "64"])
     same("options of make", offered("asc", "make", ""), [])
     same("options", offered("asc", "run", "--"), list(known))
+    same("options of save", offered("asc", "save", "--"),
+         [name for name in known if name not in ("--workers", "--load", "--report")])
+    same("numbers of save", offered("asc", "save", "--queue", ""), ["1", "256", "1024"])
     same("a part of one", offered("asc", "run", "--st"), ["--steps"])
-    same("files", offered("asc", "run", "examples/images/h"), ["examples/images/hello"])
+    for words in (["run"], ["save"], ["run", "--load"], ["run", "--load", "="]):
+        same(f"files behind {' '.join(words)}", offered("asc", *words, "examples/images/h"), ["examples/images/hello"])
     for name, (taken, default) in known.items():
         if default is None:
             continue
