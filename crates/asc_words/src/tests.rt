@@ -8,11 +8,12 @@ use asc_shape::Version;
 use asc_step::{Fault, FaultKind};
 use std::alloc::{AllocError, Global};
 use std::env;
+use std::process::Abort;
 use std::test::Fail;
 
 // Command lines, with one space between two words, and what they mean by clap's rules: the image, the memory in KiB, the
 // limit and the version, and then what differs from its default.
-static LINES: [(&str, &str); 182] = [
+static LINES: [(&str, &str); 87] = [
     // the image alone
     ("asc run a", "a 1024 1099511627776 2"),
     ("asc run ", " 1024 1099511627776 2"),
@@ -123,6 +124,10 @@ static LINES: [(&str, &str); 182] = [
     ("asc run -- --memory", "--memory 1024 1099511627776 2"),
     ("asc run a -- --memory 64", "refused"),
     ("asc -- run a", "refused"),
+];
+
+/// The same of options that say how guesses are made and followed.
+static GUESS_LINES: [(&str, &str); 42] = [
     // which guesses are made
     ("asc run a --guess none", "a 1024 1099511627776 2 none"),
     ("asc run a --guess last", "a 1024 1099511627776 2 last"),
@@ -185,6 +190,10 @@ static LINES: [(&str, &str); 182] = [
     ),
     ("asc run a --ahead 2 --ahead 2", "refused"),
     ("asc run a --queue", "refused"),
+];
+
+/// The same of saved entries, of other subcommands, and of help.
+static OTHER_LINES: [(&str, &str); 53] = [
     // a file of saved entries
     ("asc run i --load f", "i 1024 1099511627776 2 load f"),
     (
@@ -316,14 +325,32 @@ fn meaning_of(alloc: Global, words: &[String]) -> Result<String, AllocError> {
     }
 }
 
-#[test]
-fn command_lines(rt: HostRuntime) -> Result<(), Fail> {
-    let alloc = rt.alloc();
-    for (text, want) in &LINES {
+/// Sees that the words of each line mean what stands beside it.
+fn check_lines<R: Abort>(rt: &R, alloc: Global, lines: &[(&str, &str)]) -> Result<(), AllocError> {
+    for (text, want) in lines {
         let meaning = meaning_of(alloc, &words_of(alloc, text)?)?;
         assert_eq!(rt; meaning.as_str(), *want, "{text}");
     }
+    Ok(())
+}
+
+#[test]
+fn command_lines(rt: HostRuntime) -> Result<(), Fail> {
+    let alloc = rt.alloc();
     assert_eq!(rt; meaning_of(alloc, &[])?.as_str(), "refused");
+    check_lines(&rt, alloc, &LINES)?;
+    Ok(())
+}
+
+#[test]
+fn guess_lines(rt: HostRuntime) -> Result<(), Fail> {
+    check_lines(&rt, rt.alloc(), &GUESS_LINES)?;
+    Ok(())
+}
+
+#[test]
+fn other_lines(rt: HostRuntime) -> Result<(), Fail> {
+    check_lines(&rt, rt.alloc(), &OTHER_LINES)?;
     Ok(())
 }
 
