@@ -73,7 +73,7 @@ Asked = Result Line Bad
 -- ---- the headline
 
 -- What is done where no device fails and no memory is wanting. A run whose files and input are told gives what the files
--- mean. A save whose file is told gives the file of the entries that its run leaves, a make gives its image, and a trial
+-- mean. A save whose image is told gives the file of the entries that its run leaves. A make gives its image, and a trial
 -- its text. Wrong words are answered, and nothing is done.
 abbrev pub Done : Asked → (old new : Devices) → Answer → Type 0
 Done (Ok (lines.Run line)) old new answered =
@@ -112,8 +112,8 @@ Stops (Ok (lines.Make n)) old new device = (device ≡ Out) × GivesPart old.gue
 Stops (Ok (lines.Trial n workers)) old new device = (device ≡ Out) × TriesPart n workers old.guest new.guest
 Stops (Err bad) old new device = ⊥
 
--- the words ask for a run, and the store may hold files of its names whose contents have P; or for a save, and it may
--- hold such a file
+-- The words ask for a run, and the store may hold files of its names whose contents have P. Or they ask for a save, and
+-- it may hold such an image.
 abbrev pub HasFile : Asked → Devices → (RunLine → Files → Type 0) → Type 0
 HasFile (Ok (lines.Run line)) old P = (files : Files) × AreFilesOf (MayHold old.files) line files × P line files
 HasFile (Ok (lines.Save line)) old P =
@@ -176,8 +176,8 @@ AsksBehind line _ before after = AsksForSecond line.load before after
 abbrev pub AsksForNone : Answer → (before after : Option (List (List ℕ))) → Type 0
 AsksForNone answered before after = (after ≡ before) × (answered ≡ answers.Memory)
 
--- What the store was asked for until these words were answered so: for the image of a run, and then for its saved
--- entries; for the image of a save; and else for nothing.
+-- What the store was asked for until these words were answered so. For a run it was asked for the image and then for the
+-- saved entries, for a save for the image, and else for nothing.
 abbrev pub AsksForFiles : Asked → Answer → (before after : Option (List (List ℕ))) → Type 0
 AsksForFiles (Ok (lines.Run line)) answered before after =
     ((between : Option (List (List ℕ))) × AsksFor line.image before between × AsksBehind line answered between after)
@@ -192,8 +192,8 @@ AsksForFiles (Err bad) answered before after = after ≡ before
 abbrev pub RisesWithin : (most : ℕ) → (before after : ℕ) → Type 0
 RisesWithin most before after = (n : ℕ) × (n ≤ most) × (after ≡ before + n)
 
--- Where an answer is that the guest was not run, nothing was taken, put or counted. Memory may be wanting to the helper of
--- a save after its guest was run: then the counter alone rose, by no more than the line's limit.
+-- Where an answer is that the guest was not run, nothing was taken, put or counted. But memory may be wanting to a save
+-- after its guest was run: then the counter alone rose, by no more than the line's limit.
 abbrev pub IsUntouched : Asked → Answer → (old new : Outside) → Type 0
 IsUntouched (Ok (lines.Save line)) answers.Memory old new =
     RisesWithin line.limit old.steps new.steps × (new ≡ record old { steps = new.steps })

@@ -186,8 +186,8 @@ WorkersAreTold line (Some counts) None = line.workers ≡ 0
 WorkersAreTold line None (Some workers) = ⊥
 WorkersAreTold line None None = Unit {0}
 
--- Over some input that agrees with what is told, the files mean what was answered, taken, put and counted, and the
--- numbers that are told are their run's.
+-- Over some input that agrees with what is told, the files mean what was answered, taken, put and counted. The numbers
+-- that are told are their run's.
 pub record Means (old new : Outside) (outcome : Outcome) (line : RunLine) (files : Files) : Type 0 where
   pub left : List ℕ
   pub agrees : Agrees old.left left

@@ -35,7 +35,7 @@ image_alone image = record { image = image; saved = None }
 abbrev pub load_of : RunLine → (content : List ℕ) → Result loader.Image ElfFault
 load_of line content = loader.image_of content (1024 * line.memory) line.version
 
--- The entries of a file's bytes for an image of this shape, or why they are refused: the file is too long, it has a fault,
+-- The entries of a file's bytes for an image of this shape, or why they are refused. The file is too long, it has a fault,
 -- or it is of another shape.
 abbrev pub entries_for : Shape → (file : List ℕ) → Result (List Entry) SavedFault
 entries_for shape file =
@@ -87,8 +87,8 @@ abbrev pub result_of_load : RunLine → (saved : Option (List ℕ)) → Result l
 result_of_load line saved (Err fault) left = refusal (answers.Image fault)
 result_of_load line saved (Ok image) left = result_of_entries line image (first_entries image saved) left
 
--- What files mean as a program, for a line and over an input: an image that is too long and one that is none are
--- refused, and so is then a file of saved entries. Every other image is run plainly.
+-- What files mean as a program, for a line and over an input. An image that is too long and one that is none are refused.
+-- Then a file of saved entries may be refused. Every other image is run plainly.
 unfoldable pub meaning : RunLine → Files → (left : List ℕ) → ProgramResult
 meaning line files left =
     if nat_lt file_limit (length files.image) then refusal answers.TooLong
@@ -138,7 +138,7 @@ pub record IsNoSaved (fault : SavedFault) (line : RunLine) (files : Files) : Typ
   pub refused : first_entries image files.saved ≡ Err fault
 
 -- A file that is not too long is an image, and the saved entries are taken. Its plain run over some input that agrees with
--- what is told was stopped when a device failed: its steps so far took and put io, and what was done of the call at which
+-- what is told was stopped when a device failed. Its steps so far took and put io, and what was done of the call at which
 -- it stood is done. The whole plain run begins with both.
 pub record IsStopped (old new : Outside) (device : Device) (line : RunLine) (files : Files) : Type 0 where
   pub within : length files.image ≤ file_limit

@@ -46,8 +46,7 @@ pub record Ran (old new : Outside) (line : RunLine) (files : Files) (outcome : O
   pub limit : IfSome outcome.counts (λ counts. counts.executed + counts.skipped ≤ line.limit)
   pub faults : BlamesOnly (device_of_answer outcome.answer) old.faults new.faults
 
--- A file of this name that is not too long was read: the store's files stay, it was asked for that name, and it did not
--- fail.
+-- A file of this name that is not too long was read. The store's files stay. It was asked for that name, and did not fail.
 pub record IsRead (name content : List ℕ) (files : Option (List File)) (asked : Option (List (List ℕ))) (faults : ℕ)
     (files_after : Option (List File)) (asked_after : Option (List (List ℕ))) (faults_after : ℕ) : Type 0 where
   pub held : MayHold files name content
@@ -56,8 +55,8 @@ pub record IsRead (name content : List ℕ) (files : Option (List File)) (asked 
   pub names : AsksFor name asked asked_after
   pub no_fault : faults_after ≡ faults
 
--- The store was asked for a file of this name, and the answer is that it failed, or that memory was wanting, or one that
--- a content of the file has.
+-- The store was asked for a file of this name. The answer is that it failed, that memory was wanting, or one that a content
+-- of the file has.
 pub record IsRefused (name : List ℕ) (HasAnswer : (content : List ℕ) → Answer → Type 0) (answered : Answer)
     (files : Option (List File)) (asked : Option (List (List ℕ))) (faults : ℕ)
     (files_after : Option (List File)) (asked_after : Option (List (List ℕ))) (faults_after : ℕ) : Type 0 where

@@ -21,16 +21,24 @@ use std::thread::Threads;
 /// Does what the words of a command line ask for, over the outside that is handed in, and puts the line of the answer to
 /// report.
 ///
-/// The words are the program's own name, a subcommand and its arguments (`asc_words::parse`). `run` runs an image of the
-/// store, `save` runs one and puts the entries that its run leaves to out, `make` puts a generated image to out, and
-/// `trial` runs one and puts a text on it to out.
+/// The words are the program's own name, a subcommand and its arguments (`asc_words::parse`):
+///
+/// - `run` runs an image of the store;
+/// - `save` runs one, and puts the entries that its run leaves to out;
+/// - `make` puts a generated image to out;
+/// - `trial` runs one, and puts a text on it to out.
 ///
 /// Where a line has workers, they run in threads of their own beside the run, and their end is waited for. The gate is
 /// passed at their points and at those of the run.
 ///
-/// The answer is the first of these that has a cause: wrong words, the store's failure, a file that is too long, a file
-/// that is no image, want of memory, the same of saved entries, and how the run ended, or that a text was written. Where
-/// report fails, the answer is ReportFault in place of that one.
+/// The answer is the first of these that has a cause. Want of memory may come before or among them.
+///
+/// 1. The words are wrong.
+/// 2. The store fails at the image, or the image is too long or none.
+/// 3. The store fails at the file of saved entries, or that is refused.
+/// 4. The run has ended, or the text was written.
+///
+/// Where report fails, the answer is ReportFault in place of that one.
 pub fn top<
     T: Threads + Wait + Sync + Copy + Drop + Send,
     F: Store,
@@ -95,8 +103,8 @@ pub fn reported<R: Sink>(outcome: Outcome, report: &mut R) -> Answer
     }
 }
 
-/// What the words of a command line come to that ask for no worker, before it is reported: a run without any, saved
-/// entries, a generated image, a trial without any, or wrong words. It starts no thread and waits for none.
+/// What the words of a command line come to that ask for no worker, before it is reported. They ask for a run or a trial
+/// without any, saved entries or a generated image, or they are wrong. It starts no thread and waits for none.
 ///
 /// Where the words ask for workers, it answers the line, and nothing was done.
 pub fn outcome_alone<F: Store, I: Source, O: Sink, E: Sink, L: Ledger>(

@@ -106,7 +106,7 @@ pub(crate) fn run_beside<
     }
 }
 
-/// Runs a file, as a line asks that has no workers and names no saved entries.
+/// Runs a file, as a line without workers asks. No saved entries are read.
 pub(crate) fn run_file_alone<I: Source, O: Sink, E: Sink, L: Ledger>(
     alloc: Global,
     line: &RunLine,
@@ -131,7 +131,7 @@ pub(crate) fn run_file_alone<I: Source, O: Sink, E: Sink, L: Ledger>(
     }
 }
 
-/// Runs a file, as a line asks that has workers and names no saved entries.
+/// Runs a file, as a line with workers asks. No saved entries are read.
 pub(crate) fn run_file_beside<
     T: Threads + Wait + Sync + Copy + Drop + Send,
     I: Source,
@@ -176,8 +176,7 @@ pub(crate) fn run_file_beside<
     }
 }
 
-/// Runs a walk that has not begun to its end, as a line asks that has no workers, with these entries before its first
-/// visit.
+/// Runs a walk that has not begun to its end, as a line without workers asks. It has these entries before its first visit.
 ///
 /// What nobody sees is not run: nothing is guessed where there are no saved entries and the numbers are not reported,
 /// since guesses change nothing else then.
