@@ -34,7 +34,11 @@ ADDRESS = ["--pc", "10008"]
 NUMBERS = re.compile(rb"asc: executed (\d+) skipped (\d+) asked (\d+) hits (\d+) made (\d+) refused 0\n")
 
 def run(command):
-    return subprocess.run(command, capture_output=True, check=True, env=WIDE)
+    """A run that ends with code 0, or at its limit."""
+    done = subprocess.run(command, capture_output=True, env=WIDE)
+    if done.returncode not in (0, 75):
+        sys.exit(f"{' '.join(command)}: status {done.returncode}, {done.stderr.decode()}")
+    return done
 
 def instructions(command):
     """The processor's instructions of a run."""
