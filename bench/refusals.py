@@ -6,10 +6,11 @@
 PROGRAM is the built asc, crates/asc_cli/out/asc_cli where it is not given. `cc` compiles bench/refusing.c, an allocator
 that is preloaded and refuses. It wants Linux with glibc.
 
-Six commands are run: a run of a loop of 13 steps with guesses and --report, without workers, with two, and with saved
-entries; `asc save` of it; `asc trial 0`; and `asc make 0`. In one row of runs the first allocation alone is refused,
-then the second alone, and so on. In another row all are refused from the first on, from the second on, and so on. A row
-ends where a run made fewer allocations than that. With workers, whose number of them is not the same each time, it ends
+Nine commands are run. Four are of a loop of 13 steps, with guesses: `asc run` with --report, alone, with two workers, and
+with saved entries, and `asc save`. Three are so with --join: the save, and the run alone and with one worker. The others
+are `asc trial 0` and `asc make 0`. In one row of runs the first allocation alone is refused, then the second alone, and so
+on. In another row all are refused from the first on, from the second on, and so on. A row ends where a run made fewer
+allocations than that. With workers, whose number of them is not the same each time, it ends
 where N runs did so one after another (5).
 
 Each run has to end in one of two ways: with status 71, the line `asc: out of memory` and nothing put out; or as with
@@ -201,6 +202,8 @@ def main():
         run, save, kept = ["run", *guesses, "--report"], ["save", *guesses], Path(folder, "kept")
         commands = [Command("run, no workers", run), Command("run, two workers", [*run, "--workers", "2"], 2),
                     Command("run, saved entries", [*run, "--load", str(kept)]), Command("save", save),
+                    Command("run, joins", [*run, "--join"]), Command("save, joins", [*save, "--join"]),
+                    Command("run, joins, a worker", [*run, "--join", "--workers", "1"], 1),
                     Command("trial 0", ["trial", "0"]), Command("make 0", ["make", "0"])]
         refusing = Refusing(asked.program, folder)
         kept.write_bytes(refusing.run(save, 0, False)[0][1])

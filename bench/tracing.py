@@ -16,8 +16,9 @@ of a trace of all steps, and for `start` of a tracer of a state of 1 MiB.
 With --count it prints the processor's instructions, as `valgrind --tool=callgrind` counts them and independent of load,
 and STEPS is 200,000 where it is not given: for a step of a `State` by `step_many`, and of a trace; and with traces of 1000
 steps how many places they touch, and what they cost more a touched place for the first touch with `reset`, and for
-`Entry::of`. Behind these stands what `matches` takes a read place of such an entry, and `put` a written one. Of the memory
-480 KiB are used. Long fills of the C library are counted as wide writes, and not byte by byte.
+`Entry::of`. Behind these stands what `matches` takes a read place of such an entry, and `put` a written one; what
+`Entry::join` takes for one and the entry of the next 1000 steps, a place of the first; and what it takes where there is no
+join, since both are one entry. A place in both lists of an entry counts twice there. Of the memory 480 KiB are used. Long fills of the C library are counted as wide writes, and not byte by byte.
 """
 
 import os
@@ -95,7 +96,9 @@ fn measured(alloc: Global, which: u64, what: u64, rounds: u64, span: u64) -> Opt
     if span == 0 || !walk(&mut state, 20) {{
         return None;
     }}
-    if what > 4 {{
+    if what > 6 {{
+        joins(alloc, &mut state, what == 7, rounds, span)
+    }} else if what > 4 {{
         entries(alloc, &mut state, what == 5, rounds, span)
     }} else if what != 0 {{
         traces(alloc, &state, what, rounds, span)
@@ -184,6 +187,25 @@ fn entries(alloc: Global, state: &mut State, compares: bool, rounds: u64, span: 
             entry.put(state);
         }}
     }}
+    parts.checked_mul(4)
+}}
+
+/// Rounds of the join of two entries: of a trace and of the steps behind it, or of the same steps twice, where the second
+/// entry does not follow the first. The number is that of the places of the first one, where all its parts are words.
+fn joins(alloc: Global, state: &mut State, follows: bool, rounds: u64, span: u64) -> Option<usize>
+    requires {{ 1 ≤ span }}
+{{
+    let first = traced_entry(alloc, state, span)?;
+    if follows && !walk(state, span) {{
+        return None;
+    }}
+    let second = traced_entry(alloc, state, span)?;
+    for _ in 0..rounds {{
+        if Entry::join(alloc, &first, &second).ok()?.is_some() != follows {{
+            return None;
+        }}
+    }}
+    let parts = first.reads().len().checked_add(first.writes().len())?;
     parts.checked_mul(4)
 }}
 
@@ -299,7 +321,7 @@ def build(folder):
 # ---------------------------------------------------------------------------------------------------------------------
 # Measuring
 
-PLAIN, RESET, START, ENTRY, STRIDE, COMPARE, PUT = range(7)
+PLAIN, RESET, START, ENTRY, STRIDE, COMPARE, PUT, JOIN, APART = range(9)
 SPAN = 1000
 
 def seconds(command):
@@ -341,17 +363,18 @@ def main():
     with tempfile.TemporaryDirectory() as folder:
         path, names = build(folder)
         if count:
-            print("          plain  traced   ratio  places  first and reset  Entry::of  first and start  of two  matches  put")
+            print("          plain  traced   ratio  places  first and reset  Entry::of  first and start  of two  matches  put  join  no join")
             for name, plain, traced, taken in measure(path, names, instructions, steps):
                 reset, places = taken(RESET, rounds, SPAN)
                 entry = taken(ENTRY, rounds, SPAN)[0]
                 start = taken(START, rounds, SPAN)[0]
                 stride = taken(STRIDE, rounds, SPAN)[0]
-                compare, put = (alone(taken, what, rounds) for what in (COMPARE, PUT))
+                compare, put, join = (alone(taken, what, rounds) for what in (COMPARE, PUT, JOIN))
+                apart = (taken(APART, rounds + 1, SPAN)[0] - taken(APART, 1, SPAN)[0]) / rounds
                 print(f"{name:8}{plain / steps:7.1f}{traced / steps:8.1f}{traced / plain:8.2f}{places:8}"
                       f"{(reset - traced) / rounds / places:17.1f}{(entry - reset) / rounds / places:11.1f}"
                       f"{(start - traced) / rounds / places:17.1f}{(stride - traced) / rounds / places:8.1f}"
-                      f"{compare:9.1f}{put:5.1f}")
+                      f"{compare:9.1f}{put:5.1f}{join:6.1f}{apart:9.0f}")
             name = names[0]
             words = lambda *numbers: [str(path), *map(str, numbers)]
             for what in (START, STRIDE):

@@ -32,6 +32,7 @@ _asc() {
                 case $word in
                     -*)
                         offered="--memory --steps --machine --guess --pc --profile --min --laps --span --ahead --queue"
+                        offered+=" --join"
                         [ "${COMP_WORDS[1]}" = save ] || offered+=" --workers --load --report"
                         ;;
                     *)

@@ -111,7 +111,7 @@ def check_options(why):
 
 
 # The options behind the first three, as the tests of asc_words write them.
-BEHIND = "--guess --pc --profile --min --laps --span --ahead --workers --queue --report --load".split()
+BEHIND = "--guess --pc --profile --min --laps --span --ahead --workers --queue --join --report --load".split()
 
 
 def meaning(command, behind, values, known):
@@ -122,7 +122,7 @@ def meaning(command, behind, values, known):
     for name in BEHIND:
         value = values.get(name, known[name][1])
         if value != known[name][1]:
-            told.append({"--guess": value, "--report": "report"}.get(name, f"{name[2:]} {value}"))
+            told.append({"--guess": value, "--join": "join", "--report": "report"}.get(name, f"{name[2:]} {value}"))
     return " ".join([*(["save"] if command == "save" else []), behind, *told])
 
 
@@ -233,7 +233,7 @@ LINES = [
     (f'echo 0 | "$@" {MATRIX}', None),
     (f'"$@" {HELLO} --mem 64',
      "there is no option --mem: there are --memory, --steps, --machine, --guess, --pc, --profile, "
-     "--min, --laps, --span, --ahead, --queue, --workers, --load, --report, and none is abbreviated"),
+     "--min, --laps, --span, --ahead, --queue, --join, --workers, --load, --report, and none is abbreviated"),
     (f'"$@" {HELLO} --memory 63', "--memory 63 is out of range, which is 64 to 65536"),
     (f'"$@" {HELLO} --memory 1M', "--memory wants a number in decimal digits, from 64 to 65536, and '1M' is none"),
     (f'"$@" {HELLO} --pc 0x10054',
@@ -266,7 +266,7 @@ def outcome(words, **given):
 SAVES = [
     (f'"$@" {HELLO} >/dev/null', None),
     (f'"$@" {HELLO} --report', "there is no option --report: there are --memory, --steps, --machine, --guess, --pc, "
-     "--profile, --min, --laps, --span, --ahead, --queue, and none is abbreviated"),
+     "--profile, --min, --laps, --span, --ahead, --queue, --join, and none is abbreviated"),
     (f'"$@" {HELLO} >/dev/full', "standard output: the device failed, as a full disk"),
 ]
 

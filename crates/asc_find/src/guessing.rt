@@ -1,4 +1,4 @@
-/// What is guessed at a visit, and how far a guess is traced.
+/// What is guessed at a visit, how far a guess is traced, and whether its entry is joined with another.
 #[derive(Clone, Copy, Debug, PartialEq, Eq)]
 pub struct Guessing {
     /// Whether later states are guessed as the last one.
@@ -11,4 +11,6 @@ pub struct Guessing {
     pub span: u64,
     /// How many visits ahead are guessed: from 1 to 64.
     pub ahead: u32,
+    /// Whether the entry of a guess is also joined with an earlier one that it may follow.
+    pub join: bool,
 }

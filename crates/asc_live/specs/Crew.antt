@@ -62,9 +62,10 @@ pub record Walks (was now : Walk) (old new : Outside) (first last : Aid) (ended 
   pub limit : now.count ≤ was.settings.limit
   pub faults : BlamesOnly (device_of ended) old.faults new.faults
 
--- the bounds of a worker's traces, as a crew is asked for
+-- the bounds of a worker's traces, and whether it joins entries, as a crew is asked for
 abbrev pub HasBoundsOf : {W H : Type 0} → Shape → Guessing → Worker W H → Type 0
-HasBoundsOf shape guessing w = (w.shape ≡ shape) × (w.laps ≡ guessing.laps) × (w.span ≡ guessing.span)
+HasBoundsOf shape guessing w =
+    (w.shape ≡ shape) × (w.laps ≡ guessing.laps) × (w.span ≡ guessing.span) × (w.join ≡ guessing.join)
 
 -- one of these readers is that of a writer's shard, which may hold so many entries
 pub record IsWriterOf (readers : List ShardReader) (w : ShardWriter) : Type 0 where

@@ -72,8 +72,9 @@ struct Ready<R: Wait + Drop> {
 /// entries may drive out the oldest of them.
 ///
 /// All memory that the crew needs is taken before the first step. Later on, only states that are kept, and entries, take
-/// any: where it is wanting for these, a guess is given up. A worker fills the memory of its tracer in its own thread,
-/// once it is woken for a job. It does so in pieces, between which it may be stopped. So the walk waits for none of it.
+/// any: where it is wanting for these, a guess is given up, or a join is left out. A worker fills the memory of its tracer
+/// in its own thread, once it is woken for a job. It does so in pieces, between which it may be stopped. So the walk waits
+/// for none of it.
 pub fn go_beside<
     R: Threads + Wait + Sync + Copy + Drop + Send,
     G: Gate + Sync,
@@ -178,7 +179,8 @@ fn workers_of<R: Wait + Drop>(
         let Some(flag) = flags.pop() else {
             unreachable!()
         };
-        match Worker::new(alloc, shape, guessing.laps, guessing.span, writer, flag) {
+        let (laps, span, join) = (guessing.laps, guessing.span, guessing.join);
+        match Worker::new(alloc, shape, laps, span, writer, flag, join) {
             Ok(worker) => workers.push(worker)?,
             Err((memory, _writer, _flag)) => return Err(memory),
         }

@@ -73,6 +73,7 @@ fn count_beside<L: Ledger, R: Abort + Threads + Wait + Sync + Copy + Drop + Send
         laps: 1,
         span: 100,
         ahead: 2,
+        join: false,
     };
     let mut first = Vec::new(alloc);
     for &x5 in known {

@@ -97,6 +97,7 @@ fn guessing(on: bool) -> Guessing
         laps: 1,
         span: 100,
         ahead: 2,
+        join: false,
     }
 }
 

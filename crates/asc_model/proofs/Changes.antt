@@ -207,7 +207,7 @@ module _ (shape : Shape) (m : Machine) (good : IsMachine shape m) where
 -- ---- one change
 
 -- what holds of each element still holds once one is set
-below-set : (bound : ℕ) (list : List ℕ) (place v : ℕ) → v < bound → ((k : ℕ) → slice_index list k < bound) → (k : ℕ) → slice_index (slice_set list place v) k < bound
+pub below-set : (bound : ℕ) (list : List ℕ) (place v : ℕ) → v < bound → ((k : ℕ) → slice_index list k < bound) → (k : ℕ) → slice_index (slice_set list place v) k < bound
 below-set bound [] place v p h k = h k
 below-set bound (first ∷ list) zero v p h zero = p
 below-set bound (first ∷ list) zero v p h (suc k) = h (suc k)

@@ -89,7 +89,7 @@ abbrev places_among : List ℕ → ℕ → List ℕ
 places_among places n = filter (λ place. is_among place places) (places_from 0 n)
 
 -- a place is among them where it is among these and below n
-among-places_among : (places : List ℕ) (n place : ℕ)
+pub among-places_among : (places : List ℕ) (n place : ℕ)
     → is_among place (places_among places n) ≡ (is_among place places && nat_lt place n)
 among-places_among places n place =
     among-filter (λ p. is_among p places) (places_from 0 n) place ∙ ap (λ x. is_among place places && x) (among-below n place)
@@ -229,7 +229,7 @@ unfolding entry_of
 entry_of-is n s x e = ap (entry_at n s) e
 
 -- steps that have an entry go on, and it is the one of the state to which they lead
-entry_by : (n : ℕ) (s : State) (e : Entry) (x : Next) → plain n s ≡ x → entry_of n s ≡ Some e
+pub entry_by : (n : ℕ) (s : State) (e : Entry) (x : Next) → plain n s ≡ x → entry_of n s ≡ Some e
     → (after : State) × (plain n s ≡ At after) × (made n s after ≡ e)
 entry_by n s e (At after) p h = (after, p, let same : Some (made n s after) ≡ Some e = sym (entry_of-is n s (At after) p) ∙ h in cc)
 entry_by n s e Call p h = let none : None ≡ Some e = sym (entry_of-is n s Call p) ∙ h in absurd (cc)
@@ -336,17 +336,20 @@ module _ (n : ℕ) (s after : State) (good : IsState s) (goes : plain n s ≡ At
         (all_of_each (λ p. slice_index (own_start e).bytes p ≡ slice_index s.bytes p) places own-read);
   }
 
-  is_own : IsCanonical e
-  is_own =
-      let own = own_start e in
-      let alike = goes_alike own own-IsState own-Matches in
+  -- from each state that the entry matches it is the entry of as many steps
+  pub again : (t : State) → IsState t → Matches e t → entry_of n t ≡ Some e
+  again t good' h =
+      let alike = goes_alike t good' h in
       let other = alike.other in
-      let kept' = plain_steps_keep_states n own other own-IsState alike.goes in
-      let long : length other.bytes ≡ length after.bytes = same_length other kept'.0 kept'.1 ∙ sym (same_length after kept.0 kept.1) in
-      let agree = agree_by_cells (first_reads n s) s own (same_length own own-IsState refl) own-Matches.reads in
-      let reads = cells_among-same (first_reads n s) (first_reads n own) s own alike.read (same_length own own-IsState refl) agree in
-      let writes = cells_among-same (written_in n s) (written_in n own) after other alike.written long alike.alike.agree in
-      entry_of-is n own (At other) alike.goes ∙ λ i. Some (record { shape = s.shape; reads = reads i; writes = writes i; steps = n })
+      let kept' = plain_steps_keep_states n t other good' alike.goes in
+      let long : length other.bytes ≡ length after.bytes = same_length other kept'.0 (kept'.1 ∙ h.shape) ∙ sym (same_length after kept.0 kept.1) in
+      let agree = agree_by_cells (first_reads n s) s t (same_length t good' h.shape) h.reads in
+      let reads = cells_among-same (first_reads n s) (first_reads n t) s t alike.read (same_length t good' h.shape) agree in
+      let writes = cells_among-same (written_in n s) (written_in n t) after other alike.written long alike.alike.agree in
+      entry_of-is n t (At other) alike.goes ∙ λ i. Some (record { shape = h.shape i; reads = reads i; writes = writes i; steps = n })
+
+  is_own : IsCanonical e
+  is_own = again (own_start e) own-IsState own-Matches
 
 pub entries_are_true : EntriesAreTrue
 entries_are_true n s e good least h =

@@ -10,9 +10,11 @@ pub mod Decodes
 pub mod Frames
 pub mod Listings
 pub mod Entries
+mod JoinRows
 pub mod Reaches
 pub mod Computing
 pub mod Shapes
 pub mod Registers
 pub mod Repeats
+pub mod Joins
 pub mod Cases

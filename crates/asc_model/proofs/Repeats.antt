@@ -25,7 +25,7 @@ or-right true b e = refl
 or-right false b e = e
 
 -- a place that is taken away is not there, and each other one stands as before
-among-without : (place : ℕ) (others places : List ℕ) → is_among place (without others places) ≡ (not (is_among place others) && is_among place places)
+pub among-without : (place : ℕ) (others places : List ℕ) → is_among place (without others places) ≡ (not (is_among place others) && is_among place places)
 among-without place others places =
     any-filter_same (λ other. other == place) (λ p. not (is_among p others)) (not (is_among place others)) (λ k e. ap (λ p. not (is_among p others)) (eqb-true k place e)) places
 

@@ -11,6 +11,7 @@ use Rattle.asc_model.specs.Places.{places_read, places_written, writes, bytes_af
 use Rattle.asc_model.specs.Plain.{plain}
 use Rattle.asc_model.specs.DependencyVector.{is_among, first_reads, written_in}
 use Rattle.asc_model.specs.Entry.{Entry, IsTrueEntry, entry_of}
+use Rattle.asc_model.specs.Join.{join_of}
 use Rattle.asc_model.specs.declared.why.Why.{Why}
 use Rattle.asc_model.specs.Reach.{Bounds, IsReach, reach_of}
 
@@ -165,6 +166,10 @@ ManyStepsFrame = (n : ℕ) (s after t : State) → IsState s → IsState t → t
 -- The entry of steps of a state, at least 1, holds everywhere and is its own.
 abbrev pub EntriesAreTrue : Type 0
 EntriesAreTrue = (n : ℕ) (s : State) (e : Entry) → IsState s → 1 ≤ n → entry_of n s ≡ Some e → IsTrueEntry e
+
+-- Two entries that each hold everywhere and are their own are joined into one that is so too.
+abbrev pub JoinsAreTrue : Type 0
+JoinsAreTrue = (a b e : Entry) → IsTrueEntry a → IsTrueEntry b → join_of a b ≡ Some e → IsTrueEntry e
 
 -- A trace ends in at most one way: after one number of steps, for one reason.
 abbrev pub ReachesAreOne : Type 0

@@ -12,5 +12,6 @@ pub mod DependencyVector
 pub mod Entry
 pub mod Case
 pub mod EntryFile
+pub mod Join
 pub mod Reach
 pub mod Laws

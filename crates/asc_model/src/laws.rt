@@ -1,7 +1,7 @@
 //! The laws that tie states, their machines and their steps to one another. Each function stands for the law that it
 //! ensures, and does nothing.
 
-ghost use Rattle.asc_model.specs.Laws.{ViewsDetermineStates, StatesDetermineViews, StepWritesBytes, StepsKeepStates, StepsTouchPlaces, PlainStepsJoin, PlainStepsKeepStates, RowsDiffer, DecodeIsTheTable, RegistersFollowWords, RepeatedWordsTouchNoNewRegister, OneStepFrame, ManyStepsFrame, EntriesAreTrue, ReachesAreOne, ReachesAreComputed};
+ghost use Rattle.asc_model.specs.Laws.{ViewsDetermineStates, StatesDetermineViews, StepWritesBytes, StepsKeepStates, StepsTouchPlaces, PlainStepsJoin, PlainStepsKeepStates, RowsDiffer, DecodeIsTheTable, RegistersFollowWords, RepeatedWordsTouchNoNewRegister, OneStepFrame, ManyStepsFrame, EntriesAreTrue, JoinsAreTrue, ReachesAreOne, ReachesAreComputed};
 
 /// A state is known from its shape and its machine, which is one of that shape: turned into its machine and back, it is
 /// the same state.
@@ -84,6 +84,11 @@ pub fn many_steps_frame()
 /// that has its read bytes, and 0 at all other places.
 pub fn entries_are_true()
     ensures { EntriesAreTrue }
+{}
+
+/// Two entries that each hold everywhere and are their own are joined into one that is so too.
+pub fn joins_are_true()
+    ensures { JoinsAreTrue }
 {}
 
 /// A trace of steps ends in at most one way: after one number of steps, for one reason.

@@ -15,10 +15,11 @@ mod why;
 pub use fault::{Fault, FaultKind};
 pub use instruction::{Instr, Op};
 pub use laws::{
-    decode_is_the_table, entries_are_true, many_steps_frame, one_step_frame, plain_steps_join,
-    plain_steps_keep_states, reaches_are_computed, reaches_are_one, registers_follow_words,
-    repeated_words_touch_no_new_register, rows_differ, states_determine_views, step_writes_bytes,
-    steps_keep_states, steps_touch_places, views_determine_states,
+    decode_is_the_table, entries_are_true, joins_are_true, many_steps_frame, one_step_frame,
+    plain_steps_join, plain_steps_keep_states, reaches_are_computed, reaches_are_one,
+    registers_follow_words, repeated_words_touch_no_new_register, rows_differ,
+    states_determine_views, step_writes_bytes, steps_keep_states, steps_touch_places,
+    views_determine_states,
 };
 pub use save_fault::SaveFault;
 pub use status::Status;

@@ -5,6 +5,7 @@ use Rattle.std.proofs.lemmas.Bool.{cases_lt}
 use Rattle.asc_model.specs.DependencyVector.{first_reads, written_in}
 use Rattle.asc_model.specs.Entry.{entry_of}
 use Rattle.asc_model.specs.Instruction.{decode}
+use Rattle.asc_model.specs.Join.{join_of}
 use Rattle.asc_model.specs.Machine.{words, view_of, state_of}
 use Rattle.asc_model.specs.Places.{places_read, writes}
 use Rattle.asc_model.specs.Plain.{plain}
@@ -16,7 +17,7 @@ use Rattle.asc_run.specs.declared.recognised.Recognised.TheVariants as recognise
 use Rattle.asc_run.specs.Execution.{progress}
 use Rattle.asc_run.specs.Visits.{is_mark, HasNoMark}
 use Rattle.asc_run.specs.Serial.{visited}
-use Rattle.asc_run.specs.Rows.{Laps, Targets, Strides, Both, Visits, loop_run}
+use Rattle.asc_run.specs.Rows.{Laps, Targets, Strides, Both, Joins, Visits, loop_run}
 
 pub laps : Laps
 unfolding plain next outcome words view_of state_of decode strided
@@ -42,6 +43,23 @@ strides = record {
 pub both : Both
 unfolding plain next outcome words view_of state_of decode strided places_read writes first_reads written_in entry_of reach_from visited
 both = record { made2 = refl; reply2 = refl; reply3 = refl; reply4 = refl }
+
+pub joins : Joins
+unfolding plain next outcome words view_of state_of decode strided places_read writes first_reads written_in entry_of reach_from join_of visited
+joins = record {
+  made2 = refl;
+  content2 = refl;
+  reply2 = refl;
+  made3 = refl;
+  content3 = refl;
+  reply3 = refl;
+  reply3_of_5 = refl;
+  made4 = refl;
+  content4 = refl;
+  reply4 = refl;
+  content5 = refl;
+  reply5 = refl;
+}
 
 -- ---- visits
 
@@ -92,4 +110,12 @@ visits =
       );
       replies = refl;
       counts = refl;
+      joined = (
+        (
+          (none 0 2 refl, (refl, (tt, (omega arith, none 3 1 refl)))),
+          (refl, (tt, (omega arith, none 5 1 refl))),
+        ),
+        (refl, ((omega arith, (omega arith, (_, refl))), (omega arith, none 12 8 refl))),
+      );
+      joined_counts = refl;
     }

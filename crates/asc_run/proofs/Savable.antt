@@ -1,14 +1,19 @@
--- What a run without workers keeps may be written to a file: each entry is that of a trace of a guess, and they are few.
-use Rattle.std.proofs.Common.{◌≡◌, ℕ, zero, suc, ◌+◌, ◌-◌, ◌≤◌, Bool, true, false, List, [], ◌∷◌, ◌++◌, length, Option, Some, None, if◌then◌else◌, refl, sym, subst, ◌∙◌, arith, length-drop}
-use Rattle.std.specs.Prelude.{fold}
+-- What a run without workers keeps may be written to a file: each entry is that of a trace of a guess, or one that two of
+-- them join to, and they are few.
+use Rattle.std.proofs.Common.{◌≡◌, ℕ, zero, suc, ◌+◌, ◌-◌, ◌≤◌, All, Bool, true, false, List, [], ◌∷◌, ◌++◌, length, Option, Some, None, if◌then◌else◌, refl, sym, subst, ◌∙◌, arith, length-drop}
+use Rattle.std.specs.Prelude.{fold, not, ◌&&◌}
 use Rattle.std.specs.List.{list_any}
-use Rattle.std.proofs.lemmas.List.Elements.{All-drop, All-push}
+use Rattle.std.specs.Option.{option_or}
+use Rattle.std.proofs.lemmas.Bool.{and_parts, leb-true}
+use Rattle.std.proofs.lemmas.List.Elements.{All-drop, All-push, All-take, All-head, All-tail}
 use Rattle.asc_model.specs.Shape.{Shape}
 use Rattle.asc_model.specs.State.{State, IsState}
 use Rattle.asc_model.specs.Entry.{Entry, entry_of}
 use Rattle.asc_model.specs.EntryFile.{IsSavable, AreSavable, most_steps}
 use Rattle.asc_model.specs.Reach.{Bounds, reach_of}
+use Rattle.asc_model.specs.Join.{join_of, can_join, cell_count, most_joined}
 use Rattle.asc_model.proofs.Entries.{entries_are_true}
+use Rattle.asc_model.proofs.Joins.{joined, join_of-is}
 use Rattle.asc_shape.proofs.Guesses.{AreBytes-strided}
 use Rattle.asc_shape.proofs.Strides.{length-strided}
 use Rattle.asc_traj.specs.Trace.{trace_cap}
@@ -22,9 +27,10 @@ use Rattle.asc_find.specs.Serial.{Serial}
 use Rattle.asc_run.specs.Execution.{Position, Progress, On, Off, progress, first_position}
 use Rattle.asc_run.specs.Visits.{Course, Visit}
 use Rattle.asc_run.specs.Helped.{SerialAt, IsSerial}
-use Rattle.asc_run.specs.Serial.{Task, tasks_of, bounds_at, add_traced, add_guess, after_tasks, visited}
+use Rattle.asc_run.specs.Serial.{Task, tasks_of, bounds_at, newest_join, add_found, older, add_joined, add_traced, add_guess, after_tasks, visited}
 use Rattle.asc_run.specs.SerialRun.{serial_of}
 use Rattle.asc_run.specs.Laws.{SerialRunsAreSavable}
+use Rattle.asc_run.proofs.JoinedFew.{reads-few, writes-few, joined-IsEntry}
 use Rattle.asc_run.proofs.Few.{within_span, entry_of-shape, trace-few}
 use Rattle.asc_run.proofs.Kept.{course-states}
 
@@ -42,6 +48,62 @@ add-AreSavable shape held e all one = by_test (list_any (is_same_entry e) held)
       each = All-drop (IsSavable shape) (length longer - run_capacity) longer (All-push (IsSavable shape) held e all.each one);
     }
 
+-- what may be written of what is found, of nothing too
+abbrev FindsSavable : Shape → Option Entry → Type 0
+FindsSavable shape None = Unit {0}
+FindsSavable shape (Some e) = IsSavable shape e
+
+-- entries that may be joined have few steps and cells together
+can_join-bounds : (a b : Entry) → can_join a b ≡ true → (a.steps + b.steps ≤ most_steps) × (cell_count a + cell_count b ≤ most_joined)
+can_join-bounds a b can =
+    let both = and_parts _ _ can in
+    (leb-true (a.steps + b.steps) most_steps (and_parts _ _ both.0).1, leb-true (cell_count a + cell_count b) most_joined both.1)
+
+-- the join of two that may be written
+joined-IsSavable : (shape : Shape) (a b : Entry) → IsSavable shape a → IsSavable shape b → can_join a b ≡ true → IsSavable shape (joined a b)
+joined-IsSavable shape a b first second can =
+    let bounds = can_join-bounds a b can in record {
+      same = first.same;
+      entry = joined-IsEntry a b first.entry second.entry (second.same ∙ sym first.same);
+      steps = bounds.0;
+      reads = omega (arith, reads-few a b, bounds.1);
+      writes = omega (arith, writes-few a b, bounds.1);
+    }
+
+join-FindsSavable : (shape : Shape) (a b : Entry) → IsSavable shape a → IsSavable shape b → FindsSavable shape (join_of a b)
+join-FindsSavable shape a b first second = subst (FindsSavable shape) (sym (join_of-is a b)) (by_test (can_join a b) refl)
+  where
+    by_test : (can : Bool) → can_join a b ≡ can → FindsSavable shape (if can then Some (joined a b) else None)
+    by_test true can = joined-IsSavable shape a b first second can
+    by_test false can = tt
+
+either-FindsSavable : (shape : Shape) (found other : Option Entry) → FindsSavable shape found → FindsSavable shape other → FindsSavable shape (option_or found other)
+either-FindsSavable shape None other first second = second
+either-FindsSavable shape (Some e) other first second = first
+
+newest-FindsSavable : (shape : Shape) (others : List Entry) (e : Entry) → All (IsSavable shape) others → IsSavable shape e → FindsSavable shape (newest_join others e)
+newest-FindsSavable shape [] e all one = tt
+newest-FindsSavable shape (a ∷ newer) e all one =
+    either-FindsSavable shape (newest_join newer e) (join_of a e) (newest-FindsSavable shape newer e (All-tail (IsSavable shape) a newer all) one)
+    (join-FindsSavable shape a e (All-head (IsSavable shape) a newer all) one)
+
+found-AreSavable : (shape : Shape) (content : List Entry) (found : Option Entry) → AreSavable shape content → FindsSavable shape found → AreSavable shape (add_found content found)
+found-AreSavable shape content None all one = all
+found-AreSavable shape content (Some e) all one = add-AreSavable shape content e all one
+
+-- what a file may hold, with one more entry and its join
+joined-AreSavable : (shape : Shape) (join : Bool) (held : List Entry) (e : Entry) → AreSavable shape held → IsSavable shape e → AreSavable shape (add_joined join held e)
+joined-AreSavable shape join held e all one = by_test (join && not (list_any (is_same_entry e) held))
+  where
+    content : List Entry
+    content = add run_capacity held e
+
+    by_test : (b : Bool) → AreSavable shape (add_found content (if b then newest_join (older content) e else None))
+    by_test false = add-AreSavable shape held e all one
+    by_test true =
+        let kept = add-AreSavable shape held e all one in
+        found-AreSavable shape content (newest_join (older content) e) kept (newest-FindsSavable shape (older content) e (All-take (IsSavable shape) (length content - 1) content kept.each) one)
+
 -- the entry of a trace
 trace-IsSavable : (bounds : Bounds) (shape : Shape) (start : State) (e : Entry) → IsState start → start.shape ≡ shape → bounds.span ≤ most_steps → bounds.cap ≡ trace_cap
     → 1 ≤ reach_of bounds start → entry_of (reach_of bounds start) start ≡ Some e → IsSavable shape e
@@ -56,11 +118,11 @@ trace-IsSavable bounds shape start e good same span cap some is =
       writes = omega (arith, few.writes, cap);
     }
 
-traced-AreSavable : (shape : Shape) (content : List Entry) (steps : ℕ) (found : Option Entry) → AreSavable shape content → ((e : Entry) → 1 ≤ steps → found ≡ Some e → IsSavable shape e)
-    → AreSavable shape (add_traced content steps found)
-traced-AreSavable shape content steps None all one = all
-traced-AreSavable shape content zero (Some e) all one = all
-traced-AreSavable shape content (suc n) (Some e) all one = add-AreSavable shape content e all (one e (omega arith) refl)
+traced-AreSavable : (shape : Shape) (join : Bool) (content : List Entry) (steps : ℕ) (found : Option Entry) → AreSavable shape content → ((e : Entry) → 1 ≤ steps → found ≡ Some e → IsSavable shape e)
+    → AreSavable shape (add_traced join content steps found)
+traced-AreSavable shape join content steps None all one = all
+traced-AreSavable shape join content zero (Some e) all one = all
+traced-AreSavable shape join content (suc n) (Some e) all one = joined-AreSavable shape join content e all (one e (omega arith) refl)
 
 -- what is guessed is a state of the last visit's shape
 guess-IsState : (kind : Kind) (ahead : ℕ) (prev last : State) → IsState last → IsState (guess_of kind ahead prev last)
@@ -82,7 +144,7 @@ module _ (shape : Shape) (g : Guessing) (span : g.span ≤ most_steps) where
   guess-AreSavable prev last content task good same all =
       let start = guess_of task.0 task.1 prev last in
       let bounds = bounds_at g last in
-      traced-AreSavable shape content (reach_of bounds start) (entry_of (reach_of bounds start) start) all
+      traced-AreSavable shape g.join content (reach_of bounds start) (entry_of (reach_of bounds start) start) all
       (λ e some is. trace-IsSavable bounds shape start e (guess-IsState task.0 task.1 prev last good) (guess-shape task.0 task.1 prev last ∙ same) span refl some is)
 
   tasks-AreSavable : (prev last : State) (tasks : List Task) (content : List Entry) → IsState last → last.shape ≡ shape → AreSavable shape content → AreSavable shape (fold (add_guess g prev last) content tasks)

@@ -1,5 +1,5 @@
 -- A visit: its plan, and what its jobs add one after another.
-use Rattle.std.proofs.Common.{◌≡◌, ◌≢◌, inl, inr, ◌<◌, ◌≤◌, ◌+◌, ◌-◌, ◌^◌, ℕ, zero, suc, Bool, true, false, List, length, get_or, take, Option, Some, None, refl, sym, ap, ◌∙◌, subst, arith}
+use Rattle.std.proofs.Common.{◌≡◌, ◌≢◌, ◌⊎◌, inl, inr, ◌<◌, ◌≤◌, ◌+◌, ◌-◌, ◌^◌, ℕ, zero, suc, Bool, true, false, List, length, get_or, take, Option, Some, None, refl, sym, ap, ◌∙◌, subst, arith}
 use Rattle.std.specs.Prelude.{nat_lt, fold, if◌then◌else◌}
 use Rattle.std.specs.Arc.{arc_value}
 use Rattle.std.proofs.lemmas.Bool.{ltb-true, lt-ltb}
@@ -14,37 +14,39 @@ use Rattle.asc_guess.specs.Guess.{guess_of}
 use Rattle.asc_traj.specs.declared.made.Made.{Made}
 use Rattle.asc_traj.specs.declared.made.Made.TheVariants.{One, Empty, Stopped, Refused}
 use Rattle.asc_traj.specs.Made.{IsMade}
+use Rattle.asc_find.specs.declared.guessing.Guessing.{Guessing}
 use Rattle.asc_find.specs.Serial.{Serial}
 use Rattle.asc_shard.specs.Content.{add}
 use Rattle.asc_shard.specs.Shard.{run_capacity}
-use Rattle.asc_run.specs.Serial.{Task, tasks_of, bounds_at, add_traced, add_trace, add_guess, after_tasks, visited, made_at}
+use Rattle.asc_run.specs.Serial.{Task, tasks_of, bounds_at, add_joined, add_traced, add_trace, add_guess, after_tasks, visited, made_at}
 use Rattle.asc_run.specs.LastVisits.{tasks_after, issued_after}
-use Rattle.asc_run.specs.SerialHelper.{SerialHelper, told_machine, jobs_at, planned, IsPlanned, settled}
+use Rattle.asc_run.specs.SerialHelper.{SerialHelper, told_machine, jobs_at, planned, IsPlanned, added_joined, one_refused, IsSettled}
 use Rattle.asc_run.specs.SerialInside.{MakesJob}
 
 -- ---- one job
 
 -- the content after what became of a guess
-abbrev content_after : List Entry → Made → List Entry
-content_after content (One entry) = add run_capacity content (arc_value entry)
-content_after content Empty = content
-content_after content Stopped = content
-content_after content Refused = content
+abbrev content_after : (join : Bool) → List Entry → Made → List Entry
+content_after join content (One entry) = add_joined join content (arc_value entry)
+content_after join content Empty = content
+content_after join content Stopped = content
+content_after join content Refused = content
 
-add_traced-some : (content : List Entry) (n : ℕ) (traced : Option Entry) (e : Entry) → 0 < n → traced ≡ Some e → add_traced content n traced ≡ add run_capacity content e
-add_traced-some content zero traced e some is = absurd (let x : ⊥ = omega arith in x)
-add_traced-some content (suc n) traced e some is = ap (add_traced content (suc n)) is
+add_traced-some : (join : Bool) (content : List Entry) (n : ℕ) (traced : Option Entry) (e : Entry) → 0 < n → traced ≡ Some e → add_traced join content n traced ≡ add_joined join content e
+add_traced-some join content zero traced e some is = absurd (let x : ⊥ = omega arith in x)
+add_traced-some join content (suc n) traced e some is = ap (add_traced join content (suc n)) is
 
-add_traced-zero : (content : List Entry) (traced : Option Entry) → add_traced content 0 traced ≡ content
-add_traced-zero content None = refl
-add_traced-zero content (Some e) = refl
+add_traced-zero : (join : Bool) (content : List Entry) (traced : Option Entry) → add_traced join content 0 traced ≡ content
+add_traced-zero join content None = refl
+add_traced-zero join content (Some e) = refl
 
 -- what was made of a guess is added, unless memory was wanting
-add-made : (bounds : Bounds) (content : List Entry) (guess : State) (made : Made) → IsMade bounds guess 0 0 made → made ≢ Refused → content_after content made ≡ add_trace bounds content guess
-add-made bounds content guess (One entry) m r = sym (add_traced-some content (reach_of bounds guess) (entry_of (reach_of bounds guess) guess) (arc_value entry) m.0 m.1)
-add-made bounds content guess Empty m r = sym (ap (λ n. add_traced content n (entry_of (reach_of bounds guess) guess)) m.0 ∙ add_traced-zero content (entry_of (reach_of bounds guess) guess))
-add-made bounds content guess Stopped m r = let e : 0 ≡ 1 = m.1 in absurd (omega (arith, e))
-add-made bounds content guess Refused m r = absurd (r refl)
+add-made : (join : Bool) (bounds : Bounds) (content : List Entry) (guess : State) (made : Made) → IsMade bounds guess 0 0 made → made ≢ Refused → content_after join content made ≡ add_trace join bounds content guess
+add-made join bounds content guess (One entry) m r = sym (add_traced-some join content (reach_of bounds guess) (entry_of (reach_of bounds guess) guess) (arc_value entry) m.0 m.1)
+add-made join bounds content guess Empty m r =
+    sym (ap (λ n. add_traced join content n (entry_of (reach_of bounds guess) guess)) m.0 ∙ add_traced-zero join content (entry_of (reach_of bounds guess) guess))
+add-made join bounds content guess Stopped m r = let e : 0 ≡ 1 = m.1 in absurd (omega (arith, e))
+add-made join bounds content guess Refused m r = absurd (r refl)
 
 -- ---- all jobs
 
@@ -68,7 +70,7 @@ fold-more f a jobs i d l = ap (fold f a) (take_more jobs i d l) ∙ fold_push f 
 
 -- the content after one job more
 content-more : (plan now : SerialHelper) (i : ℕ) (made : Made) → Works plan now i → i < length plan.jobs → MakesJob now i made → made ≢ Refused → (prev last : State) → plan.machine.prev ≡ Some prev → plan.machine.last ≡ Some last
-    → now.refused ≡ plan.refused → plan.refused < last_count → content_after now.machine.content made ≡ fold (add_guess plan.machine.guessing prev last) plan.machine.content (take (i + 1) plan.jobs)
+    → now.refused ≡ plan.refused → plan.refused < last_count → content_after now.machine.guessing.join now.machine.content made ≡ fold (add_guess plan.machine.guessing prev last) plan.machine.content (take (i + 1) plan.jobs)
 content-more plan now i made w l m r prev last p q same below =
     let d : Task = (Last, 0) in
     let task = get_or plan.jobs i d in
@@ -78,11 +80,30 @@ content-more plan now i made w l m r prev last p q same below =
     let guessing : now.machine.guessing ≡ plan.machine.guessing = ap (λ (x : Serial). x.guessing) w.machine in
     let here : get_or now.jobs i (task.0, task.1) ≡ (task.0, task.1) = ap (λ xs. get_or xs i (task.0, task.1)) w.jobs ∙ get_or_default plan.jobs i (task.0, task.1) d l in
     let is = m prev last prev_is last_is task.0 task.1 here r in
-    let one = add-made (bounds_at now.machine.guessing last) now.machine.content (guess_of task.0 task.1 prev last) made is r in
+    let one = add-made now.machine.guessing.join (bounds_at now.machine.guessing last) now.machine.content (guess_of task.0 task.1 prev last) made is r in
     one
-    ∙ ap (λ g. add_trace (bounds_at g last) now.machine.content (guess_of task.0 task.1 prev last)) guessing
+    ∙ ap (λ (g : Guessing). add_trace g.join (bounds_at g last) now.machine.content (guess_of task.0 task.1 prev last)) guessing
     ∙ ap (λ content. f content task) (w.content prev last p q same below)
     ∙ sym (fold-more f plan.machine.content plan.jobs i d l)
+
+-- where memory was wanting, nothing is said of the content
+works-refused : (plan now : SerialHelper) (content : List Entry) (i : ℕ) → Works plan now i → Works plan (one_refused (record now { machine = record now.machine { content = content } })) (i + 1)
+works-refused plan now content i w = record {
+  jobs = w.jobs;
+  tally = w.tally;
+  made = w.made;
+  refused = let r = w.refused in omega (arith, r);
+  machine = ap (λ (x : Serial). let y : Serial = record x { content = content } in y) w.machine;
+  content = λ prev last p q same below. absurd (let r = w.refused in let x : ⊥ = omega (arith, r, same, below) in x);
+  none = λ e. absurd (let x : ⊥ = omega arith in x);
+}
+
+-- what became of a guess is noted, and memory was not wanting for a join
+abbrev settled : SerialHelper → Made → SerialHelper
+settled h (One entry) = added_joined h (arc_value entry)
+settled h Empty = h
+settled h Stopped = h
+settled h Refused = one_refused h
 
 works-settled : (plan now : SerialHelper) (i : ℕ) (made : Made) → Works plan now i → i < length plan.jobs → MakesJob now i made → Works plan (settled now made) (i + 1)
 works-settled plan now i (One entry) w l m = record {
@@ -90,7 +111,7 @@ works-settled plan now i (One entry) w l m = record {
   tally = w.tally;
   made = w.made;
   refused = w.refused;
-  machine = ap (λ (x : Serial). let y : Serial = record x { content = add run_capacity now.machine.content (arc_value entry) } in y) w.machine;
+  machine = ap (λ (x : Serial). let y : Serial = record x { content = add_joined now.machine.guessing.join now.machine.content (arc_value entry) } in y) w.machine;
   content = content-more plan now i (One entry) w l m (λ e. absurd (cc));
   none = λ e. absurd (let x : ⊥ = omega arith in x);
 }
@@ -112,19 +133,23 @@ works-settled plan now i Stopped w l m = record {
   content = content-more plan now i Stopped w l m (λ e. absurd (cc));
   none = λ e. absurd (let x : ⊥ = omega arith in x);
 }
-works-settled plan now i Refused w l m = record {
-  jobs = w.jobs;
-  tally = w.tally;
-  made = w.made;
-  refused = let r = w.refused in omega (arith, r);
-  machine = w.machine;
-  content = λ prev last p q same below. absurd (let r = w.refused in let x : ⊥ = omega (arith, r, same, below) in x);
-  none = λ e. absurd (let x : ⊥ = omega arith in x);
-}
+works-settled plan now i Refused w l m = works-refused plan now now.machine.content i w
 
-pub works-more : (plan now between next : SerialHelper) (i : ℕ) (made : Made) → Works plan now i → i < length plan.jobs → between ≡ now → MakesJob now i made → next ≡ settled between made → Works plan next (i + 1)
-works-more plan now between next i made w l e m f =
-    subst (λ h. Works plan h (i + 1)) (sym (f ∙ ap (λ h. settled h made) e)) (works-settled plan now i made w l m)
+-- what was made is noted, with its join or without
+settled-by : (old : SerialHelper) (made : Made) (new : SerialHelper) → IsSettled old made new
+    → (new ≡ settled old made) ⊎ ((content : List Entry) × (new ≡ one_refused (record old { machine = record old.machine { content = content } })))
+settled-by old (One entry) new (inl e) = inl e
+settled-by old (One entry) new (inr (join, e)) = inr (add run_capacity old.machine.content (arc_value entry), e)
+settled-by old Empty new e = inl e
+settled-by old Stopped new e = inl e
+settled-by old Refused new e = inl e
+
+pub works-more : (plan now between next : SerialHelper) (i : ℕ) (made : Made) → Works plan now i → i < length plan.jobs → between ≡ now → MakesJob now i made → IsSettled between made next → Works plan next (i + 1)
+works-more plan now between next i made w l e m f = elim (settled-by between made next f) [
+  | inl is ↦ subst (λ h. Works plan h (i + 1)) (sym (is ∙ ap (λ h. settled h made) e)) (works-settled plan now i made w l m)
+  | inr (content, is) ↦
+      subst (λ h. Works plan h (i + 1)) (sym (is ∙ ap (λ (h : SerialHelper). one_refused (record h { machine = record h.machine { content = content } })) e)) (works-refused plan now content i w)
+]
 
 -- ---- the visit
 

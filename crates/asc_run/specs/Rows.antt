@@ -39,10 +39,14 @@ at_loop x5 = loop_state 0x10008 x5 4
 
 -- guesses of two visits ahead, of one kind or of both
 abbrev pub stride_two : Guessing
-stride_two = record { last = false; stride = true; laps = 1; span = 1000000; ahead = 2 }
+stride_two = record { last = false; stride = true; laps = 1; span = 1000000; ahead = 2; join = false }
 
 abbrev pub both_two : Guessing
-both_two = record { last = true; stride = true; laps = 1; span = 1000000; ahead = 2 }
+both_two = record { last = true; stride = true; laps = 1; span = 1000000; ahead = 2; join = false }
+
+-- strides, and joined entries
+abbrev pub joined_two : Guessing
+joined_two = record stride_two { join = true }
 
 -- the machine after its first n visits of the loop
 abbrev pub machine_after : ℕ → Guessing → Serial
@@ -85,6 +89,22 @@ pub record Both : Type 0 where
   pub reply3 : serial_reply (machine_after 3 both_two) (at_loop 2) 100 ≡ Some 2
   pub reply4 : serial_reply (machine_after 4 both_two) (at_loop 3) 100 ≡ Some 4
 
+-- With strides alone, and joined entries, at the visits 2 to 5. The entry of 4 steps leaves the loop, and follows the one
+-- before it. At visit 5 the entry for x5 = 6 follows two others: of these the newest, which is a join itself, goes with it.
+pub record Joins : Type 0 where
+  pub made2 : made_at 2 (machine_after 1 joined_two) ≡ 2
+  pub content2 : steps_of (machine_after 2 joined_two).content ≡ 2 ∷ 4 ∷ 6 ∷ []
+  pub reply2 : serial_reply (machine_after 2 joined_two) (at_loop 1) 100 ≡ None
+  pub made3 : made_at 3 (machine_after 2 joined_two) ≡ 1
+  pub content3 : steps_of (machine_after 3 joined_two).content ≡ 2 ∷ 4 ∷ 6 ∷ 2 ∷ []
+  pub reply3 : serial_reply (machine_after 3 joined_two) (at_loop 2) 100 ≡ Some 6
+  pub reply3_of_5 : serial_reply (machine_after 3 joined_two) (at_loop 2) 5 ≡ Some 2
+  pub made4 : made_at 4 (machine_after 3 joined_two) ≡ 1
+  pub content4 : steps_of (machine_after 4 joined_two).content ≡ 2 ∷ 4 ∷ 6 ∷ 2 ∷ 2 ∷ 4 ∷ []
+  pub reply4 : serial_reply (machine_after 4 joined_two) (at_loop 3) 100 ≡ Some 4
+  pub content5 : steps_of (machine_after 5 joined_two).content ≡ 2 ∷ 4 ∷ 6 ∷ 2 ∷ 2 ∷ 4 ∷ 2 ∷ 6 ∷ []
+  pub reply5 : serial_reply (machine_after 5 joined_two) (at_loop 4) 100 ≡ Some 6
+
 -- ---- visits
 
 -- how the program goes, with no input
@@ -101,8 +121,14 @@ four_visits = visit 8 (Some 4) ∷ visit 6 (Some 2) ∷ visit 4 None ∷ visit 2
 abbrev pub limited_visits : List Visit
 limited_visits = visit 8 None ∷ visit 6 (Some 2) ∷ visit 4 None ∷ visit 2 None ∷ []
 
+-- with joined entries there are three visits, and only the last one has a jump, to the call with which the program ends
+abbrev pub joined_visits : List Visit
+joined_visits = visit 6 (Some 6) ∷ visit 4 None ∷ visit 2 None ∷ []
+
 pub record Visits : Type 0 where
   pub four : AreVisits 20 loop_run (is_mark (recognised.At 0x10008) loop_run) four_visits 20
   pub limited : AreVisits 11 loop_run (is_mark (recognised.At 0x10008) loop_run) limited_visits 11
   pub replies : replies_of four_visits ≡ None ∷ None ∷ Some 2 ∷ Some 4 ∷ []
   pub counts : tally_of four_visits (tally 0 0 0) ≡ tally 4 6 2
+  pub joined : AreVisits 20 loop_run (is_mark (recognised.At 0x10008) loop_run) joined_visits 20
+  pub joined_counts : tally_of joined_visits (tally 0 0 0) ≡ tally 3 6 1

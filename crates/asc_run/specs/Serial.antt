@@ -1,9 +1,11 @@
 -- What is made of the visits of a run without workers: a machine that guesses, traces and keeps entries at each visit.
-use Rattle.std.specs.Prelude.{ℕ, zero, suc, ◌+◌, ◌-◌, List, [], ◌∷◌, ◌++◌, map, length, fold, Option, Some, None, if◌then◌else◌}
-use Rattle.std.specs.List.{flat_map}
+use Rattle.std.specs.Prelude.{ℕ, zero, suc, ◌+◌, ◌-◌, Bool, not, ◌&&◌, List, [], ◌∷◌, ◌++◌, map, length, take, fold, Option, Some, None, if◌then◌else◌}
+use Rattle.std.specs.List.{flat_map, list_any}
+use Rattle.std.specs.Option.{option_or}
 use Rattle.asc_model.specs.State.{State}
 use Rattle.asc_model.specs.Machine.{view_of}
 use Rattle.asc_model.specs.Entry.{Entry, entry_of}
+use Rattle.asc_model.specs.Join.{join_of}
 use Rattle.asc_model.specs.Reach.{Bounds, reach_of}
 use Rattle.asc_guess.specs.declared.kind.Kind.{Kind}
 use Rattle.asc_guess.specs.declared.kind.Kind.TheVariants.{Last, Stride}
@@ -11,7 +13,7 @@ use Rattle.asc_guess.specs.Guess.{guess_of, targets_of}
 use Rattle.asc_find.specs.declared.guessing.Guessing.{Guessing}
 use Rattle.asc_find.specs.Serial.{Serial}
 use Rattle.asc_traj.specs.Trace.{guess_bounds}
-use Rattle.asc_shard.specs.Content.{add}
+use Rattle.asc_shard.specs.Content.{add, is_same_entry}
 use Rattle.asc_shard.specs.Shard.{run_capacity}
 
 -- ---- guesses
@@ -29,26 +31,53 @@ abbrev pub tasks_of : Guessing → (issued number : ℕ) → List Task
 tasks_of g issued number =
     flat_map (λ target. map (λ kind. (kind, target - number)) (kinds_of g)) (targets_of issued number g.ahead)
 
+-- ---- entries that are joined
+
+-- the join of an entry behind the newest of others that it may follow; these are listed from the oldest on
+abbrev pub newest_join : (others : List Entry) → Entry → Option Entry
+newest_join [] e = None
+newest_join (a ∷ newer) e = option_or (newest_join newer e) (join_of a e)
+
+-- the content with an entry, where there is one
+abbrev pub add_found : List Entry → Option Entry → List Entry
+add_found content None = content
+add_found content (Some e) = add run_capacity content e
+
+-- all entries but the newest
+abbrev pub older : List Entry → List Entry
+older content = take (length content - 1) content
+
+-- The join that is due of an entry, where entries are joined and it was not held. Then it was put last, and is joined behind
+-- the newest of the others that it may follow.
+abbrev pub due_join : (join : Bool) → List Entry → Entry → Option Entry
+due_join join held e =
+    if join && not (list_any (is_same_entry e) held) then newest_join (older (add run_capacity held e)) e else None
+
+-- the content with an entry, and with its join where one is due
+abbrev pub add_joined : (join : Bool) → List Entry → Entry → List Entry
+add_joined join held e = add_found (add run_capacity held e) (due_join join held e)
+
 -- ---- traces of guesses
 
 -- a trace of a guess ends at the pc of the last visit
 abbrev pub bounds_at : Guessing → (last : State) → Bounds
 bounds_at g last = guess_bounds (view_of last).pc g.laps g.span
 
--- the content with an entry of so many steps, where there were such
-abbrev pub add_traced : List Entry → (steps : ℕ) → Option Entry → List Entry
-add_traced content steps None = content
-add_traced content zero (Some e) = content
-add_traced content (suc n) (Some e) = add run_capacity content e
+-- the content with an entry of so many steps, where there were such, and with its join
+abbrev pub add_traced : (join : Bool) → List Entry → (steps : ℕ) → Option Entry → List Entry
+add_traced join content steps None = content
+add_traced join content zero (Some e) = content
+add_traced join content (suc n) (Some e) = add_joined join content e
 
--- the content with the entry of a trace of a state
-abbrev pub add_trace : Bounds → List Entry → State → List Entry
-add_trace bounds content start = let steps = reach_of bounds start in
-    add_traced content steps (entry_of steps start)
+-- the content with the entry of a trace of a state, and with its join
+abbrev pub add_trace : (join : Bool) → Bounds → List Entry → State → List Entry
+add_trace join bounds content start = let steps = reach_of bounds start in
+    add_traced join content steps (entry_of steps start)
 
 -- the content once a guess was traced
 abbrev pub add_guess : Guessing → (prev last : State) → List Entry → Task → List Entry
-add_guess g prev last content task = add_trace (bounds_at g last) content (guess_of task.0 task.1 prev last)
+add_guess g prev last content task =
+    add_trace g.join (bounds_at g last) content (guess_of task.0 task.1 prev last)
 
 -- ---- visits
 

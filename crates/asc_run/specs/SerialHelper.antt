@@ -1,6 +1,7 @@
 -- A helper that is the machine of a run without workers.
-use Rattle.std.specs.Prelude.{◌≡◌, ◌≢◌, ◌⊎◌, ℕ, ◌+◌, ◌-◌, ◌^◌, nat_lt, List, [], length, Option, Some, None, if◌then◌else◌}
+use Rattle.std.specs.Prelude.{◌≡◌, ◌≢◌, ◌⊎◌, ℕ, ◌+◌, ◌-◌, ◌^◌, nat_lt, true, List, [], length, Option, Some, None, if◌then◌else◌}
 use Rattle.std.specs.Arc.{arc_value}
+use Rattle.std.specs.Option.{is_some}
 use Rattle.asc_model.specs.Shape.{Shape}
 use Rattle.asc_model.specs.State.{State}
 use Rattle.asc_model.specs.Entry.{Entry}
@@ -14,7 +15,7 @@ use Rattle.asc_shard.specs.Content.{add}
 use Rattle.asc_run.specs.Walk.{tally}
 use Rattle.asc_run.specs.SerialRun.{serial_of}
 use Rattle.asc_shard.specs.Shard.{run_capacity}
-use Rattle.asc_run.specs.Serial.{Task}
+use Rattle.asc_run.specs.Serial.{Task, add_joined, due_join}
 use Rattle.asc_run.specs.LastVisits.{tasks_after, issued_after}
 
 -- the machine, the guesses that were planned at the last visit, and what was counted
@@ -76,9 +77,20 @@ IsPlanned number now old new =
 abbrev pub added : SerialHelper → Entry → SerialHelper
 added h e = record h { machine = record h.machine { content = add run_capacity h.machine.content e } }
 
--- what became of a guess is noted: an entry is added
-abbrev pub settled : SerialHelper → Made → SerialHelper
-settled h (One entry) = added h (arc_value entry)
-settled h Empty = h
-settled h Stopped = h
-settled h Refused = record h { refused = one_more h.refused }
+-- an entry is added, and where entries are joined its join too
+abbrev pub added_joined : SerialHelper → Entry → SerialHelper
+added_joined h e =
+    record h { machine = record h.machine { content = add_joined h.machine.guessing.join h.machine.content e } }
+
+-- memory was wanting, and that is counted
+abbrev pub one_refused : SerialHelper → SerialHelper
+one_refused h = record h { refused = one_more h.refused }
+
+-- What became of a guess is noted: an entry is added, and its join where one is due, unless memory was wanting for that.
+abbrev pub IsSettled : (old : SerialHelper) → Made → (new : SerialHelper) → Type 0
+IsSettled old (One entry) new = (new ≡ added_joined old (arc_value entry))
+    ⊎ ((is_some (due_join old.machine.guessing.join old.machine.content (arc_value entry)) ≡ true)
+    × (new ≡ one_refused (added old (arc_value entry))))
+IsSettled old Empty new = new ≡ old
+IsSettled old Stopped new = new ≡ old
+IsSettled old Refused new = new ≡ one_refused old

@@ -1,7 +1,9 @@
--- Words of private contracts: what a serial helper holds.
-use Rattle.std.specs.Prelude.{◌≡◌, ◌≢◌, ℕ, ◌≤◌, ◌-◌, List, map, slice_index_or, Some, IfSome}
+-- Words of private contracts: what a serial helper holds, and what it does.
+use Rattle.std.specs.Prelude.{◌≡◌, ◌≢◌, ◌⊎◌, ℕ, ◌≤◌, ◌-◌, true, List, [], ◌∷◌, ◌++◌, map, slice_index_or, Some, IfSome}
 use Rattle.std.specs.List.{flat_map, range_with_len}
+use Rattle.std.specs.Option.{is_some}
 use Rattle.asc_model.specs.State.{State}
+use Rattle.asc_model.specs.Entry.{Entry}
 use Rattle.asc_guess.specs.declared.kind.Kind.{Kind}
 use Rattle.asc_guess.specs.Guess.{guess_of}
 use Rattle.asc_find.specs.declared.guessing.Guessing.{Guessing}
@@ -12,8 +14,8 @@ use Rattle.asc_traj.specs.Trace.{trace_cap}
 use Rattle.asc_run.specs.declared.serial.Serial.TheInside.{Inside}
 use Rattle.asc_run.specs.Walk.{tally}
 use Rattle.asc_shard.specs.Shard.{run_capacity}
-use Rattle.asc_run.specs.Serial.{Task, kinds_of, bounds_at}
-use Rattle.asc_run.specs.SerialHelper.{SerialHelper}
+use Rattle.asc_run.specs.Serial.{Task, kinds_of, bounds_at, add_found, newest_join}
+use Rattle.asc_run.specs.SerialHelper.{SerialHelper, one_refused}
 
 -- the guesses of these targets
 abbrev pub tasks_for : Guessing → (number start n : ℕ) → List Task
@@ -53,3 +55,13 @@ abbrev pub MakesJob : SerialHelper → (i : ℕ) → Made → Type 0
 MakesJob h i made = (prev last : State) → h.machine.prev ≡ Some prev → h.machine.last ≡ Some last
     → (kind : Kind) (ahead : ℕ) → slice_index_or h.jobs i (kind, ahead) ≡ (kind, ahead)
     → made ≢ Refused → IsMade (bounds_at h.machine.guessing last) (guess_of kind ahead prev last) 0 0 made
+
+-- the join of the entry that stands last was added, where there is one, or memory was wanting for it
+abbrev pub AddsJoin : (old new : SerialHelper) → Type 0
+AddsJoin old new = (others : List Entry) (e : Entry) → old.machine.content ≡ others ++ e ∷ []
+    → (new ≡ record old {
+      machine = record old.machine {
+        content = add_found old.machine.content (newest_join others e);
+      };
+    })
+    ⊎ ((is_some (newest_join others e) ≡ true) × (new ≡ one_refused old))

@@ -2,6 +2,7 @@
 #![tactic(auto)]
 
 mod helper;
+mod joining;
 mod last_visits;
 mod laws;
 mod made;

@@ -1,4 +1,4 @@
-ghost use Rattle.std.specs.Prelude.{◌≡◌, ◌^◌, ◌<◌, ◌≤◌, [], ◌∷◌, length, slice_index_or, Some, None, IfOk, MatchOption};
+ghost use Rattle.std.specs.Prelude.{◌≡◌, ◌^◌, ◌<◌, ◌≤◌, [], ◌∷◌, length, slice_index_or, Some, None, IfOk, IfSome, MatchOption};
 ghost use Rattle.std.specs.Arc.{arc_value};
 ghost use Rattle.asc_traj.specs.Jump.{IsJump};
 ghost use Rattle.asc_find.specs.Finder.{tally_after, Tells};
@@ -6,11 +6,12 @@ ghost use Rattle.asc_find.specs.Serial.{Serial as machine, serial_reply};
 ghost use Rattle.asc_run.specs.Helped.{aid, Plans, VisitsMachine};
 ghost use Rattle.asc_shard.specs.Content.{outcome_of};
 ghost use Rattle.asc_shard.specs.Shard.{run_capacity};
-ghost use Rattle.asc_run.specs.SerialHelper.{IsPlanned, added, first_helper, plan_of, settled, told_machine};
-ghost use Rattle.asc_run.specs.SerialInside.{MakesJob};
+ghost use Rattle.asc_run.specs.SerialHelper.{IsPlanned, IsSettled, added, first_helper, plan_of, told_machine};
+ghost use Rattle.asc_run.specs.SerialInside.{AddsJoin, MakesJob};
 ghost use Rattle.asc_run.specs.declared.last_visits.TheConstants.{MOST_AHEAD, MOST_JOBS};
 
 use crate::Helper;
+use crate::joining::join_newest;
 use crate::last_visits::LastVisits;
 use crate::made::make;
 use asc_depvec::Tracer;
@@ -28,7 +29,7 @@ use std::sync::Arc;
 /// entries, by which it then finds jumps.
 ///
 /// A visit is made of calls that another runner may make in its place, and do the jobs itself: `plan`, and then, for
-/// each of its jobs in order, `settle` with what became of it. `job` and `pair` tell what a job is.
+/// each of its jobs in order, `settle` with what became of it. `jobs` and `pair` tell what a job is.
 ///
 /// Where memory is wanting less is guessed, and that is counted. Each jump is a plain run all the same.
 #[derive(Drop)]
@@ -123,33 +124,61 @@ impl Serial {
         jobs
     }
 
-    /// A job of the last plan: its kind, and how many visits after the last one it guesses.
+    /// The jobs of the last plan in their order: each one's kind, and how many visits after the last one it guesses.
+    pub fn jobs(&self) -> &[(Kind, u32)]
+        ensures jobs { result.now ≡ self.now.jobs }
+        ensures few { length result.now ≤ MOST_JOBS }
+    {
+        self.visits.jobs()
+    }
+
+    /// One of them.
     pub fn job(&self, i: usize) -> (Kind, u32)
         requires { i < length self.now.jobs }
         ensures { result ≡ slice_index_or self.now.jobs i result }
     {
-        self.visits.jobs()[i]
+        self.jobs()[i]
     }
 
     /// The states of the visit before the last one and of the last one, where there were two and their copies are kept.
     pub fn pair(&self) -> Option<(&Arc<Snapshot>, &Arc<Snapshot>)>
-        ensures { MatchOption result (self.now.machine.prev ≡ None)
+        ensures states { MatchOption result (self.now.machine.prev ≡ None)
             (λ pair. (self.now.machine.prev ≡ Some pair.0.now.value)
             × (self.now.machine.last ≡ Some pair.1.now.value)) }
+        ensures shape { IfSome result (λ pair. (pair.0.now.value.shape ≡ self.now.machine.shape)
+            × (pair.1.now.value.shape ≡ self.now.machine.shape)) }
     {
         self.visits.pair()
     }
 
-    /// Notes what became of the next job.
+    /// Notes what became of the next job. An entry is kept, and where entries are joined and it was not held, so is its
+    /// join behind the newest other that it may follow.
     pub fn settle(&mut self, made: Made)
-        ensures { self.new ≡ settled self.old made }
+        ensures { IsSettled self.old made self.new }
     {
         match made {
             Made::One(entry) => {
-                self.shard.insert(entry);
+                let stored = self.shard.insert(entry) == Inserted::Stored;
+                if stored && self.visits.guessing().join {
+                    self.add_join();
+                }
             }
             Made::Empty | Made::Stopped => {}
             Made::Refused => self.refused = self.refused.saturating_add(1),
+        }
+    }
+
+    // Adds the join of the entry that was put last. Where memory is wanting for it, that is counted.
+    fn add_join(&mut self)
+        requires { 0 < length self.old.machine.content }
+        ensures { AddsJoin self.old self.new }
+    {
+        match join_newest(self.alloc, &self.shard) {
+            Ok(Some(joined)) => {
+                self.shard.insert(joined);
+            }
+            Ok(None) => {}
+            Err(Memory) => self.refused = self.refused.saturating_add(1),
         }
     }
 

@@ -30,9 +30,12 @@ const SAVED: Row = Row {
     report: "",
 };
 
+/// A run that loads the file, and reports its numbers.
+const LOADS: &str = "asc run image --pc 10008 --guess none --load saved --report";
+
 /// Laps 1 and 2 are run. The others are jumped over, by 2 steps and by 4.
 const REPORTED: Row = Row {
-    line: "asc run image --pc 10008 --guess none --load saved --report",
+    line: LOADS,
     report: "asc: executed 7 skipped 6 asked 4 hits 2 made 0 refused 0\n",
     ..SAVED
 };
@@ -199,7 +202,7 @@ static SAVES: [Save; 5] = [
 /// Room for the file, which is put 200 bytes at a time.
 const ROOMY: Devices = Devices {
     most: 200,
-    room: 1024,
+    room: 1200,
     ..SOUND
 };
 
@@ -279,6 +282,45 @@ fn saved_entries(rt: HostRuntime) -> Result<(), Fail> {
         let got = run_saved(&rt, alloc, line, image.to_vec(alloc)?, saved, &ROOMY)?;
         assert_eq!(rt; (got.answer, got.asked(&rt)), (row.answer, 2), "at {line}");
         assert_eq!(rt; got.report.bytes(), row.report.as_bytes(), "at {line}");
+    }
+    Ok(())
+}
+
+/// Saves with joins, and the bytes of their files. With 11 steps the run comes to another visit, whose entry follows the one
+/// before: their join is there too.
+static JOINED: [(&str, usize); 2] = [
+    (
+        "asc save image --pc 10008 --guess stride --ahead 2 --join",
+        804,
+    ),
+    (
+        "asc save image --pc 10008 --guess stride --ahead 2 --join --steps 11",
+        1116,
+    ),
+];
+
+/// Of the entries of x5 = 2 and x5 = 3 a save with joins also keeps one of both, by which another run jumps to its end.
+#[test]
+fn joined_entries(rt: HostRuntime) -> Result<(), Fail> {
+    let alloc = rt.alloc();
+    for (line, length) in JOINED {
+        let none = Vec::new(alloc);
+        let got = run_saved(&rt, alloc, line, wrap(alloc, COUNTS)?, none, &ROOMY)?;
+        assert_eq!(rt; got.answer, Answer::Done(0), "at {line}");
+        let file = got.out.bytes();
+        assert_eq!(rt;
+            (file.len(), steps(file)),
+            (length, [2, 4, 6, 2]),
+            "at {line}"
+        );
+        let saved = file.to_vec(alloc)?;
+        let image = wrap(alloc, COUNTS)?;
+        let got = run_saved(&rt, alloc, LOADS, image, saved, &ROOMY)?;
+        let report = "asc: executed 7 skipped 6 asked 3 hits 1 made 0 refused 0\n";
+        assert_eq!(rt;
+            (got.answer, got.report.bytes()),
+            (Answer::Exit(0), report.as_bytes())
+        );
     }
     Ok(())
 }

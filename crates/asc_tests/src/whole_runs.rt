@@ -499,7 +499,7 @@ const NO_ADDRESS: Want = Want {
     ..USAGE
 };
 
-static NUMBERED: [Row; 33] = [
+static NUMBERED: [Row; 36] = [
     COUNTING,
     // The recognised address: a jump is asked for at each visit.
     Row {
@@ -581,6 +581,33 @@ static NUMBERED: [Row; 33] = [
     },
     Row {
         line: "asc run image --pc 10008 --guess stride --ahead 2 --report --steps 11",
+        want: Want {
+            answer: Answer::Limit(11),
+            report: "asc: limit after 11\nasc: executed 9 skipped 2 asked 4 hits 1 made 4 refused 0\n",
+            ..QUIET
+        },
+        ..COUNTING
+    },
+    // The entries of x5 = 2 and x5 = 3 are joined: one jump goes from the third visit to the end, where so many steps are left.
+    Row {
+        line: "asc run image --pc 10008 --guess stride --ahead 2 --join --report",
+        want: Want {
+            report: "asc: executed 7 skipped 6 asked 3 hits 1 made 3 refused 0\n",
+            ..QUIET
+        },
+        ..COUNTING
+    },
+    Row {
+        line: "asc run image --pc 10008 --guess stride --ahead 2 --join --report --steps 12",
+        want: Want {
+            answer: Answer::Limit(12),
+            report: "asc: limit after 12\nasc: executed 6 skipped 6 asked 3 hits 1 made 3 refused 0\n",
+            ..QUIET
+        },
+        ..COUNTING
+    },
+    Row {
+        line: "asc run image --pc 10008 --guess stride --ahead 2 --join --report --steps 11",
         want: Want {
             answer: Answer::Limit(11),
             report: "asc: limit after 11\nasc: executed 9 skipped 2 asked 4 hits 1 made 4 refused 0\n",

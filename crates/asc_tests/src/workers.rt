@@ -13,17 +13,24 @@ use std::thread::Threads;
 /// How often a hold looks whether it is over, at most.
 const TURNS: u64 = 1_000_000;
 
-/// A run that is held up, how many jobs its workers run at least, and how its report begins and ends.
+/// A run that is held up, how many visits ask for a jump and how many jobs are pushed, how many of these its workers run
+/// at least, and how its report begins and ends.
 #[derive(Drop)]
 struct Held<'a> {
     line: &'static str,
     holds: &'a [Hold],
+    asked: u64,
+    made: u64,
     least: u64,
     begins: &'static str,
     ends: &'static str,
 }
 
 const TWO: &str = "asc run image --pc 10008 --guess stride --ahead 2 --report --workers 2";
+
+/// One worker joins the entries of its jobs.
+const JOINED: &str =
+    "asc run image --pc 10008 --guess stride --ahead 2 --join --report --workers 1";
 
 const FOUR: &str = "asc run image --pc 10008 --guess stride --ahead 2 --report --workers 4";
 
@@ -97,18 +104,15 @@ fn count_held<R: Abort + Threads + Wait + Sync + Copy + Drop + Send>(
     assert!(rt; gate.all_held(), "a hold did not hold at {report}");
     assert_eq!(rt; got.answer, Answer::Exit(0), "at {report}");
     let told = numbers(report);
-    let (executed, skipped, asked) = (told[0], told[1], told[2]);
-    let (made, refused, ran, left, full) = (told[4], told[5], told[6], told[7], told[13]);
+    let (executed, skipped) = (told[0], told[1]);
+    let (refused, ran, left, full) = (told[5], told[6], told[7], told[13]);
     let columns = told[8..13]
         .iter()
         .fold(0, |sum: u64, n| sum.wrapping_add(*n));
-    assert_eq!(rt;
-        (executed.wrapping_add(skipped), asked),
-        (13, 4),
-        "at {report}"
-    );
-    assert_eq!(rt; (made, refused, full), (4, 0, 0), "at {report}");
-    assert_eq!(rt; ran.wrapping_add(left), made, "at {report}");
+    assert_eq!(rt; executed.wrapping_add(skipped), 13, "at {report}");
+    assert_eq!(rt; (told[2], told[4]), (held.asked, held.made), "at {report}");
+    assert_eq!(rt; (refused, full), (0, 0), "at {report}");
+    assert_eq!(rt; ran.wrapping_add(left), held.made, "at {report}");
     assert_eq!(rt; columns, ran, "at {report}");
     assert!(rt; ran >= held.least, "at {report}");
     assert!(rt;
@@ -133,6 +137,8 @@ fn held_workers(rt: HostRuntime) -> Result<(), Fail> {
                 end_until(0),
                 end_until(1),
             ],
+            asked: 4,
+            made: 4,
             least: 2,
             begins: "asc: executed ",
             ends: "\n",
@@ -140,8 +146,20 @@ fn held_workers(rt: HostRuntime) -> Result<(), Fail> {
         Held {
             line: TWO,
             holds: &[third_visit_until(0), third_visit_until(1)],
+            asked: 4,
+            made: 4,
             least: 2,
             begins: "asc: executed 7 skipped 6 asked 4 hits 2 made 4 refused 0\n",
+            ends: "\n",
+        },
+        // A jump goes from the third visit to the end.
+        Held {
+            line: JOINED,
+            holds: &[third_visit_until(0), third_visit_until(1)],
+            asked: 3,
+            made: 3,
+            least: 2,
+            begins: "asc: executed 7 skipped 6 asked 3 hits 1 made 3 refused 0\n",
             ends: "\n",
         },
         Held {
@@ -155,6 +173,8 @@ fn held_workers(rt: HostRuntime) -> Result<(), Fail> {
                 end_until(2),
                 end_until(3),
             ],
+            asked: 4,
+            made: 4,
             least: 4,
             begins: "asc: executed ",
             ends: "asc: ran 4 left 0 stored 4 known 0 empty 0 dropped 0 stopped 0 full 0\n",
@@ -193,6 +213,8 @@ fn held_until_the_end(rt: HostRuntime) -> Result<(), Fail> {
             let held = Held {
                 line: TWO,
                 holds: &[until_end(at, ticket), end_until_at(at, ticket)],
+                asked: 4,
+                made: 4,
                 least: 1,
                 begins: "asc: executed ",
                 ends: "\n",

@@ -46,6 +46,7 @@ guessing_of line = record {
   laps = line.laps;
   span = line.span;
   ahead = line.ahead;
+  join = line.join;
 }
 
 -- workers run its guesses

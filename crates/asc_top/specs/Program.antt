@@ -185,6 +185,7 @@ trial_run workers = record {
   ahead = 2;
   workers = workers;
   queue = 256;
+  join = false;
   report = true;
   load = None;
 }

@@ -34,6 +34,7 @@ pub(crate) fn guessing_of(line: &RunLine) -> Guessing
         laps: line.laps,
         span: line.span,
         ahead: line.ahead,
+        join: line.join,
     }
 }
 

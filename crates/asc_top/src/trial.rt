@@ -169,6 +169,7 @@ fn trial_run(alloc: Global, workers: usize) -> RunLine
         ahead: 2,
         workers,
         queue: 256,
+        join: false,
         report: true,
         load: None,
     }

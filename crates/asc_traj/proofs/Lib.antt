@@ -8,3 +8,6 @@ pub mod Finding
 pub mod Splits
 pub mod Parts
 pub mod Reaching
+pub mod Masks
+pub mod Taking
+pub mod Merging

@@ -140,7 +140,7 @@ digits-eq b v x y lb lv = elim (cases_eq b v) [
   | inr apart ↦ ne_eqb (b + 256 * x) (v + 256 * y) (λ s. apart (omega arith)) ∙ sym (ap (λ (t : Bool). t && (x == y)) (ne_eqb b v apart))
 ]
 
-digits : (t : Bool) (b v x y : ℕ) → b < 256 → v < 256 → ((if t then b else 0) + 256 * x == (if t then v else 0) + 256 * y) ≡ ((if t then (b == v) else true) && (x == y))
+pub digits : (t : Bool) (b v x y : ℕ) → b < 256 → v < 256 → ((if t then b else 0) + 256 * x == (if t then v else 0) + 256 * y) ≡ ((if t then (b == v) else true) && (x == y))
 digits true b v x y lb lv = digits-eq b v x y lb lv
 digits false b v x y lb lv = digits-eq 0 0 x y (omega arith) (omega arith)
 

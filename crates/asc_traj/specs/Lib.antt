@@ -4,3 +4,4 @@ pub mod Inside
 pub mod Content
 pub mod Made
 pub mod Jump
+pub mod Joining

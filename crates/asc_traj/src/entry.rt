@@ -1,10 +1,12 @@
-ghost use Rattle.std.specs.Prelude.{◌≡◌, ℕ, ◌+◌, ◌*◌, ◌≤◌, ◌<◌, ◌^◌, ◌==◌, true, false, [], ◌++◌, All, IfOk, Some, length, slice_index, vec_capacity, vec_len};
+ghost use Rattle.std.specs.Prelude.{◌≡◌, ℕ, ◌+◌, ◌*◌, ◌≤◌, ◌<◌, ◌^◌, ◌==◌, true, false, [], ◌++◌, All, IfOk, OnErr, Some, length, slice_index, vec_capacity, vec_len};
 ghost use Rattle.std.specs.List.{list_all};
 ghost use Rattle.std.specs.Arc.{arc_value};
+ghost use Rattle.std.specs.Option.{option_map};
 ghost use Rattle.asc_model.specs.declared.status.Status.TheVariants.{Read};
 ghost use Rattle.asc_model.specs.Shape.{length_of};
 ghost use Rattle.asc_model.specs.State.{IsState};
 ghost use Rattle.asc_model.specs.Entry.{IsTrueEntry, Matches, put_entry, entry_of};
+ghost use Rattle.asc_model.specs.Join.{can_join, join_of};
 ghost use Rattle.asc_model.specs.Step.{At};
 ghost use Rattle.asc_model.specs.Plain.{plain};
 ghost use Rattle.asc_model.specs.Places.{bytes_after, cells, places_from};
@@ -17,6 +19,7 @@ ghost use Rattle.asc_traj.specs.Parts.{IsPart, all_cells, part_cells, word_place
 ghost use Rattle.asc_traj.specs.Trace.{StandsFor, origin_of};
 ghost use Rattle.asc_traj.specs.Inside.{AreHalves, HasGrown, HasSplit, is_read_first, is_written, mask_at, mask_of, now_at, places_of_words, read_first, started, written};
 
+use crate::join::{can_join, join_halves};
 use crate::part::{Part, has_parts, push};
 use crate::tracing::known;
 use asc_depvec::{Block, Tracer};
@@ -40,9 +43,9 @@ pub struct Entry {
 
 /// The parts of an entry: of the places that were read first, and of those that were written.
 #[derive(Drop)]
-struct Halves {
-    reads: Vec<Part>,
-    writes: Vec<Part>,
+pub(crate) struct Halves {
+    pub(crate) reads: Vec<Part>,
+    pub(crate) writes: Vec<Part>,
 }
 
 impl Model for Entry {
@@ -85,6 +88,27 @@ impl Entry {
                 steps,
             },
         )?)
+    }
+
+    /// The entry of the first one's steps and then the second one's. There is one exactly where the second may follow the
+    /// first: both are of one shape, and have together at most 1,000,000,000 steps, and 4,096 reads and writes. The second
+    /// reads each byte as the first leaves it, or reads and does not write it. Memory is wanting only where there is one.
+    pub fn join(alloc: Global, first: &Entry, second: &Entry) -> Result<Option<Arc<Entry>>, Memory>
+        ensures joined { IfOk result (λ joined. option_map arc_value joined ≡ join_of first.now second.now) }
+        ensures memory { OnErr result (can_join first.now second.now ≡ true) }
+    {
+        if !can_join(first, second) {
+            return Ok(None);
+        }
+        first.truth();
+        second.truth();
+        let halves = join_halves(alloc, first, second)?;
+        let entry = Entry {
+            shape: first.shape(),
+            halves,
+            steps: first.steps() + second.steps(),
+        };
+        Ok(Some(Arc::new(alloc, entry)?))
     }
 
     /// It does nothing. A caller's proof learns from it what holds of every entry.

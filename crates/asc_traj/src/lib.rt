@@ -6,6 +6,7 @@ mod beside;
 mod cells;
 mod entry;
 mod halt;
+mod join;
 mod longest;
 mod made;
 mod part;

@@ -52,7 +52,7 @@ impl Part {
         requires { word_place self.now + 4 ≤ length_of state.now.shape }
         ensures { result ≡ kept 4 (self.now.at % 16) (word_at state.now.bytes (word_place self.now)) }
     {
-        state.word(self.at / 16 * 4) & BYTES[(self.at % 16) as usize]
+        kept(self.at % 16, state.word(self.at / 16 * 4))
     }
 
     /// Whether a state has its bytes.
@@ -94,6 +94,15 @@ impl Part {
             put_bytes(state, self.at / 16 * 4, self.at % 16, self.word);
         }
     }
+}
+
+/// Those of the four bytes of a word that a mask has, and 0 for the others.
+#[inline]
+pub(crate) fn kept(mask: u32, word: u32) -> u32
+    requires { mask < 16 }
+    ensures { result ≡ kept 4 mask word }
+{
+    word & BYTES[mask as usize]
 }
 
 /// Whether a state has each of these parts. The first one tells most of those that it does not have.
@@ -183,16 +192,17 @@ pub(crate) fn push(parts: &mut Vec<Part>, index: u32, mask: u32, word: u32)
     requires index { index < 2 ^ 28 }
     requires mask { mask < 16 }
     requires parts { All IsPart parts.old.items }
-    requires room { vec_len parts.old < vec_capacity parts.old }
+    requires room { 0 < mask → vec_len parts.old < vec_capacity parts.old }
     ensures parts { All IsPart parts.new.items }
     ensures cells { all_cells parts.new.items ≡ all_cells parts.old.items ++ masked 4 mask (4 * index) word }
     ensures few { vec_len parts.new ≤ vec_len parts.old + 1 }
+    ensures none { mask ≡ 0 → vec_len parts.new ≡ vec_len parts.old }
     ensures capacity { vec_capacity parts.new ≡ vec_capacity parts.old }
 {
     if mask != 0 {
         parts.push_reserved(Part {
             at: 16 * index + mask,
-            word: word & BYTES[mask as usize],
+            word: kept(mask, word),
         });
     }
 }

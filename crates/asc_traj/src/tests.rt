@@ -583,3 +583,177 @@ fn shared(rt: HostRuntime) {
     let held: &Entry = &entry;
     is_shared(held);
 }
+
+/// The entry of so many steps of a state, which all go on.
+fn entry_of_steps<R: Abort>(rt: &R, alloc: Global, from: &State, steps: u64) -> Arc<Entry> {
+    let stop = stop_at(u64::MAX, steps);
+    let (traced, mut tracer) = traced(rt, alloc, from, 8_192, stop, &mut Never);
+    assert_eq!(rt; traced, end(steps, Why::Span));
+    assert!(rt; traced.steps >= 1);
+    Entry::of(alloc, &mut tracer, traced.steps).expect(rt, "memory")
+}
+
+/// A state after so many steps of another.
+fn after<R: Abort>(rt: &R, alloc: Global, from: &State, steps: u64) -> State {
+    let mut state = State::new(alloc, from.shape()).expect(rt, "memory");
+    state.copy_from(from);
+    take(rt, &mut state, steps);
+    state
+}
+
+/// The same state with another byte at a place.
+fn changed<R: Abort>(rt: &R, alloc: Global, from: &State, place: u32, byte: u8) -> State {
+    let mut state = after(rt, alloc, from, 0);
+    assert!(rt; (place as usize) < state.len());
+    state.set(place, byte);
+    state
+}
+
+/// A state at these words from 0x10000 on, x10 at 0x11001, x5 7, and bytes from 0x11000 on.
+fn at_words<R: Abort>(rt: &R, alloc: Global, shape: Shape, words: &[u32]) -> State {
+    let mut state = state_of(rt, alloc, shape, words);
+    state.set_reg(5, 7);
+    state.set_reg(10, 0x11001);
+    for (place, byte) in (4224..4232).zip([0x11, 0x22, 0x33, 0x44, 0x55, 0x66, 0x77, 0x88]) {
+        assert!(rt; (place as usize) < state.len());
+        state.set(place, byte);
+    }
+    state
+}
+
+/// The join of the entries of these steps of two states.
+fn join_of<R: Abort>(
+    rt: &R,
+    alloc: Global,
+    first: (&State, u64),
+    second: (&State, u64),
+) -> Option<Arc<Entry>> {
+    let a = entry_of_steps(rt, alloc, first.0, first.1);
+    let b = entry_of_steps(rt, alloc, second.0, second.1);
+    Entry::join(alloc, &a, &b).expect(rt, "memory")
+}
+
+// Two laps of the counting loop, the second of which is its last one, with two steps behind it.
+#[test]
+fn joined_laps(rt: HostRuntime) {
+    let alloc = rt.alloc();
+    let mut from = counting(&rt, alloc, 0x10008, 4);
+    from.set_reg(5, 2);
+    let joined = join_of(&rt, alloc, (&from, 2), (&after(&rt, alloc, &from, 2), 4));
+    let joined = joined.expect(&rt, "x5 is 3 after the first");
+    let reads: [Run; 3] = [
+        (0, &[8, 0, 1, 0]),
+        (20, &[2, 0, 0, 0, 4, 0, 0, 0]),
+        (
+            136,
+            &[
+                0x93, 0x82, 0x12, 0, 0xE3, 0x9E, 0x62, 0xFE, 0x93, 8, 0xD0, 5, 0x13, 5, 0, 0,
+            ],
+        ),
+    ];
+    let writes: [Run; 4] = [
+        (0, &[0x18, 0, 1, 0]),
+        (20, &[4, 0, 0, 0]),
+        (40, &[0, 0, 0, 0]),
+        (68, &[93, 0, 0, 0]),
+    ];
+    look(&rt, alloc, &joined, &reads, &writes, 6);
+    put_is_steps(&rt, alloc, &joined, &from);
+    let mut later = counting(&rt, alloc, 0x10008, 4);
+    later.set_reg(5, 4);
+    assert!(rt; join_of(&rt, alloc, (&from, 2), (&later, 2)).is_none());
+}
+
+// An entry of all steps of a state is the join of those of its first ones and of the others, if these are not too many.
+#[test]
+fn joined_parts(rt: HostRuntime) {
+    let alloc = rt.alloc();
+    let one = shape_one(&rt);
+    // SB x5, 0(x10); ADDI x10, x10, 1; JAL x0, -8: of n laps the entry has 24 reads and n + 8 writes
+    let fills = at_words(&rt, alloc, one, &[0x0055_0023, 0x0015_0513, 0xFF9F_F06F]);
+    // SW x5, 0(x10); LW x6, 0(x10)
+    let stores = at_words(&rt, alloc, one, &[0x0055_2023, 0x0005_2303]);
+    // LW x6, 0(x10); SW x5, 0(x10); LW x7, 0(x10)
+    let swaps = at_words(&rt, alloc, one, &[0x0005_2303, 0x0055_2023, 0x0005_2383]);
+    // LB x6, 0(x10); LB x7, 1(x10); SB x5, 2(x10); LHU x6, 1(x10)
+    let bytes = [0x0005_0303, 0x0015_0383, 0x0055_0123, 0x0015_5303];
+    let bytes = at_words(&rt, alloc, one, &bytes);
+    let changes = changing(&rt, alloc);
+    for (from, first, second, there) in [
+        (&fills, 3, 3, true),
+        (&fills, 6, 9, true),
+        (&fills, 3 * 2001, 3 * 2031, true),
+        (&fills, 3 * 2001, 3 * 2032, false),
+        (&stores, 1, 1, true),
+        (&swaps, 1, 2, true),
+        (&swaps, 2, 1, true),
+        (&bytes, 1, 1, true),
+        (&bytes, 1, 3, true),
+        (&bytes, 2, 2, true),
+        (&bytes, 3, 1, true),
+        (&changes, 2, 2, true),
+        (&changes, 4, 1, true),
+    ] {
+        let joined = join_of(
+            &rt,
+            alloc,
+            (from, first),
+            (&after(&rt, alloc, from, first), second),
+        );
+        assert_eq!(rt; joined.is_some(), there);
+        if let Some(joined) = joined {
+            let steps = first.checked_add(second).expect(&rt, "a count of steps");
+            let all = entry_of_steps(&rt, alloc, from, steps);
+            for (parts, others) in [
+                (joined.reads(), all.reads()),
+                (joined.writes(), all.writes()),
+            ] {
+                let found = cells_of(alloc, parts).expect(&rt, "memory");
+                let cells = cells_of(alloc, others).expect(&rt, "memory");
+                assert_eq!(rt; found.as_slice(), cells.as_slice());
+            }
+            assert_eq!(rt; joined.steps(), steps);
+            put_is_steps(&rt, alloc, &joined, from);
+        }
+    }
+}
+
+// A second entry of another shape, or that reads a byte otherwise than the first one leaves or reads it.
+#[test]
+fn not_joined(rt: HostRuntime) {
+    let alloc = rt.alloc();
+    let one = shape_one(&rt);
+    // SW x5, 0(x10); LW x6, 0(x10)
+    let stores = at_words(&rt, alloc, one, &[0x0055_2023, 0x0005_2303]);
+    let stored = after(&rt, alloc, &stores, 1);
+    // LW x6, 0(x10); LW x7, 0(x10)
+    let loads = at_words(&rt, alloc, one, &[0x0005_2303, 0x0005_2383]);
+    let loaded = after(&rt, alloc, &loads, 1);
+    // ADDI x0, x0, 5
+    let word = [0x0050_0013, 0x0050_0013];
+    let low = at_words(&rt, alloc, one, &word);
+    let two = after(&rt, alloc, &at_words(&rt, alloc, shape_two(&rt), &word), 1);
+    let large = Shape::new(0x10000, 65_540).expect(&rt, "four bytes more");
+    let large = after(&rt, alloc, &at_words(&rt, alloc, large, &word), 1);
+    for (first, second, there) in [
+        (&stores, &stored, true),
+        (&stores, &changed(&rt, alloc, &stored, 4225, 8), false),
+        (&stores, &changed(&rt, alloc, &stored, 4228, 8), false),
+        (&stores, &changed(&rt, alloc, &stored, 4224, 8), true),
+        (&stores, &changed(&rt, alloc, &stored, 4229, 8), true),
+        (&loads, &loaded, true),
+        (&loads, &changed(&rt, alloc, &loaded, 4225, 8), false),
+        (&loads, &changed(&rt, alloc, &loaded, 4228, 8), false),
+        (&loads, &changed(&rt, alloc, &loaded, 4229, 8), true),
+        (&loads, &changed(&rt, alloc, &loaded, 40, 2), false),
+        (&loads, &changed(&rt, alloc, &loaded, 24, 2), true),
+        (&low, &after(&rt, alloc, &low, 1), true),
+        (&low, &two, false),
+        (&low, &large, false),
+    ] {
+        assert_eq!(rt;
+            join_of(&rt, alloc, (first, 1), (second, 1)).is_some(),
+            there
+        );
+    }
+}

@@ -138,6 +138,9 @@ image = with_index 1 (filled (required (codes "image")))
 abbrev guess : Rule
 guess = filled (text_with_default (codes "guess") (codes "stride"))
 
+abbrev join : Rule
+join = filled (flag (codes "join"))
+
 abbrev report : Rule
 report = filled (flag (codes "report"))
 
@@ -169,6 +172,7 @@ module _ (s : Shape) (more : List Rule) (shared : s.rules ≡ built_save.rules +
     span = shared_number (codes "span") 1 1000000000 (codes "1000000") refl;
     ahead = shared_number (codes "ahead") 1 64 (codes "4") refl;
     queue = shared_number (codes "queue") 1 1024 (codes "256") refl;
+    join = has_flag join (rows_found s words) refl (of_default s once options distinct words level join (rule_is (codes "join") _ refl) refl);
   }
 
 run_options : AreOptions built_run.rules

@@ -52,6 +52,7 @@ shared_arguments =
     ∷ number_option (codes "span") 1 1000000000 (codes "1000000")
     ∷ number_option (codes "ahead") 1 64 (codes "4")
     ∷ number_option (codes "queue") 1 1024 (codes "256")
+    ∷ flag (codes "join")
     ∷ []
 
 -- what `asc run` takes: workers, a file of saved entries and a report besides

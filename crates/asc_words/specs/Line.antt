@@ -75,6 +75,7 @@ shared_with rows guesses pc = record {
   ahead = number_in (codes "ahead") rows;
   workers = 0;
   queue = number_in (codes "queue") rows;
+  join = flag_in (codes "join") rows;
   report = false;
   load = None;
 }

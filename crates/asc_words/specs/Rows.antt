@@ -43,6 +43,7 @@ pub record HasShared (rows : List Row) : Type 0 where
   pub span : HasNumber (codes "span") 1 1000000000 rows
   pub ahead : HasNumber (codes "ahead") 1 64 rows
   pub queue : HasNumber (codes "queue") 1 1024 rows
+  pub join : HasFlag (codes "join") rows
 
 -- what `asc run` takes has its values
 pub record IsRun (rows : List Row) : Type 0 where

@@ -77,6 +77,8 @@ pub struct RunLine {
     pub workers: usize,
     /// How many guesses wait for workers at most, from 1 to 1,024.
     pub queue: usize,
+    /// Whether the entry of a guess is also joined with an earlier one that it may follow.
+    pub join: bool,
     /// Whether the numbers of the run are reported.
     pub report: bool,
     /// The file of saved entries that is loaded before the run.
@@ -212,6 +214,7 @@ fn shared_line(alloc: Global, found: &ArgMatches<'_>) -> Result<RunLine, LineFau
         ahead: number(found, "ahead") as u32,
         workers: 0,
         queue: number(found, "queue") as usize,
+        join: flag(found, "join"),
         report: false,
         load: None,
     })

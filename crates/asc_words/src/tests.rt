@@ -127,7 +127,7 @@ static LINES: [(&str, &str); 87] = [
 ];
 
 /// The same of options that say how guesses are made and followed.
-static GUESS_LINES: [(&str, &str); 42] = [
+static GUESS_LINES: [(&str, &str); 51] = [
     // which guesses are made
     ("asc run a --guess none", "a 1024 1099511627776 2 none"),
     ("asc run a --guess last", "a 1024 1099511627776 2 last"),
@@ -190,6 +190,19 @@ static GUESS_LINES: [(&str, &str); 42] = [
     ),
     ("asc run a --ahead 2 --ahead 2", "refused"),
     ("asc run a --queue", "refused"),
+    // whether entries are joined: a flag, on a run and on a save alone
+    ("asc run a --join", "a 1024 1099511627776 2 join"),
+    (
+        "asc run --join a --report --queue 9",
+        "a 1024 1099511627776 2 queue 9 join report",
+    ),
+    ("asc save i --join", "save i 1024 1099511627776 2 join"),
+    ("asc run a --join --join", "refused"),
+    ("asc run a --join=1", "refused"),
+    ("asc save i --join --join", "refused"),
+    ("asc save i --join=1", "refused"),
+    ("asc make 0 --join", "refused"),
+    ("asc trial 0 --join", "refused"),
 ];
 
 /// The same of saved entries, of other subcommands, and of help.
@@ -298,6 +311,9 @@ fn run_text(alloc: Global, line: &RunLine) -> Result<String, AllocError> {
         if number != default {
             meaning.push_str(format!(in alloc; " {name} {number}")?.as_str())?;
         }
+    }
+    if line.join {
+        meaning.push_str(" join")?;
     }
     if line.report {
         meaning.push_str(" report")?;

@@ -1,3 +1,4 @@
 pub mod Posts
+pub mod Joins
 pub mod HaltSteps
 pub mod HaltShared

@@ -22,6 +22,7 @@ pub record HasWorked {W H : Type 0} (w : Worker W H) (t : Taker) (v : Worker W H
   pub shape : v.shape ≡ w.shape
   pub laps : v.laps ≡ w.laps
   pub span : v.span ≡ w.span
+  pub join : v.join ≡ w.join
 
 -- A worker at its post took jobs and counted as many in its tally, until its halt said to stop.
 pub record HasServed {W H : Type 0} (count : H → ℕ) (p q : Post W H) : Type 0 where

@@ -1,9 +1,11 @@
 -- Workers, and what running a job does.
-use Rattle.std.specs.Prelude.{◌≡◌, ℕ, ◌≤◌, Option, Some}
+use Rattle.std.specs.Prelude.{◌≡◌, ℕ, ◌≤◌, Bool, true, false, ◌&&◌, Option, Some, None, if◌then◌else◌}
+use Rattle.std.specs.Option.{is_some}
 use Rattle.asc_model.specs.Shape.{Shape}
 use Rattle.asc_model.specs.State.{State}
 use Rattle.asc_model.specs.Machine.{view_of}
 use Rattle.asc_model.specs.Entry.{Entry, entry_of}
+use Rattle.asc_model.specs.Join.{join_of}
 use Rattle.asc_model.specs.Reach.{Bounds, reach_of}
 use Rattle.asc_outside.specs.Outside.{one_more}
 use Rattle.asc_guess.specs.Guess.{guess_of}
@@ -19,7 +21,9 @@ use Rattle.asc_jobs.specs.declared.job.Job.{Job}
 use Rattle.asc_jobs.specs.declared.tally.Column.{Column}
 use Rattle.asc_jobs.specs.declared.tally.Column.TheVariants.{Stored, Known, Empty, Dropped, Stopped}
 
--- a worker: the shape of its states, how far it traces a guess, where it inserts entries, what stops it, and its tally
+-- A worker: the shape of its states, how far it traces a guess, where it inserts entries, what stops it, and its tally.
+-- Where it joins entries it keeps the entry of the last job that was stored. It counts the jobs at which a join, or an entry
+-- to keep, was left out for want of memory.
 pub record Worker (W H : Type 0) : Type 0 where
   pub shape : Shape
   pub laps : ℕ
@@ -27,6 +31,9 @@ pub record Worker (W H : Type 0) : Type 0 where
   pub writer : W
   pub halt : H
   pub tally : Counts
+  pub join : Bool
+  pub kept : Option Entry
+  pub left_out : ℕ
 
 -- the guess of a job
 abbrev pub guess_for : Job → State
@@ -56,13 +63,47 @@ Inserts answer entry old new = (e : Entry) × (entry ≡ Some e) × (answer ≡ 
 abbrev pub entry_for : (laps span : ℕ) → Job → Option Entry
 entry_for laps span job = entry_of (steps_for laps span job) (guess_for job)
 
--- what a job that was noted in a column did to the content of a shard
-abbrev pub HasInserted : {W H : Type 0} → Column → Worker W H → Job → (old new : Shard) → Type 0
-HasInserted Stored w job old new = IsOfShape w.shape job × Inserts answers.Stored (entry_for w.laps w.span job) old new
-HasInserted Known w job old new = IsOfShape w.shape job × Inserts answers.Known (entry_for w.laps w.span job) old new
-HasInserted Empty w job old new = new ≡ old
-HasInserted Dropped w job old new = IsOfShape w.shape job × (1 ≤ steps_for w.laps w.span job) × (new ≡ old)
-HasInserted Stopped w job old new = new ≡ old
+-- the join of the entry that a worker keeps, and of another behind it
+abbrev pub join_behind : (kept : Option Entry) → Entry → Option Entry
+join_behind None e = None
+join_behind (Some kept) e = join_of kept e
+
+-- a shard after an insertion of an entry, where there is one
+abbrev pub shard_with : Shard → Option Entry → Shard
+shard_with s None = s
+shard_with s (Some e) = shard_after s e
+
+-- A worker w that joins entries became v once an entry was stored, which had left a shard at `between`. The entry is kept,
+-- and its join behind the one kept before is inserted, where there is one. What of this is left out is counted.
+pub record HasJoined {W H : Type 0} (w v : Worker W H) (e : Entry) (between new : Shard) : Type 0 where
+  pub keeps : Bool
+  pub joins : Bool
+  pub kept : v.kept ≡ (if keeps then Some e else None)
+  pub content : new ≡ (if joins then shard_with between (join_behind w.kept e) else between)
+  pub left_out : v.left_out ≡ (if keeps && joins then w.left_out else one_more w.left_out)
+  pub due : joins ≡ false → is_some (join_behind w.kept e) ≡ true
+
+-- what a worker keeps for joins, and its count of what was left out, are as they were
+abbrev pub KeepsJoin : {W H : Type 0} → (w v : Worker W H) → Type 0
+KeepsJoin w v = (v.kept ≡ w.kept) × (v.left_out ≡ w.left_out)
+
+-- the entry of a job was stored, which took a shard from old to new
+pub record HasStored {W H : Type 0} (w v : Worker W H) (entry : Option Entry) (old new : Shard) : Type 0 where
+  pub e : Entry
+  pub is : entry ≡ Some e
+  pub stored : outcome_of old.held e ≡ answers.Stored
+  pub alone : w.join ≡ false → KeepsJoin w v × (new ≡ shard_after old e)
+  pub joined : w.join ≡ true → HasJoined w v e (shard_after old e) new
+
+-- What a job that was noted in a column did to the content of a shard, and to the worker w, which is v then.
+abbrev pub HasInserted : {W H : Type 0} → Column → (w v : Worker W H) → Job → (old new : Shard) → Type 0
+HasInserted Stored w v job old new = IsOfShape w.shape job × HasStored w v (entry_for w.laps w.span job) old new
+HasInserted Known w v job old new =
+    IsOfShape w.shape job × Inserts answers.Known (entry_for w.laps w.span job) old new × KeepsJoin w v
+HasInserted Empty w v job old new = (new ≡ old) × KeepsJoin w v
+HasInserted Dropped w v job old new =
+    IsOfShape w.shape job × (1 ≤ steps_for w.laps w.span job) × (new ≡ old) × KeepsJoin w v
+HasInserted Stopped w v job old new = (new ≡ old) × KeepsJoin w v
 
 -- What a job that was noted in a column did to the count of yes answers of the worker's halt. A job that gives no entry may
 -- have been asked to stop before that was known.
@@ -81,15 +122,15 @@ pub record HasRun {W H : Type 0} (count : H → ℕ) (content : W → Shard) (w 
   pub other : (IsOfShape w.shape job → ⊥) → column ≡ Empty
   pub steps : IsEmpty w job → column ≡ Empty
   pub halt : HasAsked column (count w.halt) (count v.halt)
-  pub inserted : HasInserted column w job (content w.writer) (content v.writer)
+  pub inserted : HasInserted column w v job (content w.writer) (content v.writer)
   pub tally : v.tally ≡ noted column w.tally
 
 -- ---- words of private contracts
 
--- what became of an entry
-abbrev pub Ends : Column → Option Entry → (old new : Shard) → Type 0
-Ends Stored entry old new = Inserts answers.Stored entry old new
-Ends Known entry old new = Inserts answers.Known entry old new
-Ends Empty entry old new = ⊥
-Ends Dropped entry old new = new ≡ old
-Ends Stopped entry old new = ⊥
+-- what became of an entry that a worker inserted
+abbrev pub Ends : {W H : Type 0} → Column → (w v : Worker W H) → Option Entry → (old new : Shard) → Type 0
+Ends Stored w v entry old new = HasStored w v entry old new
+Ends Known w v entry old new = Inserts answers.Known entry old new × KeepsJoin w v
+Ends Empty w v entry old new = ⊥
+Ends Dropped w v entry old new = (new ≡ old) × KeepsJoin w v
+Ends Stopped w v entry old new = ⊥

@@ -2,6 +2,7 @@
 #![tactic(auto)]
 
 mod halter;
+mod joining;
 mod post;
 mod scope;
 mod team;

@@ -66,7 +66,8 @@ fn answers<R: Abort>(rt: &R, alloc: Global, pc: u32, halted: bool) -> (Ran, Ran,
     let last = counting(rt, alloc, 65_536, pc, 0);
     let mut shard = Shard::new(alloc, 4).expect(rt, "memory");
     let writer = ListWriter::new(&mut shard);
-    match Worker::new(alloc, last.shape(), 1, 100, writer, flag(rt, alloc, halted)) {
+    let flag = flag(rt, alloc, halted);
+    match Worker::new(alloc, last.shape(), 1, 100, writer, flag, false) {
         Ok(mut worker) => {
             let first = worker.run_job(last_job(rt, &last), &Open);
             let second = worker.run_job(last_job(rt, &last), &Open);
@@ -95,6 +96,74 @@ fn one_job(rt: HostRuntime) {
                 (1, 1)
             }
         );
+    }
+}
+
+/// Whether a worker joins entries; its jobs, each by how far ahead its guess is, with what becomes of it; and the steps of
+/// the entries that are held then.
+type Joins = (bool, &'static [(u32, Ran)], &'static [u64]);
+
+/// The guesses go on from 0 and then 1 in x5. The one that is 1 ahead has 2 there, and runs a lap of two steps. The one
+/// that is 2 ahead has 3 there, and runs the last lap and two steps more. The one that is 5 ahead has 6 there, and runs a
+/// lap, behind which none of the others goes on.
+static JOINS: [Joins; 4] = [
+    (false, &[(1, Ran::Stored), (2, Ran::Stored)], &[2, 4]),
+    (true, &[(1, Ran::Stored), (2, Ran::Stored)], &[2, 4, 6]),
+    (true, &[(2, Ran::Stored), (1, Ran::Stored)], &[4, 2]),
+    // The entry of the second job is kept once the third job's is known.
+    (
+        true,
+        &[
+            (5, Ran::Stored),
+            (1, Ran::Stored),
+            (5, Ran::Known),
+            (2, Ran::Stored),
+        ],
+        &[2, 2, 4, 6],
+    ),
+];
+
+/// Runs jobs by a new worker, and answers how often it left something out.
+fn run_ahead<R: Abort>(
+    rt: &R,
+    alloc: Global,
+    shard: &mut Shard,
+    join: bool,
+    jobs: &[(u32, Ran)],
+) -> u64 {
+    let prev = counting(rt, alloc, 65_536, 0x10008, 0);
+    let last = counting(rt, alloc, 65_536, 0x10008, 1);
+    let flag = flag(rt, alloc, false);
+    let writer = ListWriter::new(shard);
+    match Worker::new(alloc, last.shape(), 1, 100, writer, flag, join) {
+        Ok(mut worker) => {
+            for (ahead, ran) in jobs {
+                let job = Job {
+                    ticket: 0,
+                    prev: Arc::try_clone(&prev).expect(rt, "memory"),
+                    last: Arc::try_clone(&last).expect(rt, "memory"),
+                    ahead: *ahead,
+                    kind: Kind::Stride,
+                };
+                assert!(rt; worker.tally().ran < 4);
+                assert_eq!(rt; worker.run_job(job, &Open), *ran);
+            }
+            worker.left_out()
+        }
+        Err(_) => panic!(rt; "no memory"),
+    }
+}
+
+#[test]
+fn joined_entries(rt: HostRuntime) {
+    let alloc = rt.alloc();
+    for (join, jobs, steps) in JOINS {
+        let mut shard = Shard::new(alloc, 4).expect(&rt, "memory");
+        assert_eq!(rt; run_ahead(&rt, alloc, &mut shard, join, jobs), 0);
+        assert_eq!(rt; shard.len(), steps.len());
+        for (i, count) in steps.iter().enumerate() {
+            assert_eq!(rt; shard.entry(i).steps(), *count);
+        }
     }
 }
 
@@ -163,7 +232,7 @@ fn next_worker<R: Abort + Wait + Drop>(
 {
     let writer = writers.pop().expect(rt, "a writer");
     let flag = flags.pop().expect(rt, "a flag");
-    match Worker::new(alloc, shape, 1, 100, writer, flag) {
+    match Worker::new(alloc, shape, 1, 100, writer, flag, false) {
         Ok(worker) => worker,
         Err(_) => panic!(rt; "no memory"),
     }
@@ -264,6 +333,7 @@ fn stopped_before_it_is_woken(rt: HostRuntime) {
         100,
         ListWriter::new(&mut shard),
         flag(&rt, alloc, true),
+        false,
     ) {
         Ok(mut worker) => {
             push(&rt, &mut giver, &counting(&rt, alloc, 65_536, 0x10008, 0));

@@ -1,4 +1,4 @@
-ghost use Rattle.std.specs.Prelude.{◌≡◌, ◌<◌, ◌≤◌, ◌^◌, Some, None, IfOk, IfErr};
+ghost use Rattle.std.specs.Prelude.{◌≡◌, ◌<◌, ◌≤◌, ◌^◌, Some, None, IfOk, IfErr, IfSome};
 ghost use Rattle.std.specs.Arc.{arc_value};
 ghost use Rattle.asc_model.specs.Shape.{Shape};
 ghost use Rattle.asc_jobs.specs.declared.tally.Column.TheVariants as ran;
@@ -7,9 +7,10 @@ ghost use Rattle.asc_traj.specs.Made.{IsMade};
 ghost use Rattle.asc_traj.specs.Trace.{CountsAnswer, trace_cap};
 ghost use Rattle.asc_jobs.specs.Tally.{no_jobs, noted, counts_of};
 ghost use Rattle.asc_work.specs.Inside.{HasOwn, HasTracer};
-ghost use Rattle.asc_work.specs.Worker.{IsOfShape, IsEmpty, HasInserted, HasAsked, Ends, bounds_for, guess_for, steps_for};
+ghost use Rattle.asc_work.specs.Worker.{IsOfShape, IsEmpty, HasInserted, HasJoined, HasAsked, Ends, bounds_for, guess_for, steps_for};
 
 use crate::Ran;
+use crate::joining::Joining;
 use asc_cache::Insert;
 use asc_depvec::{Tracer, Unfilled};
 use asc_guess::guess;
@@ -22,8 +23,9 @@ use std::alloc::Global;
 use std::marker::Model;
 use std::sync::Arc;
 
-/// It runs jobs, one after another, and inserts the entries of their guesses. The memory of its tracer is taken when it
-/// is made, and filled later: by `work_loop` once the worker was woken, or else for its first job.
+/// It runs jobs, one after another, and inserts the entries of their guesses, and where it joins also the joins of those
+/// that follow one another. The memory of its tracer is taken when it is made, and filled later: by `work_loop` once the
+/// worker was woken, or else for its first job.
 #[derive(Drop)]
 pub struct Worker<W: Insert + Drop, H: Halt + Drop> {
     alloc: Global,
@@ -34,6 +36,7 @@ pub struct Worker<W: Insert + Drop, H: Halt + Drop> {
     tracer: Option<Tracer>,
     laps: u64,
     span: u64,
+    joining: Joining,
     writer: W,
     halt: H,
     tally: Tally,
@@ -43,6 +46,8 @@ impl<W: Insert + Drop, H: Halt + Drop> Model for Worker<W, H> {
     ghost use Rattle.asc_jobs.specs.Tally.{counts_of};
     ghost use Rattle.asc_work.specs.Worker as model;
     ghost use Rattle.asc_work.specs.Inside.{HasOwn};
+    ghost use Rattle.std.specs.Arc.{arc_value};
+    ghost use Rattle.std.specs.Option.{option_map};
     ghost use Rattle.std.specs.Prelude.{◌≤◌};
 
     ghost Value = { model.Worker W H };
@@ -54,6 +59,9 @@ impl<W: Insert + Drop, H: Halt + Drop> Model for Worker<W, H> {
       writer = w.writer;
       halt = w.halt;
       tally = counts_of w.tally;
+      join = w.joining.join;
+      kept = option_map arc_value w.joining.kept;
+      left_out = w.joining.left_out;
     } };
 
     ghost invariant = { λ w. HasOwn w.shape w.unfilled w.tracer × (1 ≤ w.laps) × (1 ≤ w.span) };
@@ -61,8 +69,9 @@ impl<W: Insert + Drop, H: Halt + Drop> Model for Worker<W, H> {
 
 impl<W: Insert + Drop, H: Halt + Drop> Worker<W, H> {
     /// A worker that has run no job. It traces a guess over at most `laps` laps and `span` steps, and stops where
-    /// `halt` says so. Where memory is wanting the writer and the halt are handed back. All memory of its tracer is taken
-    /// here, and what grows with the shape is not filled.
+    /// `halt` says so. With `join` it joins each entry that it stores behind the one that it stored before. Where
+    /// memory is wanting the writer and the halt are handed back. All memory of its tracer is taken here, and what grows
+    /// with the shape is not filled.
     pub fn new(
         alloc: Global,
         shape: Shape,
@@ -70,6 +79,7 @@ impl<W: Insert + Drop, H: Halt + Drop> Worker<W, H> {
         span: u64,
         writer: W,
         halt: H,
+        join: bool,
     ) -> Result<Worker<W, H>, (Memory, W, H)>
         requires laps { 1 ≤ laps }
         requires span { 1 ≤ span }
@@ -80,6 +90,9 @@ impl<W: Insert + Drop, H: Halt + Drop> Worker<W, H> {
           writer = writer;
           halt = halt;
           tally = no_jobs;
+          join = join;
+          kept = None;
+          left_out = 0;
         }) }
         ensures memory { IfErr result (λ back. (back.1 ≡ writer) × (back.2 ≡ halt)) }
     {
@@ -91,6 +104,7 @@ impl<W: Insert + Drop, H: Halt + Drop> Worker<W, H> {
                 tracer: None,
                 laps,
                 span,
+                joining: Joining::new(join),
                 writer,
                 halt,
                 tally: Tally::new(),
@@ -103,17 +117,21 @@ impl<W: Insert + Drop, H: Halt + Drop> Worker<W, H> {
     /// the trace. It notes in its tally what became of the job, and answers that. The gate is passed at `Traced` before
     /// the insertion. It costs what the trace touches, and what the last one touched; and the first one what is not
     /// filled yet of the tracer's memory, none of which is taken here.
+    ///
+    /// A worker that joins also inserts the join of the entry that it keeps and one that is stored, where there is one. It
+    /// then keeps the stored one. Where memory is wanting for either, the answer is still `Stored`, and `left_out` counts it.
     pub fn run_job<G: Gate>(&mut self, job: Job, gate: &G) -> Ran
         requires { self.old.tally.ran < 2 ^ 62 }
         ensures empty { result ≡ ran.Empty → IsEmpty self.old job }
         ensures other { (IsOfShape self.old.shape job → ⊥) → result ≡ ran.Empty }
         ensures steps { IsEmpty self.old job → result ≡ ran.Empty }
         ensures halt { HasAsked result (H.count self.old.halt) (H.count self.new.halt) }
-        ensures inserted { HasInserted result self.old job (W.content self.old.writer) (W.content self.new.writer) }
+        ensures inserted { HasInserted result self.old self.new job (W.content self.old.writer) (W.content self.new.writer) }
         ensures tally { self.new.tally ≡ noted result self.old.tally }
         ensures shape { self.new.shape ≡ self.old.shape }
         ensures laps { self.new.laps ≡ self.old.laps }
         ensures span { self.new.span ≡ self.old.span }
+        ensures join { self.new.join ≡ self.old.join }
     {
         let ran = self.outcome(job, gate);
         self.tally.note(ran);
@@ -137,6 +155,13 @@ impl<W: Insert + Drop, H: Halt + Drop> Worker<W, H> {
         tally
     }
 
+    /// At how many jobs a join, or an entry to keep, was left out for want of memory: up to 2^64 - 1.
+    pub fn left_out(&self) -> u64
+        ensures { result ≡ self.now.left_out }
+    {
+        self.joining.left_out
+    }
+
     /// Its writer and its halt.
     pub fn end(self) -> (W, H)
         ensures writer { result.0 ≡ self.writer }
@@ -149,6 +174,7 @@ impl<W: Insert + Drop, H: Halt + Drop> Worker<W, H> {
             tracer: _tracer,
             laps: _,
             span: _,
+            joining: _joining,
             writer,
             halt,
             tally: _,
@@ -180,11 +206,12 @@ impl<W: Insert + Drop, H: Halt + Drop> Worker<W, H> {
         ensures other { (IsOfShape self.old.shape job → ⊥) → result ≡ ran.Empty }
         ensures steps { IsEmpty self.old job → result ≡ ran.Empty }
         ensures halt { HasAsked result (H.count self.old.halt) (H.count self.new.halt) }
-        ensures inserted { HasInserted result self.old job (W.content self.old.writer) (W.content self.new.writer) }
+        ensures inserted { HasInserted result self.old self.new job (W.content self.old.writer) (W.content self.new.writer) }
         ensures tally { self.new.tally ≡ self.old.tally }
         ensures shape { self.new.shape ≡ self.old.shape }
         ensures laps { self.new.laps ≡ self.old.laps }
         ensures span { self.new.span ≡ self.old.span }
+        ensures join { self.new.join ≡ self.old.join }
     {
         if job.prev.shape() != self.shape || job.last.shape() != self.shape {
             return Ran::Empty;
@@ -202,11 +229,47 @@ impl<W: Insert + Drop, H: Halt + Drop> Worker<W, H> {
             self.laps,
             self.span,
         ) {
-            Made::One(entry) => insert(entry, &mut self.writer, ticket, gate),
+            Made::One(entry) => self.insert(entry, ticket, gate),
             Made::Empty => Ran::Empty,
             Made::Stopped => Ran::Stopped,
             Made::Refused => Ran::Dropped,
         }
+    }
+
+    // Passes the gate, and inserts an entry. Where that is stored and the worker joins, it is joined and kept.
+    fn insert<G: Gate>(&mut self, entry: Arc<Entry>, ticket: u64, gate: &G) -> Ran
+        ensures ends { Ends result self.old self.new (Some (arc_value entry)) (W.content self.old.writer) (W.content self.new.writer) }
+        ensures same { self.new ≡ record self.old { writer = self.new.writer; kept = self.new.kept; left_out = self.new.left_out } }
+    {
+        gate.pass(Point::Traced, ticket);
+        let copy = self.joining.copy_of(&entry);
+        match self.writer.insert(entry) {
+            Ok(Inserted::Stored) => {
+                if self.joining.join {
+                    self.join_stored(copy);
+                }
+                Ran::Stored
+            }
+            Ok(Inserted::Known) => Ran::Known,
+            Err(Memory) => Ran::Dropped,
+        }
+    }
+
+    // Inserts the join of a stored entry behind the kept one, and keeps it. There is no copy of it where memory was
+    // wanting for one.
+    fn join_stored(&mut self, copy: Option<Arc<Entry>>)
+        ensures joined { (e : Entry) → IfSome copy (λ c. arc_value c ≡ e)
+            → HasJoined self.old self.new e (W.content self.old.writer) (W.content self.new.writer) }
+        ensures same { self.new ≡ record self.old { writer = self.new.writer; kept = self.new.kept; left_out = self.new.left_out } }
+    {
+        let Some(entry) = copy else {
+            self.joining.keep(None, false);
+            return;
+        };
+        let joined = self
+            .joining
+            .insert_join(self.alloc, &entry, &mut self.writer);
+        self.joining.keep(Some(entry), joined.is_ok());
     }
 }
 
@@ -246,16 +309,4 @@ fn make_entry<H: Halt>(
     };
     let guess = guess(job.kind, job.prev, job.last, job.ahead);
     Entry::traced(alloc, tracer, guess, &stop, halt)
-}
-
-// Passes the gate, and inserts an entry.
-fn insert<W: Insert, G: Gate>(entry: Arc<Entry>, writer: &mut W, ticket: u64, gate: &G) -> Ran
-    ensures { Ends result (Some (arc_value entry)) (W.content writer.old) (W.content writer.new) }
-{
-    gate.pass(Point::Traced, ticket);
-    match writer.insert(entry) {
-        Ok(Inserted::Stored) => Ran::Stored,
-        Ok(Inserted::Known) => Ran::Known,
-        Err(Memory) => Ran::Dropped,
-    }
 }

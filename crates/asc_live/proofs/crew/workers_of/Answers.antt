@@ -21,7 +21,7 @@ loop-writer-preserved g c =
       omega (arith, inv.1, e, more),
       subst (All (λ w. w.tally ≡ no_jobs)) (sym pushed) (All-push (λ w. w.tally ≡ no_jobs) workers w inv.2 (ap (λ w. w.tally) c.in-Ok.ensures.made)),
       subst (All (HasBoundsOf c.args.shape c.args.guessing)) (sym pushed) (All-push (HasBoundsOf c.args.shape c.args.guessing) workers w inv.3
-          (ap (λ w. w.shape) c.in-Ok.ensures.made, ap (λ w. w.laps) c.in-Ok.ensures.made, ap (λ w. w.span) c.in-Ok.ensures.made)),
+          (ap (λ w. w.shape) c.in-Ok.ensures.made, ap (λ w. w.laps) c.in-Ok.ensures.made, ap (λ w. w.span) c.in-Ok.ensures.made, ap (λ w. w.join) c.in-Ok.ensures.made)),
       λ word h. let s = all_popped (λ f. f.word ≡ word) flags rest_flags c.in-Some-pop.flag popped_flag (inv.4 word h).0 in
           (s.0, subst (All (λ w. w.halt.word ≡ word)) (sym pushed) (All-push (λ w. w.halt.word ≡ word) workers w (inv.4 word h).1 (ap (λ w. w.halt.word) c.in-Ok.ensures.made ∙ s.1))),
       λ readers h. let s = all_popped (IsWriterOf readers) writers rest_writers c.in-Some.writer popped_writer (inv.5 readers h).0 in (

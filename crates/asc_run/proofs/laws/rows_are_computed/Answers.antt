@@ -1,4 +1,4 @@
-use Rattle.asc_run.proofs.RowsHold.{laps, targets, strides, both, visits}
+use Rattle.asc_run.proofs.RowsHold.{laps, targets, strides, both, joins, visits}
 use Rattle.asc_run.proofs.laws.rows_are_computed.Goals as goal
 
 pub returns-clause-laps : goal.returns-clause-laps
@@ -15,3 +15,6 @@ returns-clause-both c = both
 
 pub returns-clause-visits : goal.returns-clause-visits
 returns-clause-visits c = visits
+
+pub returns-clause-joins : goal.returns-clause-joins
+returns-clause-joins c = joins

@@ -16,4 +16,5 @@ returns c =
     let nine = with_arg _ _ _ _ _ eight c.in_ok-arg-9.ensures c.number-6.ensures.rule c.number-6.ensures.local in
     let ten = with_arg _ _ _ _ _ nine c.in_ok-arg-10.ensures c.number-7.ensures.rule c.number-7.ensures.local in
     let eleven = with_arg _ _ _ _ _ ten c.in_ok-arg-11.ensures c.number-8.ensures.rule c.number-8.ensures.local in
-    IfOk-weaker c.arg-12.result _ _ (λ new adds. with_arg _ new _ _ _ eleven adds c.number-9.ensures.rule c.number-9.ensures.local) c.arg-12.ensures
+    let twelve = with_arg _ _ _ _ _ eleven c.in_ok-arg-12.ensures c.number-9.ensures.rule c.number-9.ensures.local in
+    IfOk-weaker c.arg-13.result _ _ (λ new adds. with_arg _ new _ _ _ twelve adds c.flag.ensures.rule c.flag.ensures.local) c.arg-13.ensures
