@@ -3,6 +3,10 @@
 
 mod halter;
 mod joining;
+mod lane;
+mod lanes;
+#[cfg(test)]
+mod lanes_tests;
 mod post;
 mod scope;
 mod team;
@@ -13,6 +17,7 @@ mod worker;
 
 pub use asc_jobs::Column as Ran;
 pub use halter::{Flag, Halter};
+pub use lanes::{Lanes, MOST_JOBS};
 pub use post::TakenIn;
 pub use team::Team;
 pub use work::work_loop;

@@ -26,7 +26,13 @@ const COUNTING: [u32; 7] = [
 ];
 
 /// A snapshot of that program at a pc, with these x5 and 4 in x6, in memory of this size.
-fn counting<R: Abort>(rt: &R, alloc: Global, size: u32, pc: u32, x5: u32) -> Arc<Snapshot> {
+pub(crate) fn counting<R: Abort>(
+    rt: &R,
+    alloc: Global,
+    size: u32,
+    pc: u32,
+    x5: u32,
+) -> Arc<Snapshot> {
     let shape = Shape::new(0x10000, size).expect(rt, "a good shape");
     let mut state = State::new(alloc, shape).expect(rt, "memory");
     let mut at = 0x10000;
@@ -291,7 +297,7 @@ fn run_two<R: Abort + Threads + Wait + Sync + Copy + Drop + Send>(
     let (mut giver, takers) = Jobs::open(alloc, 4, 2).expect(rt, "memory");
     let workers = two_workers_of(rt, alloc, last.shape(), flags);
     let (mut team, wakers) = Team::new(alloc, &giver, workers, takers).expect(rt, "memory");
-    let gate = HoldGate::new(alloc, &holds(), 1_000_000).expect(rt, "memory");
+    let gate = HoldGate::new(alloc, &holds(), 100_000_000).expect(rt, "memory");
     serve(
         rt,
         &mut team,

@@ -1,0 +1,87 @@
+-- Lanes, and what they make of the jobs of a visit.
+use Rattle.std.specs.Prelude.{◌≡◌, ◌≢◌, ℕ, ◌+◌, ◌*◌, ◌/◌, ◌%◌, ◌^◌, ◌<◌, ◌≤◌, List, [], Option, Some, None, map, length, slice_index_or, vec_capacity, All}
+use Rattle.std.specs.List.{range_with_len}
+use Rattle.asc_model.specs.Shape.{Shape}
+use Rattle.asc_model.specs.State.{State}
+use Rattle.asc_model.specs.Machine.{view_of}
+use Rattle.asc_guess.specs.declared.kind.Kind.{Kind}
+use Rattle.asc_guess.specs.Guess.{guess_of}
+use Rattle.asc_traj.specs.declared.made.Made.{Made}
+use Rattle.asc_traj.specs.declared.made.Made.TheVariants.{Refused}
+use Rattle.asc_traj.specs.Made.{IsMade}
+use Rattle.asc_traj.specs.Trace.{guess_bounds}
+use Rattle.asc_work.specs.Inside.{HasOwn}
+use Rattle.asc_work.specs.declared.lane.Lane.{Lane}
+use Rattle.asc_work.specs.declared.lane.Round.{Round}
+
+-- Lanes: the shape of their states, how far they trace a guess, and how many they are. And what became of each job of the
+-- last round, in the jobs' order: nothing is there of a job whose result was taken.
+pub record Lanes : Type 0 where
+  pub shape : Shape
+  pub laps : ℕ
+  pub span : ℕ
+  pub lanes : ℕ
+  pub results : List (Option Made)
+
+-- a guess of a visit: its kind, and how many visits after the last one
+abbrev pub Task : Type 0
+Task = Kind × ℕ
+
+-- at most how many jobs a round has
+abbrev pub most_jobs : ℕ
+most_jobs = 128
+
+-- The result of a job is there. It is what becomes of its guess, traced up to the pc of the last state, or memory was
+-- wanting.
+abbrev pub IsDone : (laps span : ℕ) → (prev last : State) → Task → Option Made → Type 0
+IsDone laps span prev last job None = ⊥
+IsDone laps span prev last job (Some made) = made ≢ Refused
+    → IsMade (guess_bounds (view_of last).pc laps span) (guess_of job.0 job.1 prev last) 0 0 made
+
+-- ---- words of private contracts
+
+-- The results of so many jobs, where each lane has those of its own: job i stands in lane i modulo their number.
+abbrev pub dealt : (lists : List (List (Option Made))) → (jobs : ℕ) → List (Option Made)
+dealt lists jobs =
+    map (λ i. slice_index_or (slice_index_or lists (i % length lists) []) (i / length lists) None) (range_with_len 0 jobs)
+
+-- the results that each lane has
+abbrev pub lists_of : List Lane → List (List (Option Made))
+lists_of lanes = map (λ lane. lane.results.items) lanes
+
+-- one of so many lanes for states of a shape: it has a tracer or its memory, and room for its part of a round
+pub record IsLane (shape : Shape) (lanes : ℕ) (lane : Lane) : Type 0 where
+  pub own : HasOwn shape lane.unfilled lane.tracer
+  pub room : most_jobs ≤ vec_capacity lane.results * lanes
+
+-- a round that lanes for states of a shape can run
+pub record IsRound (shape : Shape) (round : Round) : Type 0 where
+  pub prev : round.prev.now.value.shape ≡ shape
+  pub last : round.last.now.value.shape ≡ shape
+  pub few : length round.jobs.now ≤ most_jobs
+  pub first : round.first < 2 ^ 62
+  pub laps : 1 ≤ round.laps
+  pub span : 1 ≤ round.span
+  pub some : 1 ≤ round.lanes
+  pub most : round.lanes ≤ 64
+
+-- what became of job i of a round
+abbrev pub IsDoneAt : Round → (i : ℕ) → Option Made → Type 0
+IsDoneAt round i made = (d : Task)
+    → IsDone round.laps round.span round.prev.now.value round.last.now.value (slice_index_or round.jobs.now i d) made
+
+-- A lane has run its first `count` jobs of a round: those from `at` on, each so many further on as there are lanes.
+abbrev pub HasRunFirst : Round → (at count : ℕ) → Lane → Type 0
+HasRunFirst round at count lane =
+    (j : ℕ) → j < count → IsDoneAt round (at + j * round.lanes) (slice_index_or lane.results.items j None)
+
+-- it has run all of them
+abbrev pub HasRunAll : Round → (at : ℕ) → Lane → Type 0
+HasRunAll round at lane = (j : ℕ) → at + j * round.lanes < length round.jobs.now
+    → IsDoneAt round (at + j * round.lanes) (slice_index_or lane.results.items j None)
+
+-- 1 to 64 lanes for states of a shape
+pub record AreLanes (shape : Shape) (lanes : List Lane) : Type 0 where
+  pub some : 1 ≤ length lanes
+  pub most : length lanes ≤ 64
+  pub each : All (IsLane shape (length lanes)) lanes
