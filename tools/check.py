@@ -1,5 +1,5 @@
 #!/usr/bin/env python3
-"""Tries the tools of this folder, the man page, the links of documents and the program to be copied.
+"""Tries the tools of this folder, the man page, the links and the list of the documents, and the program to be copied.
 
     python3 tools/check.py [PROGRAM]
 
@@ -556,6 +556,11 @@ def check_links():
             same(f"the link {link} of {document.name}", found, True)
 
 
+def check_definitions():
+    """The list of definitions is what docs/definitions.py makes of the files as they are."""
+    same("definitions.py --check", outcome([sys.executable, ROOT / "docs/definitions.py", "--check"]), (b"", b"", 0))
+
+
 def check_copy(folder):
     """The copy of the program over the crates has each crate that a line of it names, and none else."""
     script, copied = ROOT / "examples/embed/copy.sh", folder / "simulator"
@@ -610,6 +615,7 @@ def main():
         told = outcome([TOOLS / tool, "--help"])
         same(f"{tool} --help", (told[0].decode().count(f"    {tool} "), told[1:]), (lines, (b"", 0)))
     check_links()
+    check_definitions()
     with tempfile.TemporaryDirectory() as folder:
         check_why(program, Path(folder))
         check_steps(program, Path(folder))
