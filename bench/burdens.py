@@ -14,7 +14,6 @@ case, the steps of a lap and the greatest ratio are printed, and with --all each
     others   the examples, at each head of a loop that is met at least 50 times
 """
 
-import argparse
 import os
 import sys
 import tempfile
@@ -24,9 +23,11 @@ from pathlib import Path
 
 sys.dont_write_bytecode = True
 
+import harness
 from defaults import CASES
+from harness import EXAMPLES
 from loops import EXIT, addi, bne, image, jal, lui, op, sw
-from workers import EXAMPLES, ROOT, Run
+from workers import Run
 
 # The inputs of runs of some 0.3 seconds or more, where those of defaults.py are shorter.
 LONGER = {"matrix": b"160\n", "life": None, "ising": b"2500 32 1\n", "collatz_chunks": b"60000\n"}
@@ -52,7 +53,7 @@ def own_cases(folder):
 def cases(folder):
     """Each program: its name, words of a command line, input, and addresses."""
     yield from own_cases(folder)
-    loader = SourceFileLoader("asc_pc", str(ROOT / "tools/asc-pc"))
+    loader = SourceFileLoader("asc_pc", str(harness.ROOT / "tools/asc-pc"))
     tool = module_from_spec(spec_from_loader("asc_pc", loader))
     loader.exec_module(tool)
     for name, (text, options) in CASES.items():
@@ -106,16 +107,14 @@ def look(asked, name, case, address):
 
 
 def main():
-    parser = argparse.ArgumentParser(description=__doc__, formatter_class=argparse.RawDescriptionHelpFormatter)
-    parser.add_argument("--program", default=str(ROOT / "crates/asc_cli/out/asc_cli"), help="the built asc")
+    parser = harness.parser_of(__doc__)
     parser.add_argument("--rounds", type=int, default=3, help="how often each case runs in each way (3)")
     parser.add_argument("--workers", type=int, nargs="+", default=[1, 3, 64], help="how many workers (1, 3, 64)")
     parser.add_argument("--kinds", nargs="+", default=["none", "stride", "both"], help="kinds of guesses")
     parser.add_argument("--only", nargs="+", metavar="NAME", help="the programs to run (all)")
     parser.add_argument("--all", action="store_true", help="print each ratio")
     asked = parser.parse_args()
-    if not os.access(asked.program, os.X_OK):
-        sys.exit(f"bench/burdens.py: no program {asked.program}; rt run in crates/asc_cli builds it")
+    harness.asc(asked.program)
     print("program              pc         lap plain ms    most  with")
     within = True
     with tempfile.TemporaryDirectory() as folder:

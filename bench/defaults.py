@@ -10,17 +10,17 @@ the least time by the clock of its plain runs in milliseconds, the least with wo
 processor's time of all threads.
 """
 
-import argparse
 import os
 import sys
 import tempfile
 from pathlib import Path
 
-# What is imported leaves no compiled file beside it.
 sys.dont_write_bytecode = True
 
+import harness
 from examples import numbers, text
-from workers import EXAMPLES, ROOT, Differs, Run
+from harness import EXAMPLES
+from workers import Differs, Run
 
 # Each program with its input and the options that it wants. Where the input is None it is the example's own.
 CASES = {
@@ -68,19 +68,17 @@ def measure(program, name, rounds, workers, given):
 
 
 def main():
-    parser = argparse.ArgumentParser(description=__doc__, formatter_class=argparse.RawDescriptionHelpFormatter)
-    parser.add_argument("--program", default=str(ROOT / "crates/asc_cli/out/asc_cli"), help="the built asc")
+    parser = harness.parser_of(__doc__)
     parser.add_argument("--rounds", type=int, default=7, help="how often each program runs in each way (7)")
     parser.add_argument("--workers", type=int, default=3, help="how many workers (3)")
     parser.add_argument("--only", nargs="+", metavar="NAME", help="the programs to run (all)")
     asked = parser.parse_args()
-    if not os.access(asked.program, os.X_OK):
-        sys.exit(f"bench/defaults.py: no program {asked.program}; rt run in crates/asc_cli builds it")
+    harness.asc(asked.program)
     names = {name.split("/")[-1]: name for name in CASES}
     unknown = set(asked.only or []) - set(names)
     if unknown:
-        sys.exit(f"bench/defaults.py: no program {', '.join(sorted(unknown))}; there are {', '.join(names)}")
-    print(f"{os.cpu_count()} processors, load {os.getloadavg()[0]:.1f} at the beginning")
+        harness.end(f"no program {', '.join(sorted(unknown))}; there are {', '.join(names)}")
+    harness.print_load("beginning")
     print("program           steps   visits  plain ms    clock  processor")
     with tempfile.TemporaryDirectory() as folder:
         for name in (names[short] for short in names if short in (asked.only or names)):
@@ -88,7 +86,7 @@ def main():
                 measure(asked.program, name, asked.rounds, asked.workers, os.path.join(folder, "input"))
             except Differs as differs:
                 sys.exit(str(differs))
-    print(f"load {os.getloadavg()[0]:.1f} at the end")
+    harness.print_load("end")
     return 0
 
 

@@ -21,7 +21,6 @@ import hashlib
 import os
 import random
 import re
-import resource
 import shutil
 import struct
 import subprocess
@@ -29,8 +28,9 @@ import sys
 import tempfile
 from pathlib import Path
 
-ROOT = Path(__file__).resolve().parent.parent
-IMAGES = ROOT / "examples/images"
+sys.dont_write_bytecode = True
+
+import harness
 
 EBREAK = 0x00100073
 # The two instructions behind the call of main in examples/start.s: li a7, 93 and ecall.
@@ -85,13 +85,10 @@ def steps_of(program, image, options, given, folder):
 def timed(words, path):
     """The processor's seconds of a command whose standard input is a file, and what it writes."""
     with open(path, "rb") as given:
-        before = resource.getrusage(resource.RUSAGE_CHILDREN)
-        run = subprocess.run(words, stdin=given, capture_output=True)
-        after = resource.getrusage(resource.RUSAGE_CHILDREN)
-    if run.returncode or run.stderr:
-        told = run.stderr.decode(errors="replace")
-        sys.exit(f"{' '.join(map(str, words))}: status {run.returncode}, {told}")
-    return after.ru_utime + after.ru_stime - before.ru_utime - before.ru_stime, run.stdout
+        run = harness.well(words, stdin=given)
+    if run.stderr:
+        harness.end(f"{run.line}: {run.stderr.decode(errors='replace')}")
+    return run.processor, run.stdout
 
 
 def single_option():
@@ -102,17 +99,16 @@ def single_option():
 
 def main():
     sys.stdout.reconfigure(line_buffering=True)
-    rounds = int(sys.argv[1]) if len(sys.argv) > 1 else 3
-    program = sys.argv[2] if len(sys.argv) > 2 else str(ROOT / "crates/asc_cli/out/asc_cli")
-    if not os.access(program, os.X_OK):
-        sys.exit(f"bench/examples.py: no program {program}; rt run in crates/asc_cli builds it")
+    given = harness.asked(__doc__, 2)
+    rounds = int(given[0]) if given else 3
+    program = harness.asc(*given[1:])
     if not shutil.which("qemu-riscv32"):
-        sys.exit("bench/examples.py: no qemu-riscv32; Debian's package qemu-user has it")
+        harness.end("no qemu-riscv32; Debian's package qemu-user has it")
     single = single_option()
     print(f"{'':12}{'million steps':>14}{'asc, million/s':>16}{'QEMU':>10}{'QEMU ' + single:>23}")
     with tempfile.TemporaryDirectory() as folder:
         for name, (input_of, options) in CASES.items():
-            image, given = IMAGES / name, input_of()
+            image, given = harness.IMAGES / name, input_of()
             path = os.path.join(folder, "input")
             Path(path).write_bytes(given)
             steps = steps_of(program, image.read_bytes(), options, given, folder)

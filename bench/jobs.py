@@ -11,49 +11,37 @@ prints those of a job with its visit: what the run with guesses takes, without i
 among the guesses. The last number is their ratio.
 """
 
-import re
-import subprocess
 import sys
 
 sys.dont_write_bytecode = True
 
-from loops import ROOT, WIDE
+import harness
 
-# Each program with its input, its address and the memory that it wants.
-CASES = {
-    "matrix": ("48\n", "104ec", "1024"),
-    "ising": ("60 32 1\n", "106a8", "16384"),
-    "collatz_chunks": ("3000\n", "100f4", "1024"),
-}
+# Each program with its input.
+CASES = {"matrix": "48\n", "ising": "60 32 1\n", "collatz_chunks": "3000\n"}
 
-NUMBERS = re.compile(r"asc: executed (\d+) skipped (\d+) asked (\d+) hits (\d+) made (\d+) refused 0\n")
-
-def counted(program, options, image, text):
-    """The processor's instructions of a run, and what it reports."""
-    tool = ["valgrind", "--tool=callgrind", "--callgrind-out-file=/dev/null"]
-    command = tool + [program, "run", *options, str(image)]
-    done = subprocess.run(command, input=text, capture_output=True, text=True, env=WIDE)
-    return int(next(line for line in done.stderr.splitlines() if "Collected" in line).split(":")[1]), done.stderr
-
-def numbers_of(program, text, address, memory, image):
+def numbers_of(program, name, text):
     """A plain lap and a job with its visit in instructions, how many visits there were, the laps outside of these, and the
     steps of a lap."""
-    room = ["--memory", memory]
-    none, _ = counted(program, room + ["--steps", "0"], image, text)
-    plain, _ = counted(program, room, image, text)
-    guessed, report = counted(program, room + ["--ahead", "1", "--pc", address, "--report"], image, text)
-    executed, skipped, asked, hits, made = map(int, NUMBERS.search(report).groups())
+    address, memory = harness.PLACES[name]
+    def counted(*options):
+        words = [program, "run", "--memory", memory, *options, harness.IMAGES / name]
+        return harness.callgrind(words, ends=(0, 75), wide=True, input=text.encode())
+    none, plain = counted("--steps", "0").instructions, counted().instructions
+    guessed = counted("--ahead", "1", "--pc", address, "--report")
+    told = harness.numbers_of(guessed)
+    executed, skipped, hits = told["executed"], told["skipped"], told["hits"]
     price = (plain - none) / (executed + skipped)
     lap = price * skipped / hits
-    return lap, (guessed - none - price * executed) / made, asked, (executed + skipped) * hits / skipped - asked, \
-        skipped / hits
+    job = (guessed.instructions - none - price * executed) / told["made"]
+    return lap, job, told["asked"], (executed + skipped) * hits / skipped - told["asked"], skipped / hits
 
 
 def main():
-    program = sys.argv[1] if len(sys.argv) > 1 else str(ROOT / "crates/asc_cli/out/asc_cli")
+    program = harness.asc(*harness.asked(__doc__, 1))
     print(f"{'':16}{'plain lap':>12}{'job and visit':>16}{'r':>8}")
-    for name, (text, address, memory) in CASES.items():
-        lap, job, *_ = numbers_of(program, text, address, memory, ROOT / "examples/images" / name)
+    for name, text in CASES.items():
+        lap, job, *_ = numbers_of(program, name, text)
         print(f"{name:16}{lap:12.0f}{job:16.0f}{job / lap:8.2f}")
 
 if __name__ == "__main__":

@@ -14,66 +14,41 @@ of a run without joins and with them, in millions, and how many more the latter 
 are the searches and joins, and the steps that are jumped over more or less.
 """
 
-import re
-import subprocess
 import sys
-import time
 
 sys.dont_write_bytecode = True
 
-from loops import ROOT, WIDE
+import harness
 
-# Each program with its input, its address and the memory that it wants.
-CASES = {
-    "collatz": ("20000\n", "10484", "1024"),
-    "collatz_chunks": ("20000\n", "100f4", "1024"),
-    "matrix": ("64\n", "104ec", "1024"),
-    "ising": ("200 32 1\n", "106a8", "16384"),
-}
+# Each program with its input.
+CASES = {"collatz": "20000\n", "collatz_chunks": "20000\n", "matrix": "64\n", "ising": "200 32 1\n"}
 
 ALONE = [["--ahead", "1"], ["--ahead", "4"]]
 BESIDE = ["--ahead", "16", "--queue", "6", "--workers", "3"]
 
-NUMBERS = re.compile(rb"asc: executed (\d+) skipped (\d+) asked (\d+) hits (\d+) made (\d+)")
-
-def run(command, text):
-    done = subprocess.run(command, input=text.encode(), capture_output=True, env=WIDE)
-    if done.returncode != 0:
-        sys.exit(f"{' '.join(command)}: status {done.returncode}")
-    return done
-
-def timed(command, text):
+def timed(words, text):
     """What a run reports, and its seconds, the least of five."""
-    taken = []
-    for _ in range(5):
-        begin = time.perf_counter()
-        done = run(command, text)
-        taken.append(time.perf_counter() - begin)
-    executed, skipped, asked, hits, _ = map(int, NUMBERS.search(done.stderr).groups())
-    share = 100 * skipped / (executed + skipped)
-    return f"{hits:>8} of {asked:<6}{share:6.1f} %{min(taken):8.3f} s"
-
-def instructions(command, text):
-    """The processor's instructions of a run, and the guesses that it makes."""
-    done = run(["valgrind", "--tool=callgrind", "--callgrind-out-file=/dev/null", *command], text)
-    count = next(line for line in done.stderr.splitlines() if b"Collected" in line).split(b":")[1]
-    return int(count), int(NUMBERS.search(done.stderr).group(5))
+    run = harness.least(5, "seconds", words, wide=True, input=text)
+    told = harness.numbers_of(run)
+    share = 100 * told["skipped"] / (told["executed"] + told["skipped"])
+    return f"{told['hits']:>8} of {told['asked']:<6}{share:6.1f} %{run.seconds:8.3f} s"
 
 def counted(words, text):
     """The instructions of a run without joins and with them, and how many more a guess takes."""
-    without, made = instructions(words, text)
-    joined, _ = instructions([*words, "--join"], text)
+    run = harness.callgrind(words, wide=True, input=text)
+    without, made = run.instructions, harness.numbers_of(run)["made"]
+    joined = harness.instructions([*words, "--join"], wide=True, input=text)
     return f"{without / 1e6:12.1f}{joined / 1e6:12.1f}{(joined - without) / made:12.0f} a guess"
 
 def main():
-    given = [word for word in sys.argv[1:] if word != "--count"]
-    program = given[0] if given else str(ROOT / "crates/asc_cli/out/asc_cli")
-    for name, (text, address, memory) in CASES.items():
-        image = str(ROOT / "examples/images" / name)
-        words = [program, "run", image, "--memory", memory, "--pc", address, "--report"]
-        for options in ALONE if "--count" in sys.argv[1:] else [*ALONE, BESIDE]:
+    program, counts = harness.asc(*harness.asked(__doc__, 1, "--count")), "--count" in sys.argv
+    for name, text in CASES.items():
+        address, memory = harness.PLACES[name]
+        words = [program, "run", harness.IMAGES / name, "--memory", memory, "--pc", address, "--report"]
+        text = text.encode()
+        for options in ALONE if counts else [*ALONE, BESIDE]:
             told = words + options
-            result = counted(told, text) if "--count" in sys.argv[1:] else timed(told, text) + timed([*told, "--join"], text)
+            result = counted(told, text) if counts else timed(told, text) + timed([*told, "--join"], text)
             print(f"{name:15}{' '.join(options):38}{result}", flush=True)
 
 if __name__ == "__main__":

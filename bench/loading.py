@@ -11,16 +11,14 @@ For three sizes of memory it prints those of one entry: made by a guess, with it
 their ratio, and the seconds that a run of no step takes more with the file than without, the least of five.
 """
 
-import re
-import subprocess
 import sys
 import tempfile
-import time
 from pathlib import Path
 
 sys.dont_write_bytecode = True
 
-from loops import ROOT, WIDE, addi, bne, counted, image, lui, lw, sw
+import harness
+from loops import addi, bne, counted, image, lui, lw, sw
 
 LAPS, WORDS, KEPT = 1100, 110, 1024
 
@@ -31,30 +29,17 @@ LAP = [lui(8, 0x18), addi(9, 0, WORDS), *INNER, bne(9, 0, -4 * len(INNER))]
 # Two words stand before the loop.
 ADDRESS = ["--pc", "10008"]
 
-NUMBERS = re.compile(rb"asc: executed (\d+) skipped (\d+) asked (\d+) hits (\d+) made (\d+) refused 0\n")
+# Runs end with code 0, or at their limit.
+ENDS = {"ends": (0, 75), "wide": True}
 
-def run(command):
-    """A run that ends with code 0, or at its limit."""
-    done = subprocess.run(command, capture_output=True, env=WIDE)
-    if done.returncode not in (0, 75):
-        sys.exit(f"{' '.join(command)}: status {done.returncode}, {done.stderr.decode()}")
-    return done
+def instructions(words):
+    return harness.instructions(words, **ENDS)
 
-def instructions(command):
-    """The processor's instructions of a run."""
-    done = run(["valgrind", "--tool=callgrind", "--callgrind-out-file=/dev/null", *command])
-    return int(re.search(rb"Collected : (\d+)", done.stderr).group(1))
-
-def seconds(command):
-    taken = []
-    for _ in range(5):
-        begin = time.perf_counter()
-        run(command)
-        taken.append(time.perf_counter() - begin)
-    return min(taken)
+def seconds(words):
+    return harness.least(5, "seconds", words, **ENDS).seconds
 
 def main():
-    program = sys.argv[1] if len(sys.argv) > 1 else str(ROOT / "crates/asc_cli/out/asc_cli")
+    program = harness.asc(*harness.asked(__doc__, 1))
     print(f"{'memory':>10}{'made':>10}{'loaded':>10}{'ratio':>8}{'seconds':>9}")
     with tempfile.TemporaryDirectory() as folder:
         guest, kept = f"{folder}/guest", f"{folder}/kept"
@@ -62,16 +47,15 @@ def main():
         for memory in ("64", "1024", "65536"):
             room = ["--memory", memory]
             save = [program, "save", guest, *room, *ADDRESS]
-            Path(kept).write_bytes(run(save).stdout)
+            Path(kept).write_bytes(harness.well(save, **ENDS).stdout)
             count = int.from_bytes(Path(kept).read_bytes()[16:20], "little")
             if count != KEPT:
-                sys.exit(f"{count} entries were saved, and not {KEPT}")
-            told = run([program, "run", guest, *room, *ADDRESS, "--report"]).stderr
-            executed, skipped, _, _, guesses = map(int, NUMBERS.search(told).groups())
+                harness.end(f"{count} entries were saved, and not {KEPT}")
+            told = harness.numbers_of(harness.well([program, "run", guest, *room, *ADDRESS, "--report"], **ENDS))
             plain = [program, "run", guest, *room]
             none, all_steps = instructions([*plain, "--steps", "0"]), instructions(plain)
-            price = (all_steps - none) / (executed + skipped)
-            made = (instructions(save) - none - price * executed) / guesses
+            price = (all_steps - none) / (told["executed"] + told["skipped"])
+            made = (instructions(save) - none - price * told["executed"]) / told["made"]
             begin = [program, "run", guest, *room, "--steps", "0"]
             loaded = (instructions([*begin, "--load", kept]) - none) / KEPT
             more = seconds([*begin, "--load", kept]) - seconds(begin)

@@ -18,15 +18,14 @@ run; with --report and an address that is never met; and with one that is met in
 guessed.
 """
 
-import os
-import resource
 import struct
-import subprocess
 import sys
 import tempfile
 from pathlib import Path
 
-ROOT = Path(__file__).resolve().parent.parent
+sys.dont_write_bytecode = True
+
+import harness
 
 # ---------------------------------------------------------------------------------------------------------------------
 # Instructions
@@ -106,41 +105,29 @@ def ways(words):
     met = 0x10000 + 4 * next(i for i, word in enumerate(words) if word & 0x707F == 0x1063)
     return [], ["--report", "--guess", "none", "--pc", "ffffc"], ["--report", "--guess", "none", "--pc", f"{met:x}"]
 
-# By this the C library fills and copies long pieces by wide writes. Else it takes string instructions, of which callgrind
-# counts each byte.
-WIDE = {"GLIBC_TUNABLES": ":".join(f"glibc.cpu.x86_rep_{name}_threshold={1 << 30}" for name in ("stosb", "movsb"))}
-
-def instructions(command):
-    """The processor's instructions of a run."""
-    tool = ["valgrind", "--tool=callgrind", f"--callgrind-out-file={os.devnull}"]
-    done = subprocess.run(tool + command, capture_output=True, text=True, check=True)
-    return int(next(line for line in done.stderr.splitlines() if "Collected" in line).split(":")[1])
-
 def count(program):
     print("        no address  never met      met")
     with tempfile.TemporaryDirectory() as folder:
         few, more = loops(100_000), loops(200_000)
         for name in few:
-            taken = []
+            path, taken = Path(folder, name), []
             for words, sign in ((few[name], -1), (more[name], 1)):
-                path = os.path.join(folder, name)
-                Path(path).write_bytes(image(words))
-                taken.append([sign * instructions([program, "run", *way, path]) for way in ways(words)])
+                path.write_bytes(image(words))
+                taken.append([sign * harness.instructions([program, "run", *way, path]) for way in ways(words)])
             print(f"{name:8}" + "".join(f"{(a + b) / 100_000:{n}.1f}" for n, a, b in zip((10, 11, 9), *taken)))
 
 def main():
-    if "--count" in sys.argv[1:]:
-        given = [word for word in sys.argv[1:] if word != "--count"]
-        return count(given[0] if given else str(ROOT / "crates/asc_cli/out/asc_cli"))
-    steps = int(sys.argv[1]) if len(sys.argv) > 1 else 100_000_000
-    program = sys.argv[2] if len(sys.argv) > 2 else ROOT / "crates/asc_cli/out/asc_cli"
+    counts = "--count" in sys.argv
+    given = harness.asked(__doc__, 1 if counts else 2, "--count")
+    if counts:
+        return count(harness.asc(*given))
+    steps = int(given[0]) if given else 100_000_000
+    program = harness.asc(*given[1:])
     with tempfile.TemporaryDirectory() as folder:
         for name, words in loops(steps).items():
-            path = os.path.join(folder, name)
-            Path(path).write_bytes(image(words))
-            before = resource.getrusage(resource.RUSAGE_CHILDREN).ru_utime
-            subprocess.run([program, "run", path], check=True)
-            seconds = resource.getrusage(resource.RUSAGE_CHILDREN).ru_utime - before
+            path = Path(folder, name)
+            path.write_bytes(image(words))
+            seconds = harness.well([program, "run", path]).user
             print(f"{name:8}{seconds:8.2f} s{steps / seconds / 1e6:8.0f} million steps a second")
 
 if __name__ == "__main__":

@@ -20,7 +20,6 @@ how many runs ended in each way, how many of the latter reported that memory was
 many ended otherwise. The status is 1 where any did, or where without workers none reported so.
 """
 
-import argparse
 import os
 import re
 import shutil
@@ -30,18 +29,13 @@ import sys
 import tempfile
 from pathlib import Path
 
-ROOT = Path(__file__).resolve().parent.parent
+sys.dont_write_bytecode = True
+
+import harness
+from loops import EXIT, addi, bne, image
 
 # A loop of two instructions from 0x10008 on, which counts x5 from 0 to 4, and then an end with code 0.
-COUNTS = (
-    0x00000293,  # ADDI x5,x0,0
-    0x00400313,  # ADDI x6,x0,4
-    0x00128293,  # ADDI x5,x5,1
-    0xFE629EE3,  # BNE x5,x6,-4
-    0x05D00893,  # ADDI x17,x0,93
-    0x00000513,  # ADDI x10,x0,0
-    0x00000073,  # ECALL
-)
+COUNTS = [addi(5, 0, 0), addi(6, 0, 4), addi(5, 5, 1), bne(5, 6, -4), *EXIT]
 STEPS = 13
 
 RUN = re.compile(rb"asc: executed (\d+) skipped (\d+) asked (\d+) hits \d+ made (\d+) refused (\d+)\n"
@@ -51,14 +45,6 @@ TRIAL = re.compile(rb"trial 0: status 0, steps (\d+), output \d+\nexecuted (\d+)
                    rb"made \d+\n")
 MEMORY = (71, b"", b"asc: out of memory\n")
 SECONDS = 60
-
-
-def image():
-    """An executable whose only segment is that code, loaded and entered at 0x10000."""
-    code = struct.pack(f"<{len(COUNTS)}I", *COUNTS)
-    head = b"\x7fELF\1\1\1" + bytes(9)
-    head += struct.pack("<2H5I6H", 2, 243, 1, 0x10000, 52, 0, 0, 52, 32, 1, 0, 0, 0)
-    return head + struct.pack("<8I", 1, 84, 0x10000, 0x10000, len(code), len(code), 7, 4) + code
 
 
 # ---------------------------------------------------------------------------------------------------------------------
@@ -112,11 +98,11 @@ class Refusing:
     def __init__(self, program, folder):
         self.program, self.count = program, Path(folder, "count")
         self.library = Path(folder, "refusing.so")
-        source = Path(__file__).resolve().parent / "refusing.c"
+        source = harness.ROOT / "bench/refusing.c"
         done = subprocess.run(["cc", "-O2", "-Wall", "-shared", "-fPIC", "-o", self.library, source],
                               capture_output=True, text=True)
         if done.returncode or done.stderr:
-            sys.exit(f"bench/refusals.py: {source} is not compiled:\n{done.stderr}")
+            harness.end(f"{source} is not compiled:\n{done.stderr}")
 
     def run(self, words, number, on):
         """The status, output and report of a run, and how much memory it asked for. Number 0 refuses nothing."""
@@ -187,17 +173,15 @@ def tried(refusing, command, misses):
 
 
 def main():
-    parser = argparse.ArgumentParser(description=__doc__, formatter_class=argparse.RawDescriptionHelpFormatter)
-    parser.add_argument("--program", default=str(ROOT / "crates/asc_cli/out/asc_cli"), help="the built asc")
+    parser = harness.parser_of(__doc__)
     parser.add_argument("--misses", type=int, default=5, help="how many runs with workers end a row (5)")
     asked = parser.parse_args()
-    if not os.access(asked.program, os.X_OK):
-        sys.exit(f"bench/refusals.py: no program {asked.program}; rt run in crates/asc_cli builds it")
+    harness.asc(asked.program)
     if not shutil.which("cc"):
-        sys.exit("bench/refusals.py: no cc")
+        harness.end("no cc")
     with tempfile.TemporaryDirectory() as folder:
         counting = Path(folder, "counting")
-        counting.write_bytes(image())
+        counting.write_bytes(image(COUNTS))
         guesses = [str(counting), "--pc", "10008", "--guess", "both", "--ahead", "2"]
         run, save, kept = ["run", *guesses, "--report"], ["save", *guesses], Path(folder, "kept")
         commands = [Command("run, no workers", run), Command("run, two workers", [*run, "--workers", "2"], 2),

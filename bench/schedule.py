@@ -26,7 +26,8 @@ import sys
 
 sys.dont_write_bytecode = True
 
-from jobs import CASES, ROOT, numbers_of
+import harness
+from jobs import CASES, numbers_of
 
 
 def every(workers, visit):
@@ -128,10 +129,10 @@ def gain_of(asked, workers, offers, visits, job, outside=0, lap=0):
 
 def counted(asked):
     """A row of gains for each example."""
+    program = harness.asc(asked.counted)
     print(f"{'':16}{'R':>6}{'steps':>9}{'visits':>8}{'outside':>9}  gains with 1 to {asked.most} workers")
-    for name, (text, address, memory) in CASES.items():
-        image, text = ROOT / "examples/images" / name, LONGER.get(name, text)
-        lap, job, visits, outside, steps = numbers_of(asked.counted, text, address, memory, image)
+    for name, text in CASES.items():
+        lap, job, visits, outside, steps = numbers_of(program, name, LONGER.get(name, text))
         if asked.visits:
             visits, outside = asked.visits, outside * asked.visits / visits
         gains = [gain_of(asked, workers, share, visits, job / lap, outside, steps)[0]

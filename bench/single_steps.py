@@ -35,8 +35,11 @@ import sys
 import tempfile
 from pathlib import Path
 
-ROOT = Path(__file__).resolve().parent.parent
-TARGET = ROOT / "crates/asc_tests/src/single_steps.rt"
+sys.dont_write_bytecode = True
+
+import harness
+
+TARGET = harness.ROOT / "crates/asc_tests/src/single_steps.rt"
 
 BASE, SIZE = 0x10000, 0x10000
 DATA = 0x10100
@@ -526,6 +529,7 @@ def version(program):
 
 
 def main():
+    harness.asked(__doc__, 0, "--check")
     named = list(steps())
     cases = [case for _, rows in named for case, _, _ in rows]
     text = HEAD.format(qemu=version("qemu-riscv32"), llvm=version("llvm-mc"), count=len(cases),
@@ -535,7 +539,7 @@ def main():
         print(f"{len(rows):4} {name}")
     text += "};\n"
     print(f"{len(cases):4} in all, of {len(named)} instructions")
-    if sys.argv[1:] == ["--check"]:
+    if "--check" in sys.argv:
         if TARGET.read_text() != text:
             sys.exit(f"{TARGET} is not what this script writes")
     else:

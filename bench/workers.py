@@ -29,10 +29,8 @@ With --many each example runs N times with 64 workers, in each of two ways, and 
 those of a plain run, and of its file `expected`. The status is 1 where they are not.
 """
 
-import argparse
 import os
 import re
-import resource
 import statistics
 import subprocess
 import sys
@@ -40,14 +38,16 @@ import tempfile
 import time
 from pathlib import Path
 
-ROOT = Path(__file__).resolve().parent.parent
-EXAMPLES = ROOT / "examples"
+sys.dont_write_bytecode = True
 
-# Each program with its input, a short one, its address and the memory that it wants.
+import harness
+from harness import EXAMPLES
+
+# Each program with its input, and a short one.
 CASES = {
-    "collatz_chunks": (b"100000\n", b"1344\n", "100f4", "1024"),
-    "matrix": (b"200\n", b"12\n", "104ec", "1024"),
-    "ising": (b"4000 32 1\n", b"12 6 1\n", "106a8", "16384"),
+    "collatz_chunks": (b"100000\n", b"1344\n"),
+    "matrix": (b"200\n", b"12\n"),
+    "ising": (b"4000 32 1\n", b"12 6 1\n"),
 }
 
 RUN = ("executed", "skipped", "asked", "hits", "made", "refused")
@@ -71,18 +71,14 @@ class Run:
 
     def __init__(self, words, given):
         with open(given, "rb") as file:
-            before, begun = resource.getrusage(resource.RUSAGE_CHILDREN), time.perf_counter()
-            run = subprocess.run(words, stdin=file, capture_output=True)
-            self.seconds = time.perf_counter() - begun
-            after = resource.getrusage(resource.RUSAGE_CHILDREN)
-        self.processor = after.ru_utime + after.ru_stime - before.ru_utime - before.ru_stime
+            run = harness.measured(words, stdin=file)
+        self.words, self.seconds, self.processor = run.line, run.seconds, run.processor
         told = REPORT.search(run.stderr)
         self.numbers = {}
         if told:
             texts = [text for text in told.groups() if text and text.isdigit()]
             self.numbers = dict(zip(RUN + WORKERS, map(int, texts)))
         self.gave = run.stdout, run.stderr[:told.start()] if told else run.stderr, run.returncode
-        self.words = " ".join(map(str, words))
 
     def check(self, first, kinds, ahead):
         """That it gave what the first one gave, and that its numbers add up."""
@@ -163,7 +159,7 @@ def processors_had(words, given, count):
 
 def measure(program, name, text, rounds, most, given):
     """Runs a case in each way, so many times, and prints what came of it."""
-    _, _, address, memory = CASES[name]
+    address, memory = harness.PLACES[name]
     Path(given).write_bytes(text)
     words = [program, "run", str(EXAMPLES / "images" / name), "--memory", memory]
     first = Run([*words, "--pc", address, "--guess", "none", "--report"], given)
@@ -240,8 +236,7 @@ def many(program, times, only):
 
 
 def main():
-    parser = argparse.ArgumentParser(description=__doc__, formatter_class=argparse.RawDescriptionHelpFormatter)
-    parser.add_argument("--program", default=str(ROOT / "crates/asc_cli/out/asc_cli"), help="the built asc")
+    parser = harness.parser_of(__doc__)
     parser.add_argument("--rounds", type=int, default=5, help="how often each case runs in each way (5)")
     parser.add_argument("--most", type=int, default=3, help="the most workers (3)")
     parser.add_argument("--only", nargs="+", metavar="NAME", help="the cases or examples to run (all)")
@@ -250,21 +245,20 @@ def main():
     inputs.add_argument("--input", metavar="TEXT", help="the input of each case that is run, in place of its own")
     parser.add_argument("--many", type=int, metavar="N", help="run each example N times with 64 workers, and compare")
     asked = parser.parse_args()
-    if not os.access(asked.program, os.X_OK):
-        sys.exit(f"bench/workers.py: no program {asked.program}; rt run in crates/asc_cli builds it")
+    harness.asc(asked.program)
     if asked.many is not None:
         return 1 if many(asked.program, asked.many, asked.only) else 0
-    print(f"{os.cpu_count()} processors, load {os.getloadavg()[0]:.1f} at the beginning")
+    harness.print_load("beginning")
     with tempfile.TemporaryDirectory() as folder:
         given = os.path.join(folder, "input")
         for name in (name for name in CASES if name in (asked.only or CASES)):
             try:
-                long, short, _, _ = CASES[name]
+                long, short = CASES[name]
                 text = asked.input.encode() + b"\n" if asked.input is not None else short if asked.quick else long
                 measure(asked.program, name, text, max(1, asked.rounds), asked.most, given)
             except Differs as differs:
                 sys.exit(str(differs))
-    print(f"load {os.getloadavg()[0]:.1f} at the end")
+    harness.print_load("end")
     return 0
 
 

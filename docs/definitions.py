@@ -4,8 +4,8 @@
     python3 docs/definitions.py            writes the list, between the two lines that mark it
     python3 docs/definitions.py --check    says whether the list is what this script would write
 
-The crates are in the order of crates.txt, and the files of one in that of its specs/Lib.antt. Of a file are told its
-first comment, up to an empty line, and the names of its public definitions.
+The crates are in the order of crates.txt, and the files of one in that of its specs/Lib.antt. Of a file are told the first
+sentence of its first comment, and the names of its public definitions. A file of words of private contracts is left out.
 """
 
 import re
@@ -33,20 +33,20 @@ def modules(folder):
 
 
 def head(text):
-    """The first comment of a file, as one line."""
+    """The first sentence of a file's first comment."""
     lines = []
     for line in text.splitlines():
         if not line.startswith("-- "):
             break
         lines.append(line[3:].strip())
-    return " ".join(lines)
+    return re.split(r"(?<=\.) (?=[A-Z])", " ".join(lines))[0]
 
 
 def row(path):
     """The line of one file, or nothing where it has no public definition."""
     text = path.read_text()
     names = DEFINITION.findall(text)
-    if not names:
+    if not names or "private contracts" in head(text):
         return ""
     link = f"- [{path.stem}](../{path.relative_to(ROOT).as_posix()})"
     return f"{link}: {head(text)} {', '.join(f'`{name}`' for name in names)}\n"

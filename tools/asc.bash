@@ -1,8 +1,9 @@
-# Completion of the words of asc and asc-why for bash: `source tools/asc.bash`, or this file as `asc` in
+# Completion of the words of asc and its tools for bash: `source tools/asc.bash`, or this file under the name of each in
 # ~/.local/share/bash-completion/completions. Numbers that are offered are a range's ends and its default.
 
 _asc() {
     local word=${COMP_WORDS[COMP_CWORD]} before=${COMP_WORDS[COMP_CWORD - 1]} offered=
+    local tool=${COMP_WORDS[0]##*/} command=${COMP_WORDS[1]} commands="run save make trial" at=1 own=
     COMPREPLY=()
     # An option and its value behind a = are three words here.
     if [ "$word" = = ]; then
@@ -10,10 +11,35 @@ _asc() {
     elif [ "$before" = = ]; then
         before=${COMP_WORDS[COMP_CWORD - 2]}
     fi
-    if [ "$COMP_CWORD" -eq 1 ]; then
-        offered="run save make trial"
-    elif [[ ${COMP_WORDS[1]} != @(run|save) && $before != --workers ]]; then
-        [ "${COMP_WORDS[1]}" = trial ] && offered=--workers
+    # A tool's own options, some of which stand before all else, and the command that has its others.
+    case $tool in
+        asc-pc) own="--asc --try --best --lap --seconds" command=run commands= ;;
+        asc-plot)
+            commands="steps hits workers"
+            case $command in
+                hits) own="--asc --parts" command=run ;;
+                workers) own="--asc --most --times" command=run ;;
+            esac
+            ;;
+        asc-show)
+            [ "$COMP_CWORD" -ne 1 ] || own="--show --data"
+            command=show commands=
+            ;;
+        asc-steps)
+            [ "$COMP_CWORD" -ne 1 ] || own=--asc
+            command=run commands=
+            ;;
+        asc-why)
+            [ "$COMP_CWORD" -ne 1 ] || own=--asc
+            [ "$command" = --asc ] && [ "$COMP_CWORD" -gt 2 ] && command=${COMP_WORDS[3]} at=3
+            ;;
+    esac
+    [ "$tool" = asc ] || [ "$COMP_CWORD" -ne 1 ] || own+=" --help"
+    if [ "$COMP_CWORD" -eq "$at" ] && [ -n "$commands" ]; then
+        offered=$commands
+        [[ $word != -* ]] || offered=$own
+    elif [[ $command != @(run|save|show|steps|--asc) && $before != --workers ]]; then
+        [ "$command" = trial ] && offered=--workers
     else
         case $before in
             --memory) offered="64 1024 65536" ;;
@@ -27,13 +53,19 @@ _asc() {
             --ahead) offered="1 4 64" ;;
             --workers) offered="0 64" ;;
             --queue) offered="1 256 1024" ;;
-            --pc) ;;
+            --lap) offered=100 ;;
+            --seconds) offered=60 ;;
+            --parts) offered=20 ;;
+            --times) offered=3 ;;
+            --pc | --most) ;;
             *)
-                case $word in
-                    -*)
-                        offered="--memory --steps --machine --guess --pc --profile --min --laps --span --ahead --queue"
-                        offered+=" --join"
-                        [ "${COMP_WORDS[1]}" = save ] || offered+=" --workers --load --report"
+                case $command$word in
+                    steps-*) ;;
+                    show-*) offered="$own --memory --steps --machine --laps --span" ;;
+                    run-* | save-*)
+                        offered="$own --memory --steps --machine --guess --pc --profile --min --laps --span --ahead"
+                        offered+=" --queue --join"
+                        [ "$command" = save ] || offered+=" --workers --load --report"
                         ;;
                     *)
                         mapfile -t COMPREPLY < <(compgen -f -- "$word")
@@ -47,4 +79,4 @@ _asc() {
     mapfile -t COMPREPLY < <(compgen -W "$offered" -- "$word")
 }
 
-complete -F _asc asc asc-why
+complete -F _asc asc asc-pc asc-plot asc-show asc-steps asc-why

@@ -11,13 +11,16 @@ is to be, and else 1.
 import importlib.machinery
 import importlib.util
 import os
+import pty
 import re
+import select
 import shutil
 import signal
 import struct
 import subprocess
 import sys
 import tempfile
+import time
 import xml.etree.ElementTree
 from pathlib import Path
 
@@ -91,6 +94,8 @@ def check_options(why):
     known, shared = options()
     same("options that asc-why knows", why.OPTIONS, {name: taken for name, (taken, _) in known.items()})
     same("options of asc save that it knows", list(why.COMMANDS["save"][1]), list(known)[:shared])
+    same("options without a value that the tools know", sorted(why.asc_tools.FLAGS),
+         sorted(name for name, (taken, _) in known.items() if taken == "nothing"))
     same("asc-why's defaults", (why.DEFAULT_MEMORY, why.DEFAULT_MACHINE), (known["--memory"][1], known["--machine"][1]))
     page = (ROOT / "docs/asc.1").read_text()
     plain = page.replace("\\-", "-")
@@ -375,15 +380,15 @@ def check_steps(program, folder):
         same(f"asc-steps: {name} with a step less, and with as many", statuses, [75, 0])
 
 
-# In place of asc, for pictures that are known: laps of 1000 steps, jumps at all visits but the first ten, with workers at
-# 10058 alone. It does 300,000 steps a second.
+# In place of asc, for pictures that are known: laps of 1000 steps, jumps at all visits but the first ten; with a queue at
+# 10058 alone, and by one lap each. It does 300,000 steps a second.
 STAND_IN = """#!/usr/bin/env python3
 import sys
 import time
 options = dict(word[2:].partition("=")[::2] for word in sys.argv[1:] if word.startswith("--"))
 steps = min(int(options.get("steps", 100000)), 100000)
 asked = steps // 1000
-none = options.get("guess") == "none" or "queue" in options and "10058" not in sys.argv
+none = options.get("guess") == "none" or "queue" in options and "--pc 10058 --laps 1 " not in " ".join(sys.argv)
 hits = 0 if none else max(0, asked - 10)
 time.sleep((steps - 900 * hits) / 300_000)
 numbers = f"executed {steps - 900 * hits} skipped {900 * hits} asked {asked} hits {hits}"
@@ -394,8 +399,12 @@ if options.get("workers", "0") != "0":
 
 
 def stand_in(folder):
-    path = folder / "guessing"
-    path.write_text(STAND_IN)
+    return script(folder, "guessing", STAND_IN)
+
+
+def script(folder, name, text):
+    path = folder / name
+    path.write_text(text if text.startswith("#!") else f"#!/bin/sh\n{text}\n")
     path.chmod(0o755)
     return path
 
@@ -428,7 +437,7 @@ def check_pc(program, folder):
     row = "        100       1000.0         90    81.0%\n"
     same("asc-pc: a trial", tried, (
         f"100000 steps\n{HEADS}       hits  skipped  where\n   10058{row}   1005c{row}".encode(), b"", 0))
-    best = [TOOLS / "asc-pc", "--best", "--asc", stand_in(folder), "--lap=1000", "--seconds=6", image, "--workers=2"]
+    best = [TOOLS / "asc-pc", "--best", "--asc", stand_in(folder), "--lap=1000", "--seconds=60", image, "--workers=2"]
     line, gained, status = outcome(best)
     same("asc-pc: the best options", (re.sub(rb"ahead \d+ --queue \d+", b"ahead A --queue Q", line), status), (
         b"--pc 10058 --laps 1 --span 4000 --ahead A --queue Q --workers 2\n", 0))
@@ -495,9 +504,9 @@ def check_show(folder):
 
 
 def check_plot(folder):
-    def picture(*words):
+    def picture(*words, said=rb""):
         told = outcome([TOOLS / "asc-plot", *words])
-        same(f"asc-plot {words[0]}", told[1:], (b"", 0))
+        same(f"asc-plot {words[0]}", (bool(re.fullmatch(said, told[1])), told[2]), (True, 0))
         drawn = xml.etree.ElementTree.fromstring(told[0])
         return {kind: drawn.findall(f"{{http://www.w3.org/2000/svg}}{kind}") for kind in ("rect", "polyline", "text")}
 
@@ -512,8 +521,12 @@ def check_plot(folder):
     same("asc-plot hits: its points", drawn["polyline"][0].get("points"),
          "90.0,350.0 222.5,305.0 355.0,230.0 487.5,155.0 620.0,80.0")
     same("asc-plot hits: its title", drawn["text"][0].text, "nested: 90 jumps at 100 visits, 81.0% of steps skipped")
-    drawn = picture("workers", "--asc", guessing, "--most", "3", "--times", "1", image)
+    row = rb"asc-plot: --workers %d: \d\.\d{3} s, \d\.\d\d times as fast as a plain run\n"
+    drawn = picture("workers", "--asc", guessing, "--most", "3", "--times", "1", image,
+                    said=b"".join(row % workers for workers in range(4)))
     same("asc-plot workers: its points", len(drawn["polyline"][0].get("points").split()), 4)
+    same("asc-plot workers: its texts", [text.text for text in drawn["text"][:3]],
+         ["nested: time against workers", "workers", "seconds"])
     (folder / "empty").write_bytes(b"")
     same("asc-plot: no numbers", outcome([TOOLS / "asc-plot", "steps", folder / "empty"])[2], 1)
     same("asc-plot: no file", outcome([TOOLS / "asc-plot", "steps", folder / "none"]), (
@@ -524,18 +537,136 @@ def check_full(program, folder):
     """A full device as standard output, and a pipe whose reader has ended."""
     image, guessing = nested(folder), stand_in(folder)
     asked = {"asc-pc": ["--asc", program, image], "asc-steps": ["--asc", program, image],
-             "asc-plot": ["hits", "--asc", guessing, image]}
-    if SHOW.exists():
-        asked["asc-show"] = ["--show", SHOW, image, "1005c", "2"]
+             "asc-plot": ["hits", "--asc", guessing, image], "asc-why": ["--help"],
+             "asc-show": ["--show", script(folder, "showing", "echo steps"), image, "1005c", "2"]}
     for tool, words in asked.items():
         told = outcome([TOOLS / tool])
-        same(f"{tool}: no words", (told[0], told[1].decode().count(f"    {tool} ") > 0, told[2]), (b"", True, 64))
-        reading, writing = os.pipe()
-        os.close(reading)
-        for out, line in ((os.open("/dev/full", os.O_WRONLY), "No space left on device"), (writing, "Broken pipe")):
-            run = subprocess.run([TOOLS / tool, *words], stdin=subprocess.DEVNULL, stdout=out, stderr=subprocess.PIPE)
-            os.close(out)
-            same(f"{tool}: {line}", (run.stderr, run.returncode), (f"{tool}: {line}\n".encode(), 74))
+        if tool != "asc-why":
+            same(f"{tool}: no words", (told[0], told[1].decode().count(f"    {tool} ") > 0, told[2]), (b"", True, 64))
+        full = f"{tool}: No space left on device\n".encode()
+        for line in (words, ["--help"]):
+            reading, writing = os.pipe()
+            os.close(reading)
+            for out, wanted in ((os.open("/dev/full", os.O_WRONLY), (full, 74)), (writing, (b"", -signal.SIGPIPE))):
+                run = subprocess.run([TOOLS / tool, *line], stdin=subprocess.DEVNULL, stdout=out,
+                                     stderr=subprocess.PIPE)
+                os.close(out)
+                same(f"{tool} {line[0]}: a full device, or a pipe without a reader", (run.stderr, run.returncode), wanted)
+
+
+class Started:
+    """A tool with processes of its own, which a Ctrl-C meets together. It has a minute."""
+
+    def __init__(self, words, folder, given=subprocess.DEVNULL):
+        before = signal.signal(signal.SIGINT, signal.default_int_handler)
+        self.run = subprocess.Popen(words, stdin=given, stdout=subprocess.PIPE, stderr=subprocess.PIPE, cwd=folder,
+                                    start_new_session=True, bufsize=0)
+        signal.signal(signal.SIGINT, before)
+
+    def line(self):
+        """The first line on standard error."""
+        return self.run.stderr.readline() if select.select([self.run.stderr], [], [], 60)[0] else b""
+
+    def outcome(self):
+        try:
+            return *self.run.communicate(timeout=60), self.run.returncode
+        except subprocess.TimeoutExpired:
+            os.killpg(self.run.pid, signal.SIGKILL)
+            return *self.run.communicate(), "it goes on"
+
+    def interrupted(self):
+        os.killpg(self.run.pid, signal.SIGINT)
+        return self.outcome()
+
+
+def check_terminal(program, folder):
+    """A terminal as standard input, at which nobody types, or one Ctrl-D ends what is typed."""
+    image, guessing = nested(folder), stand_in(folder)
+    showing = script(folder, "showing", "echo steps")
+    waits = b": the guest's input is read from the terminal; end it with Ctrl-D\n"
+    ours, theirs = pty.openpty()
+    for tool, *words in (("asc-pc", "--asc", program, image), ("asc-pc", "--best", "--asc", program, image),
+                         ("asc-steps", "--asc", program, image), ("asc-plot", "hits", "--asc", guessing, image),
+                         ("asc-plot", "workers", "--asc", guessing, image)):
+        started = Started([TOOLS / tool, *words], folder, theirs)
+        same(f"{tool} {words[0]}: nobody types", (started.line(), started.interrupted()),
+             (tool.encode() + waits, (b"", b"", -signal.SIGINT)))
+    for tool, *words in (("asc-plot", "steps", "none"), ("asc-show", "--show", showing, image, "1005c", "2"),
+                         ("asc-why", "--asc", program, "run", HELLO)):
+        told = Started([TOOLS / tool, *words], folder, theirs).outcome()
+        same(f"{tool} {words[0]}: no input", (b"Ctrl-D" in told[1], told[2] == "it goes on"), (False, False))
+    for typed in (b"\x04", b"a line\n\x04"):
+        started = Started([TOOLS / "asc-steps", "--asc", program, HELLO], folder, theirs)
+        os.write(ours, typed)
+        same(f"asc-steps: {typed} is typed", started.outcome(), (b"9\n", b"asc-steps" + waits, 0))
+    os.close(ours)
+    os.close(theirs)
+
+
+# In place of asc: a run at 1005c that does not end; either one that guesses or one that does not. It says so once the tool
+# has seen the end of the one at 10058.
+ENDLESS = STAND_IN + """
+import os
+if "--pc=10058" in sys.argv:
+    os.symlink(str(os.getpid()), "number")
+    os.replace("number", "counted")
+if "--pc=1005c" in sys.argv and ("--guess=none" in sys.argv) != GUESSES:
+    while not os.path.lexists("counted") or os.path.exists(f"/proc/{os.readlink('counted')}"):
+        time.sleep(0.1)
+    time.sleep(1)
+    open("runs", "w").close()
+    time.sleep(600)
+"""
+
+
+def check_interrupt(folder):
+    """A Ctrl-C while the program of a tool runs."""
+    def told(tool, *words):
+        for name in ("runs", "counted"):
+            (folder / name).unlink(missing_ok=True)
+        started = Started([TOOLS / tool, *words], folder)
+        for _ in range(600):
+            if (folder / "runs").exists():
+                return started.interrupted()
+            time.sleep(0.1)
+        return "no run goes on", started.interrupted()
+
+    image, endless = nested(folder), script(folder, "endless", ">runs; exec sleep 600")
+    for tool, *words in (("asc-pc", "--asc", endless, image), ("asc-pc", "--best", "--asc", endless, image),
+                         ("asc-plot", "hits", "--asc", endless, image), ("asc-steps", "--asc", endless, image),
+                         ("asc-show", "--show", endless, image, "1005c", "2"), ("asc-why", "--asc", endless, "run", image)):
+        same(f"{tool} {words[0]}: an interrupt", told(tool, *words), (b"", b"", -signal.SIGINT))
+    row, line = "        100       1000.0", "asc-pc: an interrupt ended it; {} of 2 heads were counted\n"
+    asked = ["asc-pc", "--asc", script(folder, "counting", ENDLESS.replace("GUESSES", "False")), image]
+    same("asc-pc: an interrupt among rows", told(*asked), (
+        f"100000 steps\n{HEADS}  where\n   10058{row}\n".encode(), line.format(1).encode(), -signal.SIGINT))
+    asked = ["asc-pc", "--try", "--asc", script(folder, "trying", ENDLESS.replace("GUESSES", "True")), image]
+    same("asc-pc: an interrupt among trials", told(*asked), (
+        f"100000 steps\n{HEADS}       hits  skipped  where\n   10058{row}         90    81.0%\n"
+        f"   1005c{row}          -        -\n".encode(), line.format(2).encode(), -signal.SIGINT))
+
+
+def check_shell(program, folder):
+    """A reader that wants one line, a tool that is named by a link from another folder or is a copy there, and programs that
+    a signal ends or that report nothing."""
+    line = '{ "$@"; echo $? >status; } 2>errors | head -1; cat errors'
+    told = outcome(["sh", "-c", line, "sh", TOOLS / "asc-pc", "--asc", program, nested(folder)], cwd=folder)
+    same("asc-pc | head -1", (told, (folder / "status").read_text() in ("0\n", "141\n")), ((b"218 steps\n", b"", 0), True))
+    (folder / "linked").symlink_to(TOOLS / "asc-steps")
+    same("asc-steps by a link", outcome([folder / "linked", "--asc", program, HELLO], cwd="/"), (b"9\n", b"", 0))
+    copied = folder / "copied"
+    copied.mkdir()
+    for name in ("asc-steps", "asc_tools.py"):
+        shutil.copy(TOOLS / name, copied)
+    same("a copy of asc-steps", outcome([copied / "asc-steps", "--asc", program, HELLO], cwd="/"), (b"9\n", b"", 0))
+    for place in (TOOLS, copied):
+        same(f"what the tools leave in {place}", list(place.glob("__pycache__")), [])
+    killed = script(folder, "killed", "kill -s KILL $$")
+    same("asc-show: its program is killed", outcome([TOOLS / "asc-show", "--show", killed, "image"]),
+         (b"", b"", -signal.SIGKILL))
+    for path, status in ((killed, -9), (script(folder, "silent", "exit 0"), 0)):
+        same(f"asc-pc: {path.name}", outcome([TOOLS / "asc-pc", "--asc", path, HELLO]), (
+            b"", f"asc-pc: a run ended with status {status} and no numbers\n".encode(), 1))
 
 
 # ---- documents
@@ -594,6 +725,20 @@ def check_completion(known):
     same("a part of one", offered("asc", "run", "--st"), ["--steps"])
     for words in (["run"], ["save"], ["run", "--load"], ["run", "--load", "="]):
         same(f"files behind {' '.join(words)}", offered("asc", *words, "examples/images/h"), ["examples/images/hello"])
+    for tool, first, own, others in (
+            ("asc-pc", [], "--asc --try --best --lap --seconds", list(known)),
+            ("asc-plot", ["hits"], "--asc --parts", list(known)),
+            ("asc-plot", ["workers"], "--asc --most --times", list(known)), ("asc-plot", ["steps"], "", []),
+            ("asc-show", [], "--show --data --help", "--memory --steps --machine --laps --span".split()),
+            ("asc-steps", [], "--asc --help", list(known)), ("asc-why", [], "--asc --help", [])):
+        wanted = own.split() + (["--help"] if tool == "asc-pc" else []) + others
+        what = " ".join([tool, *first])
+        same(f"options of {what}", offered(tool, *first, "--"), wanted)
+        same(f"files of {what}", offered(tool, *first, *["--asc"] * (wanted[:1] == ["--asc"]), "examples/images/h"),
+             ["examples/images/hello"])
+    same("what asc-plot draws", offered("asc-plot", ""), ["steps", "hits", "workers"])
+    for words in (["run"], ["--asc", "program", "run"]):
+        same(f"options behind asc-why {' '.join(words)}", offered("asc-why", *words, "--"), list(known))
     for name, (taken, default) in known.items():
         if default is None:
             continue
@@ -612,8 +757,9 @@ def main():
     known = check_options(why)
     check_words(why, known)
     for tool, lines in (("asc-why", 1), ("asc-steps", 1), ("asc-pc", 2), ("asc-plot", 3), ("asc-show", 1)):
-        told = outcome([TOOLS / tool, "--help"])
-        same(f"{tool} --help", (told[0].decode().count(f"    {tool} "), told[1:]), (lines, (b"", 0)))
+        for asked in ("--help", "-h"):
+            told = outcome([TOOLS / tool, asked])
+            same(f"{tool} {asked}", (told[0].decode().count(f"    {tool} "), told[1:]), (lines, (b"", 0)))
     check_links()
     check_definitions()
     with tempfile.TemporaryDirectory() as folder:
@@ -623,6 +769,9 @@ def main():
         check_show(Path(folder))
         check_plot(Path(folder))
         check_full(program, Path(folder))
+        check_terminal(program, Path(folder))
+        check_interrupt(Path(folder))
+        check_shell(program, Path(folder))
         check_copy(Path(folder))
     check_completion(known)
     print(f"tools/check.py: {tried} trials, {failed} failed")
