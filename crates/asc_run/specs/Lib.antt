@@ -5,6 +5,7 @@ pub mod Serial
 pub mod LastVisits
 pub mod Seen
 pub mod Helped
+pub mod VisitedBy
 pub mod Way
 pub mod Walk
 pub mod SerialRun

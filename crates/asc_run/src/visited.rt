@@ -1,11 +1,14 @@
 //! A program that is visited where it stands at an address.
 ghost use Rattle.std.specs.Prelude.{◌≡◌, ◌≤◌, ◌<◌, ◌+◌, ◌^◌, ℕ, Bool, length, [], None, IsNone, true, false};
+ghost use Rattle.asc_run.specs.Helped.{aid, Plans, VisitsMachine};
+ghost use Rattle.asc_run.specs.Seen.{Sees};
+ghost use Rattle.asc_run.specs.VisitedBy.{Visits};
 
-use crate::helper::Helper;
 use crate::process::Process;
 use crate::walk::Ended;
+use asc_find::Finder;
 use asc_outside::{Sink, Source};
-use asc_shape::Steps;
+use asc_shape::{State, Steps};
 use std::sync::ledger::Ledger;
 
 /// A program on its way, and how it was visited.
@@ -26,23 +29,32 @@ impl Visited {
     ghost use Rattle.asc_traj.specs.Jump.{IsJump};
     ghost use Rattle.asc_run.specs.Execution.{device_of};
     ghost use Rattle.asc_run.specs.Visits.{Course, is_at, with_landing};
-    ghost use Rattle.asc_run.specs.Helped.{aid, HasRoom, Helped, Lands};
-    ghost use Rattle.asc_run.specs.Seen.{Sees, SeesAll};
+    ghost use Rattle.asc_run.specs.Helped.{HasRoom, Helped, Lands};
+    ghost use Rattle.asc_run.specs.Seen.{SeesAll};
     ghost use Rattle.asc_run.specs.Way.{ComesUnmarked};
     ghost use Rattle.asc_run.specs.Walk.{tally, GoesHelped, IsRaisedBy};
 
     /// Runs a program until it ends, a device fails, or `limit` steps are done or jumped over. Where it stands at `pc`,
-    /// the helper is visited, and asked for a jump. Nothing was jumped over before.
-    pub(crate) fn run<H: Helper, I: Source, O: Sink, E: Sink, L: Ledger>(
+    /// the helper is visited by `visit`, and asked for a jump. Nothing was jumped over before.
+    pub(crate) fn run<
+        H: Finder,
+        V: Fn(&mut H, &mut State, u64),
+        I: Source,
+        O: Sink,
+        E: Sink,
+        L: Ledger,
+    >(
         &mut self,
         limit: u64,
         pc: Option<u32>,
         helper: &mut H,
+        visit: &V,
         input: &mut I,
         out: &mut O,
         err: &mut E,
         steps: &mut Steps<L>,
     ) -> Ended
+        requires visit { Visits (λ h. aid (H.tally h) (H.replies h) (H.plan h) (H.machine h)) V.Fn visit.now }
         requires limit { limit ≤ 2 ^ 40 }
         requires count { self.old.process.count ≤ limit }
         requires none_told { tally self.old.asked self.old.skipped self.old.hits ≡ tally 0 0 0 }
@@ -72,7 +84,7 @@ impl Visited {
                 return Ended::Limit;
             }
             let landed = self.process.count;
-            if let Some(n) = self.land(pc, helper, limit - landed) {
+            if let Some(n) = self.land(pc, helper, visit, limit - landed) {
                 self.process.count += n;
                 self.skipped += n;
                 self.hits += 1;
@@ -88,7 +100,14 @@ impl Visited {
     }
 
     /// Where the program stands at `pc`, tells the helper of its state, and asks for a jump.
-    fn land<H: Helper>(&mut self, pc: Option<u32>, helper: &mut H, left: u64) -> Option<u64>
+    fn land<H: Finder, V: Fn(&mut H, &mut State, u64)>(
+        &mut self,
+        pc: Option<u32>,
+        helper: &mut H,
+        visit: &V,
+        left: u64,
+    ) -> Option<u64>
+        requires visit { Visits (λ h. aid (H.tally h) (H.replies h) (H.plan h) (H.machine h)) V.Fn visit.now }
         requires left { left ≤ 2 ^ 40 }
         requires number { self.old.asked < 2 ^ 40 }
         requires room { HasRoom (2 ^ 62)
@@ -114,10 +133,34 @@ impl Visited {
         match pc {
             Some(pc) if self.process.state.pc() == pc => {
                 self.asked += 1;
-                helper.visit(&mut self.process.state, self.asked);
+                visit_by(helper, visit, &mut self.process.state, self.asked);
                 helper.jump(&mut self.process.state, left)
             }
             _ => None,
         }
     }
+}
+
+/// Has a function tell a helper of the state at a visit, which is the walk's `number`th.
+#[inline]
+fn visit_by<H: Finder, V: Fn(&mut H, &mut State, u64)>(
+    helper: &mut H,
+    visit: &V,
+    state: &mut State,
+    number: u64,
+)
+    requires visit { Visits (λ h. aid (H.tally h) (H.replies h) (H.plan h) (H.machine h)) V.Fn visit.now }
+    requires number { number ≤ 2 ^ 40 }
+    requires made { (H.plan helper.old).made < 2 ^ 62 }
+    requires full { (H.plan helper.old).full < 2 ^ 62 }
+    ensures tally { H.tally helper.new ≡ H.tally helper.old }
+    ensures replies { H.replies helper.new ≡ H.replies helper.old }
+    ensures plan { Plans 1 (H.plan helper.old) (H.plan helper.new) }
+    ensures seen { Sees number (H.plan helper.old) (H.plan helper.new) }
+    ensures stays { state.new ≡ state.old }
+    ensures machine { VisitsMachine number state.old
+        (aid (H.tally helper.old) (H.replies helper.old) (H.plan helper.old) (H.machine helper.old))
+        (aid (H.tally helper.new) (H.replies helper.new) (H.plan helper.new) (H.machine helper.new)) }
+{
+    visit(helper, state, number);
 }

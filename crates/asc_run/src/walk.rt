@@ -5,8 +5,9 @@ use crate::process::Process;
 use crate::recognised::Recognised;
 use crate::visited::Visited;
 use asc_elf::Image;
+use asc_find::Finder;
 use asc_outside::{Memory, Sink, Source};
-use asc_shape::{Shape, Steps};
+use asc_shape::{Shape, State, Steps};
 use asc_step::Fault;
 use std::alloc::Global;
 use std::marker::Model;
@@ -107,6 +108,7 @@ impl Model for Walk {
 impl Walk {
     ghost use Rattle.asc_calls.specs.World.{faults, outside, BlamesOnly};
     ghost use Rattle.asc_run.specs.Helped.{aid, HasRoom};
+    ghost use Rattle.asc_run.specs.VisitedBy.{IsVisit, MayVisit, Visits};
     ghost use Rattle.asc_run.specs.Visits.{HasBounds};
     ghost use Rattle.asc_model.specs.State.{IsState};
     ghost use Rattle.asc_run.specs.Walk.{new_walk, device_in, GoesFirst, HelpsFirst};
@@ -140,7 +142,6 @@ impl Walk {
     /// recognised the helper is neither visited nor asked.
     ///
     /// A second call answers as the first did, and changes nothing.
-    #[tactic(auto, using(crate::proofs::Seeings::unvisited))]
     pub fn go<H: Helper, I: Source, O: Sink, E: Sink, L: Ledger>(
         &mut self,
         helper: &mut H,
@@ -150,6 +151,56 @@ impl Walk {
         steps: &mut Steps<L>,
     ) -> Ended
         requires { IsNone self.old.ended → HasRoom (2 ^ 61)
+            (aid (H.tally helper.old) (H.replies helper.old) (H.plan helper.old) (H.machine helper.old)) }
+
+        // The first call goes as plain execution does, or stops where a device failed. The helper's visits are those
+        // that its replies leave on that run.
+        ensures first { IsNone self.old.ended → GoesFirst self.old self.new
+            (outside (I.left input.old) (O.given out.old) (E.given err.old) steps.old
+            (faults (I.faults input.old) (O.faults out.old) (E.faults err.old)))
+            (outside (I.left input.new) (O.given out.new) (E.given err.new) steps.new
+            (faults (I.faults input.new) (O.faults out.new) (E.faults err.new)))
+            (aid (H.tally helper.old) (H.replies helper.old) (H.plan helper.old) (H.machine helper.old))
+            (aid (H.tally helper.new) (H.replies helper.new) (H.plan helper.new) (H.machine helper.new)) result }
+
+        // The helper's counts rise by the walk's. Where no address is to be recognised, the helper stays as it was.
+        ensures helper { IsNone self.old.ended → HelpsFirst self.old.settings.recognised self.new.tally helper.old
+            helper.new (H.tally helper.old) (H.tally helper.new) }
+
+        // A second one answers the same, and changes nothing.
+        ensures again { IfSome self.old.ended (λ ended. (result ≡ ended) × (self.new ≡ self.old)
+            × (helper.new ≡ helper.old) × (input.new ≡ input.old) × (out.new ≡ out.old) × (err.new ≡ err.old)
+            × (steps.new ≡ steps.old)) }
+        ensures limit { self.new.count ≤ self.old.settings.limit }
+
+        // The count of faults of the device that failed in this call rises by one, and those of the others stay.
+        ensures faults { BlamesOnly (device_in self.old.ended result)
+            (faults (I.faults input.old) (O.faults out.old) (E.faults err.old))
+            (faults (I.faults input.new) (O.faults out.new) (E.faults err.new)) }
+    {
+        let visit = |helper: &mut H, state: &mut State, number: u64|
+            requires { MayVisit number
+                (aid (H.tally helper.now) (H.replies helper.now) (H.plan helper.now) (H.machine helper.now)) }
+            ensures { IsVisit number state.entry.now state.exit.now
+                (aid (H.tally helper.entry.now) (H.replies helper.entry.now) (H.plan helper.entry.now) (H.machine helper.entry.now))
+                (aid (H.tally helper.exit.now) (H.replies helper.exit.now) (H.plan helper.exit.now) (H.machine helper.exit.now)) }
+        { helper.visit(state, number) };
+        self.go_by(helper, &visit, input, out, err, steps)
+    }
+
+    /// The same, with a helper that is visited by a function: each of its calls is what a visit of a `Helper` is.
+    #[tactic(auto, using(crate::proofs::Seeings::unvisited))]
+    pub fn go_by<H: Finder, V: Fn(&mut H, &mut State, u64), I: Source, O: Sink, E: Sink, L: Ledger>(
+        &mut self,
+        helper: &mut H,
+        visit: &V,
+        input: &mut I,
+        out: &mut O,
+        err: &mut E,
+        steps: &mut Steps<L>,
+    ) -> Ended
+        requires visit { Visits (λ h. aid (H.tally h) (H.replies h) (H.plan h) (H.machine h)) V.Fn visit.now }
+        requires room { IsNone self.old.ended → HasRoom (2 ^ 61)
             (aid (H.tally helper.old) (H.replies helper.old) (H.plan helper.old) (H.machine helper.old)) }
 
         // The first call goes as plain execution does, or stops where a device failed. The helper's visits are those
@@ -190,7 +241,16 @@ impl Walk {
                 return ended;
             }
         };
-        let ended = visited.run(settings.limit, address, helper, input, out, err, steps);
+        let ended = visited.run(
+            settings.limit,
+            address,
+            helper,
+            visit,
+            input,
+            out,
+            err,
+            steps,
+        );
         self.ended = Some(ended);
         ended
     }
