@@ -7,3 +7,4 @@ pub mod Crews
 pub mod Opening
 pub mod Shares
 pub mod Pages
+pub mod InRounds

@@ -3,3 +3,4 @@ pub mod Due
 pub mod Live
 pub mod Laws
 pub mod Crew
+pub mod Rounds

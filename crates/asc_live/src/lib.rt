@@ -8,6 +8,7 @@ mod crew_tests;
 mod laws;
 mod live;
 mod pusher;
+mod rounds;
 mod shards;
 mod share;
 #[cfg(test)]
@@ -16,3 +17,4 @@ mod tests;
 pub use crew::{Crew, Worked, go_beside};
 pub use laws::{guesses_are_counted, shares_rise};
 pub use live::Live;
+pub use rounds::Rounds;
