@@ -6,9 +6,9 @@
 PROGRAM is the built asc, crates/asc_cli/out/asc_cli where it is not given. `cc` compiles bench/refusing.c, an allocator
 that is preloaded and refuses. It wants Linux with glibc.
 
-Nine commands are run. Four are of a loop of 13 steps, with guesses: `asc run` with --report, alone, with two workers, and
-with saved entries, and `asc save`. Three are so with --join: the save, and the run alone and with one worker. The others
-are `asc trial 0` and `asc make 0`. In one row of runs the first allocation alone is refused, then the second alone, and so
+Ten commands are run. Five are of a loop of 13 steps, with guesses: `asc run` with --report, alone, with two workers, in
+rounds with two, and with saved entries, and `asc save`. Three are so with --join: the save, and the run alone and with one
+worker. The others are `asc trial 0` and `asc make 0`. In one row of runs the first allocation alone is refused, then the second alone, and so
 on. In another row all are refused from the first on, from the second on, and so on. A row ends where a run made fewer
 allocations than that. With workers, whose number of them is not the same each time, it ends
 where N runs did so one after another (5).
@@ -81,7 +81,7 @@ class Command:
 
     def __init__(self, name, words, workers=0):
         self.name, self.words, self.workers = name, words, workers
-        self.first = b""
+        self.has_threads, self.first = "--workers" in words, b""
 
     def is_right(self, output, report):
         if self.words[0] == "run":
@@ -144,7 +144,7 @@ class Ends:
 def row(refusing, command, on, misses):
     """How the runs of a row ended."""
     ends, number, missed = Ends(), 0, 0
-    while missed < (misses if command.workers else 1):
+    while missed < (misses if command.has_threads else 1):
         number += 1
         ended, count = refusing.run(command.words, number, on)
         missed = missed + 1 if count < number else 0
@@ -185,6 +185,7 @@ def main():
         guesses = [str(counting), "--pc", "10008", "--guess", "both", "--ahead", "2"]
         run, save, kept = ["run", *guesses, "--report"], ["save", *guesses], Path(folder, "kept")
         commands = [Command("run, no workers", run), Command("run, two workers", [*run, "--workers", "2"], 2),
+                    Command("run, in rounds", [*run, "--workers", "2", "--rounds"]),
                     Command("run, saved entries", [*run, "--load", str(kept)]), Command("save", save),
                     Command("run, joins", [*run, "--join"]), Command("save, joins", [*save, "--join"]),
                     Command("run, joins, a worker", [*run, "--join", "--workers", "1"], 1),

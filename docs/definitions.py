@@ -5,7 +5,8 @@
     python3 docs/definitions.py --check    says whether the list is what this script would write
 
 The crates are in the order of crates.txt, and the files of one in that of its specs/Lib.antt. Of a file are told the first
-sentence of its first comment, and the names of its public definitions. A file of words of private contracts is left out.
+sentence of its first comment, and the names that contracts in the code cite. A file of words of private contracts is left
+out.
 """
 
 import re
@@ -17,6 +18,7 @@ TARGET = ROOT / "docs/DEFINITIONS.md"
 MARKED = re.compile(r"(?<=<!-- list: docs/definitions\.py writes it -->\n).*?(?=^<!-- end of the list -->$)",
                     re.MULTILINE | re.DOTALL)
 DEFINITION = re.compile(r"^(?:abbrev |unfoldable )?pub (?!mod |use )(?:record |data )?(\S+)", re.MULTILINE)
+CITED = re.compile(r"ghost use Rattle\.(\w+)\.specs\.(\w+)(?:\.\{(.*?)\}| as (\w+));", re.DOTALL)
 
 
 def crates():
@@ -42,21 +44,32 @@ def head(text):
     return re.split(r"(?<=\.) (?=[A-Z])", " ".join(lines))[0]
 
 
-def row(path):
+def cited():
+    """The names that the code cites of each file of definitions."""
+    found = {}
+    for source in sorted(ROOT.glob("crates/*/src/**/*.rt")):
+        text = source.read_text()
+        for crate, file, names, short in CITED.findall(text):
+            told = names.split(",") if names else re.findall(rf"\b{short}\.(\w+)", text)
+            found.setdefault((crate, file), set()).update(name.split(" as ")[0].strip() for name in told)
+    return found
+
+
+def row(path, names_cited):
     """The line of one file, or nothing where it has no public definition."""
     text = path.read_text()
-    names = DEFINITION.findall(text)
-    if not names or "private contracts" in head(text):
+    names = [name for name in DEFINITION.findall(text) if name in names_cited]
+    if not DEFINITION.search(text) or "private contracts" in head(text):
         return ""
     link = f"- [{path.stem}](../{path.relative_to(ROOT).as_posix()})"
-    return f"{link}: {head(text)} {', '.join(f'`{name}`' for name in names)}\n"
+    return f"{link}: {head(text)} {', '.join(f'`{name}`' for name in names)}".rstrip() + "\n"
 
 
 def listing():
     """The list, with a heading for each crate that has public definitions."""
-    text = ""
+    text, found = "", cited()
     for name in crates():
-        rows = "".join(row(path) for path in modules(ROOT / "crates" / name / "specs"))
+        rows = "".join(row(path, found.get((name, path.stem), ())) for path in modules(ROOT / "crates" / name / "specs"))
         text += f"\n### {name}\n\n{rows}" if rows else ""
     return text + "\n"
 

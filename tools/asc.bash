@@ -39,7 +39,7 @@ _asc() {
         offered=$commands
         [[ $word != -* ]] || offered=$own
     elif [[ $command != @(run|save|show|steps|--asc) && $before != --workers ]]; then
-        [ "$command" = trial ] && offered=--workers
+        [ "$command" = trial ] && offered="--workers --rounds"
     else
         case $before in
             --memory) offered="64 1024 65536" ;;
@@ -65,7 +65,7 @@ _asc() {
                     run-* | save-*)
                         offered="$own --memory --steps --machine --guess --pc --profile --min --laps --span --ahead"
                         offered+=" --queue --join"
-                        [ "$command" = save ] || offered+=" --workers --load --report"
+                        [ "$command" = save ] || offered+=" --workers --rounds --load --report"
                         ;;
                     *)
                         mapfile -t COMPREPLY < <(compgen -f -- "$word")

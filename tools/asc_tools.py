@@ -10,7 +10,7 @@ import sys
 from pathlib import Path
 
 # Options without a value.
-FLAGS = ("--join", "--report")
+FLAGS = ("--join", "--report", "--rounds")
 OBJDUMPS = ("riscv64-unknown-elf-objdump", "riscv32-unknown-elf-objdump", "llvm-objdump")
 ADDR2LINES = ("riscv64-unknown-elf-addr2line", "riscv32-unknown-elf-addr2line", "llvm-addr2line")
 NUMBERS = re.compile(rb"^asc: executed (\d+) skipped (\d+) asked (\d+) hits (\d+) made (\d+) refused (\d+)\n", re.M)

@@ -73,6 +73,7 @@ def options():
     same("what run_arguments begins with", first, "shared_arguments ++ workers_option")
     same("what asc save takes", re.findall(r"^save_arguments = (.*)$", text, re.M), ["shared_arguments"])
     found = {}
+    others[others.index("rounds_flag")] = re.search(r"^rounds_flag = (.*)$", text, re.M)[1]
     for row in [*shared, workers, *others]:
         kind, name, rest = re.fullmatch(r"(\w+) \(codes \"(\w+)\"\)(.*)", row).groups()
         numbers = re.fullmatch(r" (\d+|\(2 \^ \d+\)) (\d+|\(2 \^ \d+\)) \(codes \"(\w+)\"\)", rest)
@@ -100,7 +101,7 @@ def check_options(why):
     page = (ROOT / "docs/asc.1").read_text()
     plain = page.replace("\\-", "-")
     same("options of the man page", re.findall(r"^\.BI? (--\w+)", plain, re.M), list(known))
-    same("options of its synopsis", re.findall(r"\[ (--\w+)", plain), [*known, "--workers"])
+    same("options of its synopsis", re.findall(r"\[ (--\w+)", plain), [*known, "--workers", "--rounds"])
     for name, (taken, default) in known.items():
         if default is None:
             continue
@@ -116,17 +117,22 @@ def check_options(why):
 
 
 # The options behind the first three, as the tests of asc_words write them.
-BEHIND = "--guess --pc --profile --min --laps --span --ahead --workers --queue --join --report --load".split()
+BEHIND = "--guess --pc --profile --min --laps --span --ahead --workers --lanes --queue --join --report --load".split()
 
 
 def meaning(command, behind, values, known):
-    """A command line as the tests of asc_words write it: what differs from its default stands behind the first four."""
+    """A command line as the tests of asc_words write it: what differs from its default stands behind the first four. In
+    rounds there are lanes in place of workers."""
+    if values.get("--rounds"):
+        values = {**values, "--workers": 0, "--lanes": values.get("--workers", 0)}
     if command in ("make", "trial"):
-        return f"{command} {behind}" + (f" workers {values.get('--workers', 0)}" if command == "trial" else "")
-    told = [str(values.get(name, known[name][1])) for name in ("--memory", "--steps", "--machine")]
+        both = f" workers {values.get('--workers', 0)} lanes {values.get('--lanes', 0)}"
+        return f"{command} {behind}" + (both if command == "trial" else "")
+    defaults = {"--lanes": 0, **{name: default for name, (_, default) in known.items()}}
+    told = [str(values.get(name, defaults[name])) for name in ("--memory", "--steps", "--machine")]
     for name in BEHIND:
-        value = values.get(name, known[name][1])
-        if value != known[name][1]:
+        value = values.get(name, defaults[name])
+        if value != defaults[name]:
             told.append({"--guess": value, "--join": "join", "--report": "report"}.get(name, f"{name[2:]} {value}"))
     return " ".join([*(["save"] if command == "save" else []), behind, *told])
 
@@ -238,7 +244,7 @@ LINES = [
     (f'echo 0 | "$@" {MATRIX}', None),
     (f'"$@" {HELLO} --mem 64',
      "there is no option --mem: there are --memory, --steps, --machine, --guess, --pc, --profile, "
-     "--min, --laps, --span, --ahead, --queue, --join, --workers, --load, --report, and none is abbreviated"),
+     "--min, --laps, --span, --ahead, --queue, --join, --workers, --rounds, --load, --report, and none is abbreviated"),
     (f'"$@" {HELLO} --memory 63', "--memory 63 is out of range, which is 64 to 65536"),
     (f'"$@" {HELLO} --memory 1M', "--memory wants a number in decimal digits, from 64 to 65536, and '1M' is none"),
     (f'"$@" {HELLO} --pc 0x10054',
@@ -706,6 +712,21 @@ def check_copy(folder):
     same("the name that it has before", [len(texts), any("asc_embed" in text for text in texts)], [8, False])
 
 
+def check_rounds(program):
+    """In rounds each example reports what it reports without workers, to each byte, for any number of lanes."""
+    for image in sorted(IMAGES.iterdir()):
+        given = ROOT / "examples" / image.name / "input"
+
+        def told(*options):
+            with open(given if given.exists() else os.devnull, "rb") as stdin:
+                return outcome([program, "run", "--report", "--guess=both", "--steps=10000", *options, image],
+                               stdin=stdin)
+
+        alone = told()
+        for lanes in (1, 3, 64):
+            same(f"{image.name} in rounds with {lanes}", told(f"--workers={lanes}", "--rounds"), alone)
+
+
 def check_completion(known):
     if not has("bash", "the completion"):
         return
@@ -715,12 +736,12 @@ def check_completion(known):
         return outcome(["bash", "-c", script, "bash", TOOLS / "asc.bash", *words], cwd=ROOT)[0].decode().split()
 
     same("the first word", offered("asc", ""), ["run", "save", "make", "trial"])
-    same("options of trial", offered("asc", "trial", "7", "--"), ["--workers"])
+    same("options of trial", offered("asc", "trial", "7", "--"), ["--workers", "--rounds"])
     same("numbers of trial's workers", offered("asc", "trial", "--workers", ""), ["0", "64"])
     same("options of make", offered("asc", "make", ""), [])
     same("options", offered("asc", "run", "--"), list(known))
     same("options of save", offered("asc", "save", "--"),
-         [name for name in known if name not in ("--workers", "--load", "--report")])
+         [name for name in known if name not in ("--workers", "--rounds", "--load", "--report")])
     same("numbers of save", offered("asc", "save", "--queue", ""), ["1", "256", "1024"])
     same("a part of one", offered("asc", "run", "--st"), ["--steps"])
     for words in (["run"], ["save"], ["run", "--load"], ["run", "--load", "="]):
@@ -774,6 +795,7 @@ def main():
         check_shell(program, Path(folder))
         check_copy(Path(folder))
     check_completion(known)
+    check_rounds(program)
     print(f"tools/check.py: {tried} trials, {failed} failed")
     return 1 if failed else 0
 

@@ -33,7 +33,7 @@ const TRIAL: &str = "trial 0: status 0, steps 3310, output 64\n\
 
 // A line, the calls of the store, the input, out, err and the report that fail, and what must come of it. The numbers
 // are worked out from the program: each word that it fills is a lap of 206 steps.
-static TRIALS: [(&str, [u64; 5], Want); 17] = [
+static TRIALS: [(&str, [u64; 5], Want); 19] = [
     ("asc trial 0", [0; 5], Want { out: TRIAL, ..DONE }),
     (
         "asc trial +00",
@@ -64,6 +64,16 @@ static TRIALS: [(&str, [u64; 5], Want); 17] = [
         [0; 5],
         Want {
             out: "trial 0: status 0, steps 3310, output 64\n",
+            ..DONE
+        },
+    ),
+    // In rounds they are told, and are those without workers.
+    (
+        "asc trial 300 --workers 3 --rounds",
+        [0; 5],
+        Want {
+            out: "trial 300: status 0, steps 15464, output 300\n\
+                  executed 422, skipped 15042, asked 75, hits 73, made 75\n",
             ..DONE
         },
     ),
@@ -114,6 +124,7 @@ static TRIALS: [(&str, [u64; 5], Want); 17] = [
     ("asc trial", [0; 5], USAGE),
     ("asc trial x", [0; 5], USAGE),
     ("asc trial 0 --workers 65", [0; 5], USAGE),
+    ("asc trial 0 --rounds=2", [0; 5], USAGE),
 ];
 
 #[test]

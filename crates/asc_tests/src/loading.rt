@@ -2,7 +2,7 @@
 ghost use Rattle.std.specs.Prelude.{◌≤◌};
 
 use crate::images::{CODE, FIRST, HEADER, Patch, patched, put_word};
-use crate::outside::{QUIET, SOUND, Want, check, check_guessed};
+use crate::outside::{QUIET, SOUND, Want, check, check_guessed, check_rounds};
 use asc_elf::ElfFault;
 use asc_step::{Fault, FaultKind};
 use asc_top::Answer;
@@ -30,7 +30,7 @@ fn check_line<R: Abort + Threads + Wait + Sync + Copy + Drop + Send>(
     check_guessed(rt, alloc, line, address, file, &SOUND, &want)
 }
 
-/// The same of `asc run image`, and of an image that is entered at 0x10000.
+/// The same of `asc run image`, and of an image that is entered at 0x10000. In rounds its report is that without workers.
 fn check_image<R: Abort + Threads + Wait + Sync + Copy + Drop + Send>(
     rt: &R,
     alloc: Global,
@@ -39,7 +39,9 @@ fn check_image<R: Abort + Threads + Wait + Sync + Copy + Drop + Send>(
     report: &'static str,
 ) -> Result<(), AllocError> {
     let line = ("asc run image", " --pc 10000");
-    check_line(rt, alloc, line, file, answer, report)
+    check_line(rt, alloc, line, file, answer, report)?;
+    let guessed = "asc run image --pc 10000 --guess both --report";
+    check_rounds(rt, alloc, guessed, file)
 }
 
 // Words over `FIRST`: e_phoff, e_phnum with e_phentsize, p_offset, p_offset without file bytes, p_vaddr and e_entry, the

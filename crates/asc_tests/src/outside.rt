@@ -173,6 +173,26 @@ pub(crate) fn check_guessed<R: Abort + Threads + Wait + Sync + Copy + Drop + Sen
     Ok(())
 }
 
+/// Sees that a line without workers comes to the same in rounds, to each byte.
+pub(crate) fn check_rounds<R: Abort + Threads + Wait + Sync + Copy + Drop + Send>(
+    rt: &R,
+    alloc: Global,
+    line: &str,
+    file: &[u8],
+) -> Result<(), AllocError> {
+    let alone = run_line(rt, alloc, line, file.to_vec(alloc)?, &SOUND)?;
+    let words = format!(in alloc; "{line} --workers 2 --rounds")?;
+    let rounds = run_line(rt, alloc, words.as_str(), file.to_vec(alloc)?, &SOUND)?;
+    let put = (alone.out.bytes(), alone.err.bytes(), alone.report.bytes());
+    let same = (
+        rounds.out.bytes(),
+        rounds.err.bytes(),
+        rounds.report.bytes(),
+    );
+    assert_eq!(rt; (rounds.answer, same), (alone.answer, put), "at {words}");
+    Ok(())
+}
+
 fn run_over<L: Ledger, R: Abort + Threads + Wait + Sync + Copy + Drop + Send, G: Gate + Sync>(
     rt: &R,
     alloc: Global,

@@ -1,6 +1,6 @@
 //! Runs with workers: the counting loop while workers or the run are held up.
 use crate::images::wrap;
-use crate::outside::{SOUND, only_image, run_gated};
+use crate::outside::{QUIET, SOUND, Want, check, only_image, run_gated};
 use crate::whole_runs::COUNTS;
 use asc_outside::{Hold, HoldGate, Point};
 use asc_top::Answer;
@@ -222,5 +222,60 @@ fn held_until_the_end(rt: HostRuntime) -> Result<(), Fail> {
             count_held(&rt, rt.alloc(), &held)?;
         }
     }
+    Ok(())
+}
+
+/// Runs of the counting loop without workers, and their reports.
+static ALONE: [(&str, &str); 4] = [
+    (
+        "asc run image --pc 10008 --guess stride --ahead 2 --report",
+        "asc: executed 7 skipped 6 asked 4 hits 2 made 4 refused 0\n",
+    ),
+    (
+        "asc run image --pc 10008 --guess both --ahead 2 --report",
+        "asc: executed 5 skipped 8 asked 4 hits 3 made 8 refused 0\n",
+    ),
+    (
+        "asc run image --pc 10008 --guess stride --ahead 2 --join --report",
+        "asc: executed 7 skipped 6 asked 3 hits 1 made 3 refused 0\n",
+    ),
+    ("asc run image --pc 10008 --guess stride --ahead 2", ""),
+];
+
+/// In rounds the report is that without workers, for each number of lanes.
+#[test]
+fn in_rounds(rt: HostRuntime) -> Result<(), Fail> {
+    let alloc = rt.alloc();
+    for (alone, report) in &ALONE {
+        for lanes in ["1", "2", "3", "64"] {
+            let line = format!(in alloc; "{alone} --workers {lanes} --rounds")?;
+            let file = wrap(alloc, COUNTS)?;
+            let want = Want { report, ..QUIET };
+            check(&rt, alloc, line.as_str(), file, &SOUND, &want)?;
+        }
+    }
+    Ok(())
+}
+
+/// Two lanes run beside each other: the first job of a visit is held up until the second one was traced.
+#[test]
+fn held_round(rt: HostRuntime) -> Result<(), Fail> {
+    let alloc = rt.alloc();
+    let (alone, report) = ALONE[0];
+    let line = format!(in alloc; "{alone} --workers 2 --rounds")?;
+    let hold = Hold {
+        at: Point::Traced,
+        ticket: 0,
+        until: Point::Traced,
+        other: 1,
+    };
+    let gate = HoldGate::new(alloc, &[hold], TURNS).expect(&rt, "memory");
+    let files = only_image(alloc, wrap(alloc, COUNTS)?)?;
+    let got = run_gated(&rt, alloc, line.as_str(), files, &SOUND, &gate)?;
+    assert!(rt; gate.all_held(), "a lane ran alone");
+    assert_eq!(rt;
+        (got.answer, got.report.bytes()),
+        (Answer::Exit(0), report.as_bytes())
+    );
     Ok(())
 }

@@ -120,7 +120,7 @@ unsaved : {line : RunLine} {content : List ℕ} (fault : SavedFault) → IsNoSav
 unsaved fault unloaded = let refused = unloaded.refused in cc
 
 -- the run of a trial over its own devices, which never fail
-module _ (n workers : ℕ) (remains : Option (List ℕ)) (put complained before after : ℕ) (outcome : Outcome)
+module _ (n workers lanes : ℕ) (remains : Option (List ℕ)) (put complained before after : ℕ) (outcome : Outcome)
     (r : Ran (outside (Some []) (given_number 0) (given_number 0) before (faults 0 0 0)) (outside remains (given_number put) (given_number complained) after (faults 0 0 0)) (trial_run workers) (image_alone (image_of n)) outcome) where
   abbrev old : Outside
   old = outside (Some []) (given_number 0) (given_number 0) before (faults 0 0 0)
@@ -193,7 +193,7 @@ module _ (n workers : ℕ) (remains : Option (List ℕ)) (put complained before 
       }
 
   answer_of_other : (files : Option (List File)) (asked : Option (List (List ℕ))) (store_faults : ℕ) (left : Option (List ℕ)) (out err : Given) (fs : Faults) → exit_of outcome ≡ None
-      → IsAnswerFor (Ok (lines.Trial n workers)) (devices files asked store_faults (outside left out err before fs)) (devices files asked store_faults (outside left out err after fs)) (outcome_of outcome.answer)
+      → IsAnswerFor (Ok (lines.Trial n workers lanes)) (devices files asked store_faults (outside left out err before fs)) (devices files asked store_faults (outside left out err after fs)) (outcome_of outcome.answer)
   answer_of_other files asked store_faults left out err fs none =
       let other = no_exit outcome.answer outcome.counts none (λ finished. r.counts.1 (refl, finished)) in
       let within = image-within n in
@@ -279,7 +279,7 @@ module _ (n workers : ℕ) (remains : Option (List ℕ)) (put complained before 
     text = trial_text (record { n = n; status = status; steps = own.executed + own.skipped; output = put; counts = told_by_trial workers own })
 
     done_so : later ≡ given_after out text → later_faults ≡ out_faults
-        → IsAnswerFor (Ok (lines.Trial n workers)) (devices files asked store_faults first) (devices files asked store_faults last) (outcome_of (answers.Done own.refused))
+        → IsAnswerFor (Ok (lines.Trial n workers lanes)) (devices files asked store_faults first) (devices files asked store_faults last) (outcome_of (answers.Done own.refused))
     done_so given stays =
         let e = ends_so status own is in
         let tries : Tries n workers first last (answers.Done own.refused) = record {
@@ -322,7 +322,7 @@ module _ (n workers : ℕ) (remains : Option (List ℕ)) (put complained before 
         not_refusal (inr (inr is)) = cc
 
     fault_so : PutsPart out later text → later_faults ≡ one_more out_faults
-        → IsAnswerFor (Ok (lines.Trial n workers)) (devices files asked store_faults first) (devices files asked store_faults last) (outcome_of answers.WriteFault)
+        → IsAnswerFor (Ok (lines.Trial n workers lanes)) (devices files asked store_faults first) (devices files asked store_faults last) (outcome_of answers.WriteFault)
     fault_so part rose =
         let e = ends_so status own is in
         let incomplete : Completes answers.WriteFault → ⊥ = λ completes. let none = (completed answers.WriteFault completes).1 in cc in
@@ -373,11 +373,11 @@ module _ (n workers : ℕ) (remains : Option (List ℕ)) (put complained before 
 
     -- the same, and its text was put to out, or out failed
     answer_of_exit : (answered : Answer) → IsPut (told_of_trial n workers put status own) own.refused out later out_faults later_faults answered
-        → IsAnswerFor (Ok (lines.Trial n workers)) (devices files asked store_faults first) (devices files asked store_faults last) (outcome_of answered)
+        → IsAnswerFor (Ok (lines.Trial n workers lanes)) (devices files asked store_faults first) (devices files asked store_faults last) (outcome_of answered)
     answer_of_exit answered (inl done) =
-        subst (λ (a : Answer). IsAnswerFor (Ok (lines.Trial n workers)) (devices files asked store_faults first) (devices files asked store_faults last) (outcome_of a)) (sym done.0) (done_so done.1 done.2)
+        subst (λ (a : Answer). IsAnswerFor (Ok (lines.Trial n workers lanes)) (devices files asked store_faults first) (devices files asked store_faults last) (outcome_of a)) (sym done.0) (done_so done.1 done.2)
     answer_of_exit answered (inr cut) =
-        subst (λ (a : Answer). IsAnswerFor (Ok (lines.Trial n workers)) (devices files asked store_faults first) (devices files asked store_faults last) (outcome_of a)) (sym cut.0) (fault_so cut.1 cut.2)
+        subst (λ (a : Answer). IsAnswerFor (Ok (lines.Trial n workers lanes)) (devices files asked store_faults first) (devices files asked store_faults last) (outcome_of a)) (sym cut.0) (fault_so cut.1 cut.2)
 
 -- the run of a trial, over devices and with a line that are those of a trial
 own_run : (n workers : ℕ) (line : RunLine) (file input : List ℕ) (output errors : ℕ) (remains : Option (List ℕ)) (put complained before after : ℕ) (outcome : Outcome)
@@ -391,12 +391,12 @@ own_run n workers line file input output errors remains put complained before af
     (λ i. outside (Some (none i)) (given_number (unput i)) (given_number (uncomplained i)) before (faults 0 0 0)) r))
 
 -- What a trial came to by what its run came to: where its guest ended, its text was put to out, or out failed.
-module _ (n workers : ℕ) (line : RunLine) (file input : List ℕ) (output errors : ℕ) (remains : Option (List ℕ)) (put complained before after : ℕ) (ran : Outcome)
+module _ (n workers lanes : ℕ) (line : RunLine) (file input : List ℕ) (output errors : ℕ) (remains : Option (List ℕ)) (put complained before after : ℕ) (ran : Outcome)
     (line_is : line ≡ trial_run workers) (file_is : file ≡ image_of n) (none : input ≡ []) (unput : output ≡ 0) (uncomplained : errors ≡ 0)
     (r : Ran (outside (Some input) (given_number output) (given_number errors) before (faults 0 0 0)) (outside remains (given_number put) (given_number complained) after (faults 0 0 0)) line (image_alone file) ran)
     (files : Option (List File)) (asked : Option (List (List ℕ))) (store_faults : ℕ) (left : Option (List ℕ)) (out later err : Given) (input_faults out_faults later_faults err_faults : ℕ) (outcome : Outcome) where
   abbrev Answers : Outcome → Type 0
-  Answers o = IsAnswerFor (Ok (lines.Trial n workers)) (devices files asked store_faults (outside left out err before (faults input_faults out_faults err_faults)))
+  Answers o = IsAnswerFor (Ok (lines.Trial n workers lanes)) (devices files asked store_faults (outside left out err before (faults input_faults out_faults err_faults)))
       (devices files asked store_faults (outside left later err after (faults input_faults later_faults err_faults))) o
 
   own : Ran (outside (Some []) (given_number 0) (given_number 0) before (faults 0 0 0)) (outside remains (given_number put) (given_number complained) after (faults 0 0 0)) (trial_run workers) (image_alone (image_of n)) ran
@@ -404,11 +404,11 @@ module _ (n workers : ℕ) (line : RunLine) (file input : List ℕ) (output erro
 
   by : (exit : Option (ℕ × Counts)) → exit_of ran ≡ exit → EndsTrial n workers put exit ran.answer out later out_faults later_faults outcome → Answers outcome
   by None is e = subst (λ (o : Outcome). Answers o) (sym e.0)
-      (subst (λ (at : Given × ℕ). IsAnswerFor (Ok (lines.Trial n workers)) (devices files asked store_faults (outside left out err before (faults input_faults out_faults err_faults)))
+      (subst (λ (at : Given × ℕ). IsAnswerFor (Ok (lines.Trial n workers lanes)) (devices files asked store_faults (outside left out err before (faults input_faults out_faults err_faults)))
       (devices files asked store_faults (outside left at.0 err after (faults input_faults at.1 err_faults))) (outcome_of ran.answer)) (λ i. (sym e.1 i, sym e.2 i))
-      (answer_of_other n workers remains put complained before after ran own files asked store_faults left out err (faults input_faults out_faults err_faults) is))
+      (answer_of_other n workers lanes remains put complained before after ran own files asked store_faults left out err (faults input_faults out_faults err_faults) is))
   by (Some (status, counts)) is e = subst (λ (o : Outcome). Answers o) (sym e.1)
-      (answer_of_exit n workers remains put complained before after ran own files asked store_faults left out later err input_faults out_faults later_faults err_faults status counts is e.0 e.2)
+      (answer_of_exit n workers lanes remains put complained before after ran own files asked store_faults left out later err input_faults out_faults later_faults err_faults status counts is e.0 e.2)
 
   pub answer_of_trial : EndsTrial n workers put (exit_of ran) ran.answer out later out_faults later_faults outcome → Answers outcome
   answer_of_trial = by (exit_of ran) refl

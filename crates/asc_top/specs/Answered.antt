@@ -82,7 +82,7 @@ Done (Ok (lines.Run line)) old new answered =
 Done (Ok (lines.Save line)) old new answered =
     (content : List ℕ) → IsHeld old.files line.image content → Saves line content old.guest new.guest answered
 Done (Ok (lines.Make n)) old new answered = Gives old.guest new.guest 0 answered (make_result n)
-Done (Ok (lines.Trial n workers)) old new answered = Tries n workers old.guest new.guest answered
+Done (Ok (lines.Trial n workers lanes)) old new answered = Tries n workers old.guest new.guest answered
 Done (Err bad) old new answered = (answered ≡ answers.Usage bad) × (new.guest ≡ old.guest)
 
 -- The headline. Where no device failed and no memory was wanting, the answer, what was taken and put, and the rise of
@@ -109,7 +109,7 @@ Stops (Ok (lines.Run line)) old new device =
 Stops (Ok (lines.Save line)) old new device = (device ≡ Out)
     × ((content : List ℕ) × MayHold old.files line.image content × SavesPart line content old.guest new.guest)
 Stops (Ok (lines.Make n)) old new device = (device ≡ Out) × GivesPart old.guest new.guest 0 (make_result n)
-Stops (Ok (lines.Trial n workers)) old new device = (device ≡ Out) × TriesPart n workers old.guest new.guest
+Stops (Ok (lines.Trial n workers lanes)) old new device = (device ≡ Out) × TriesPart n workers old.guest new.guest
 Stops (Err bad) old new device = ⊥
 
 -- The words ask for a run, and the store may hold files of its names whose contents have P. Or they ask for a save, and
@@ -119,7 +119,7 @@ HasFile (Ok (lines.Run line)) old P = (files : Files) × AreFilesOf (MayHold old
 HasFile (Ok (lines.Save line)) old P =
     (content : List ℕ) × MayHold old.files line.image content × P line (image_alone content)
 HasFile (Ok (lines.Make n)) old P = ⊥
-HasFile (Ok (lines.Trial n workers)) old P = ⊥
+HasFile (Ok (lines.Trial n workers lanes)) old P = ⊥
 HasFile (Err bad) old P = ⊥
 
 -- the same, or they ask for a trial, whose image has P
@@ -129,7 +129,7 @@ HasImage (Ok (lines.Run line)) old P =
 HasImage (Ok (lines.Save line)) old P =
     (content : List ℕ) × MayHold old.files line.image content × P (Some []) line (image_alone content)
 HasImage (Ok (lines.Make n)) old P = ⊥
-HasImage (Ok (lines.Trial n workers)) old P = P (Some []) (trial_run workers) (image_alone (image_of n))
+HasImage (Ok (lines.Trial n workers lanes)) old P = P (Some []) (trial_run workers) (image_alone (image_of n))
 HasImage (Err bad) old P = ⊥
 
 -- a file of entries was put to a sink, or an image, or the text of a trial
@@ -138,7 +138,7 @@ IsWritten (Ok (lines.Run line)) before after = ⊥
 IsWritten (Ok (lines.Save line)) before after =
     (shape : Shape) × (entries : List Entry) × (after ≡ given_after before (entry_file shape entries))
 IsWritten (Ok (lines.Make n)) before after = after ≡ given_after before (image_of n)
-IsWritten (Ok (lines.Trial n workers)) before after =
+IsWritten (Ok (lines.Trial n workers lanes)) before after =
     (trial : TrialOutcome) × (trial.n ≡ n) × (after ≡ given_after before (trial_text trial))
 IsWritten (Err bad) before after = ⊥
 
@@ -147,7 +147,7 @@ abbrev pub HasWorkersOf : Asked → Outcome → Type 0
 HasWorkersOf (Ok (lines.Run line)) outcome = WorkersAreTold line outcome.counts outcome.workers
 HasWorkersOf (Ok (lines.Save line)) outcome = outcome.workers ≡ None
 HasWorkersOf (Ok (lines.Make n)) outcome = outcome.workers ≡ None
-HasWorkersOf (Ok (lines.Trial n workers)) outcome = outcome.workers ≡ None
+HasWorkersOf (Ok (lines.Trial n workers lanes)) outcome = outcome.workers ≡ None
 HasWorkersOf (Err bad) outcome = outcome.workers ≡ None
 
 -- these words ask for the numbers of a run
@@ -155,7 +155,7 @@ abbrev pub AskForCounts : Asked → Type 0
 AskForCounts (Ok (lines.Run line)) = IsTrue line.report
 AskForCounts (Ok (lines.Save line)) = ⊥
 AskForCounts (Ok (lines.Make n)) = ⊥
-AskForCounts (Ok (lines.Trial n workers)) = ⊥
+AskForCounts (Ok (lines.Trial n workers lanes)) = ⊥
 AskForCounts (Err bad) = ⊥
 
 -- behind an image the store was asked, once, for the file of saved entries, where there is a name of one
@@ -185,7 +185,7 @@ AsksForFiles (Ok (lines.Run line)) answered before after =
 AsksForFiles (Ok (lines.Save line)) answered before after =
     AsksFor line.image before after ⊎ AsksForNone answered before after
 AsksForFiles (Ok (lines.Make n)) answered before after = after ≡ before
-AsksForFiles (Ok (lines.Trial n workers)) answered before after = after ≡ before
+AsksForFiles (Ok (lines.Trial n workers lanes)) answered before after = after ≡ before
 AsksForFiles (Err bad) answered before after = after ≡ before
 
 -- a counter rose, by at most so many

@@ -49,16 +49,16 @@ guessing_of line = record {
   join = line.join;
 }
 
--- workers run its guesses
+-- workers go beside its run
 abbrev pub has_workers : RunLine → Bool
 has_workers line = nat_lt 0 line.workers
 
--- a line asks for workers
-abbrev pub asks_for_workers : Line → Bool
-asks_for_workers (lines.Run line) = has_workers line
-asks_for_workers (lines.Save line) = false
-asks_for_workers (lines.Make n) = false
-asks_for_workers (lines.Trial n workers) = nat_lt 0 workers
+-- a line asks for threads: for workers beside its run, or for lanes that run the guesses of each visit in rounds
+abbrev pub asks_for_threads : Line → Bool
+asks_for_threads (lines.Run line) = nat_lt 0 line.workers || nat_lt 0 line.lanes
+asks_for_threads (lines.Save line) = false
+asks_for_threads (lines.Make n) = false
+asks_for_threads (lines.Trial n workers lanes) = nat_lt 0 workers || nat_lt 0 lanes
 
 -- What nobody sees is not run: a run's visits matter where its numbers are reported, and where it has workers or saved
 -- entries.
@@ -251,7 +251,7 @@ exit_at answered counts = None
 abbrev pub exit_of : Outcome → Option (ℕ × Counts)
 exit_of outcome = exit_at outcome.answer outcome.counts
 
--- the numbers that a trial tells: none where there were workers
+-- the numbers that a trial tells: none where workers went beside its run
 abbrev pub told_by_trial : (workers : ℕ) → Counts → Option Counts
 told_by_trial zero counts = Some counts
 told_by_trial (suc n) counts = None

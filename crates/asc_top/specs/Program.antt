@@ -168,7 +168,7 @@ pub record IsStopped (old new : Outside) (device : Device) (line : RunLine) (fil
 abbrev pub make_result : (n : ℕ) → ProgramResult
 make_result n = record { answer = answers.Done 0; io = io_of Out (image_of n); count = 0 }
 
--- how the image of a trial is run: its loop begins at the address
+-- how the image of a trial is run with so many workers beside it: its loop begins at the address
 abbrev pub trial_run : (workers : ℕ) → RunLine
 trial_run workers = record {
   image = [];
@@ -184,6 +184,7 @@ trial_run workers = record {
   span = 100000;
   ahead = 2;
   workers = workers;
+  lanes = 0;
   queue = 256;
   join = false;
   report = true;

@@ -115,6 +115,12 @@ pub record Opens (line : RunLine) (walk : Walk) (entries : List Entry)
   pub second : AsksForSecond line.load between asked_after
   pub no_fault : faults_after ≡ faults
 
+-- Threads run the guesses of a run: those of workers beside it, or those of lanes in rounds, and not both.
+pub record IsThreaded (workers lanes : ℕ) : Type 0 where
+  pub few : lanes ≤ 64
+  pub one : 0 < lanes → workers ≡ 0
+  pub some : lanes ≡ 0 → 0 < workers
+
 -- a helper that was not visited yet, to which these entries were added
 abbrev pub loaded_helper : Shape → Guessing → (entries : List Entry) → SerialHelper
 loaded_helper shape guessing entries =

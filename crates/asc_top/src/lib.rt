@@ -5,6 +5,7 @@ mod make;
 mod numbers;
 mod opened;
 mod program;
+mod rounds;
 mod run;
 mod save;
 mod settings;

@@ -2,7 +2,7 @@ ghost use Rattle.std.specs.Prelude.{◌≡◌, ◌≢◌, map, true, false, Ok, 
 ghost use Rattle.std.specs.String.{string_bytes};
 ghost use Rattle.asc_calls.specs.World.{faults, outside};
 ghost use Rattle.asc_words.specs.Line.{line_of, IsWithin};
-ghost use Rattle.asc_top.specs.Numbers.{asks_for_workers};
+ghost use Rattle.asc_top.specs.Numbers.{asks_for_threads};
 ghost use Rattle.asc_top.specs.Answered.{Headline, IsAnswerFor, IsAnswerTo, devices};
 ghost use Rattle.asc_top.specs.Reported.{IsReported, report_with};
 
@@ -28,8 +28,9 @@ use std::thread::Threads;
 /// - `make` puts a generated image to out;
 /// - `trial` runs one, and puts a text on it to out.
 ///
-/// Where a line has workers, they run in threads of their own beside the run, and their end is waited for. The gate is
-/// passed at their points and at those of the run.
+/// Where a line has workers, they run in threads of their own beside the run, and their end is waited for. In rounds there
+/// are threads at a visit alone, and the visit waits for them. The gate is passed at the points of all these, and at those
+/// of a run that has workers beside it.
 ///
 /// The answer is the first of these that has a cause. Want of memory may come before or among them.
 ///
@@ -103,10 +104,10 @@ pub fn reported<R: Sink>(outcome: Outcome, report: &mut R) -> Answer
     }
 }
 
-/// What the words of a command line come to that ask for no worker, before it is reported. They ask for a run or a trial
-/// without any, saved entries or a generated image, or they are wrong. It starts no thread and waits for none.
+/// What the words of a command line come to that ask for no thread, before it is reported. They ask for a run or a trial
+/// without workers, saved entries or a generated image, or they are wrong. It starts no thread and waits for none.
 ///
-/// Where the words ask for workers, it answers the line, and nothing was done.
+/// Where the words ask for workers, beside the run or in rounds, it answers the line, and nothing was done.
 pub fn outcome_alone<F: Store, I: Source, O: Sink, E: Sink, L: Ledger>(
     alloc: Global,
     words: &[String],
@@ -125,32 +126,32 @@ pub fn outcome_alone<F: Store, I: Source, O: Sink, E: Sink, L: Ledger>(
         (outside (I.left input.new) (O.given out.new) (E.given err.new) steps.new
         (faults (I.faults input.new) (O.faults out.new) (E.faults err.new))))) }
 
-    // Or the words are a line that asks for workers, its numbers are within their bounds, and nothing was done.
+    // Or the words are a line that asks for threads, its numbers are within their bounds, and nothing was done.
     ensures beside { IfErr result (λ line. (line_of (map string_bytes words.now) ≡ Ok line)
-        × (asks_for_workers line ≡ true)) }
+        × (asks_for_threads line ≡ true)) }
     ensures within { IfErr result IsWithin }
     ensures nothing { IfErr result (λ _. (store.new ≡ store.old) × (input.new ≡ input.old) × (out.new ≡ out.old)
         × (err.new ≡ err.old) × (steps.new ≡ steps.old)) }
 {
     match parse(alloc, words) {
         Err(fault) => Ok(Outcome::of(Answer::from(fault))),
-        Ok(line) if asks_for_workers(&line) => Err(line),
+        Ok(line) if asks_for_threads(&line) => Err(line),
         Ok(line) => Ok(outcome_of_alone(alloc, line, store, input, out, err, steps)),
     }
 }
 
-/// Whether a line asks for workers.
-fn asks_for_workers(line: &Line) -> bool
-    ensures { result ≡ asks_for_workers line.now }
+/// Whether a line asks for threads.
+fn asks_for_threads(line: &Line) -> bool
+    ensures { result ≡ asks_for_threads line.now }
 {
     match line {
-        Line::Run(run) => run.workers > 0,
+        Line::Run(run) => run.workers > 0 || run.lanes > 0,
         Line::Save(_) | Line::Make { .. } => false,
-        Line::Trial { workers, .. } => *workers > 0,
+        Line::Trial { workers, lanes, .. } => *workers > 0 || *lanes > 0,
     }
 }
 
-/// What a line comes to that asks for no worker, before it is reported.
+/// What a line comes to that asks for no thread, before it is reported.
 fn outcome_of_alone<F: Store, I: Source, O: Sink, E: Sink, L: Ledger>(
     alloc: Global,
     line: Line,
@@ -161,7 +162,7 @@ fn outcome_of_alone<F: Store, I: Source, O: Sink, E: Sink, L: Ledger>(
     steps: &mut Steps<L>,
 ) -> Outcome
     requires within { IsWithin line }
-    requires none { asks_for_workers line ≡ false }
+    requires none { asks_for_threads line ≡ false }
     ensures { IsAnswerFor (Ok line)
         (devices (F.files store.old) (F.asked store.old) (F.faults store.old)
         (outside (I.left input.old) (O.given out.old) (E.given err.old) steps.old
@@ -212,7 +213,7 @@ fn outcome<
     }
 }
 
-/// What a line comes to that asks for workers, before it is reported.
+/// What a line comes to that asks for threads, before it is reported.
 fn outcome_of_beside<
     T: Threads + Wait + Sync + Copy + Drop + Send,
     F: Store,
@@ -233,7 +234,7 @@ fn outcome_of_beside<
     steps: &mut Steps<L>,
 ) -> Outcome
     requires within { IsWithin line }
-    requires some { asks_for_workers line ≡ true }
+    requires some { asks_for_threads line ≡ true }
     ensures { IsAnswerFor (Ok line)
         (devices (F.files store.old) (F.asked store.old) (F.faults store.old)
         (outside (I.left input.old) (O.given out.old) (E.given err.old) steps.old
@@ -245,6 +246,8 @@ fn outcome_of_beside<
     match line {
         Line::Run(line) => run_beside(rt, alloc, &line, store, input, out, err, gate, steps),
         Line::Save(_) | Line::Make { .. } => unreachable!(),
-        Line::Trial { n, workers } => trial_beside(rt, alloc, n, workers, out, gate, steps),
+        Line::Trial { n, workers, lanes } => {
+            trial_beside(rt, alloc, n, workers, lanes, out, gate, steps)
+        }
     }
 }

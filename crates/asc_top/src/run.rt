@@ -1,21 +1,24 @@
 //! `asc run`, and runs of a file that is at hand.
-ghost use Rattle.std.specs.Prelude.{◌≡◌, ◌<◌, ◌≤◌, ◌^◌, length, map, IfOk, IsNone, None, Ok};
+ghost use Rattle.std.specs.Prelude.{◌≡◌, ◌<◌, ◌≤◌, ◌^◌, length, map, true, IfOk, IsNone, None, Ok};
 ghost use Rattle.std.specs.Arc.{arc_value};
 ghost use Rattle.asc_calls.specs.World.{faults, outside};
 ghost use Rattle.asc_run.specs.Helped.{aid, HasRoom};
 ghost use Rattle.asc_run.specs.declared.last_visits.TheConstants.{MOST_AHEAD};
 ghost use Rattle.asc_words.specs.Line.{IsRunWithin, file_limit};
 ghost use Rattle.asc_top.specs.Program.{Files, image_alone};
-ghost use Rattle.asc_top.specs.Ran.{AreOpened, Ran, RanBeside, Walked, loaded_helper};
+ghost use Rattle.asc_top.specs.Program.{answer_at};
+ghost use Rattle.asc_top.specs.Numbers.{asks_for_threads, counts_of, reported_at};
+ghost use Rattle.asc_top.specs.Ran.{AreOpened, IsThreaded, Ran, RanBeside, Walked, loaded_helper};
 ghost use Rattle.asc_top.specs.Answered.{IsAnswerFor, devices};
 
 use crate::numbers::{answer_at, counts_of, reported_at, workers_of};
 use crate::opened::{open, walk_of};
+use crate::rounds::walk_in_threads;
 use crate::settings::{crew_of, guessing_of, keeps_entries, settings_of};
 use asc_find::{Guessing, Nothing};
 use asc_live::go_beside;
 use asc_outside::{Gate, Memory, Sink, Source, Store};
-use asc_run::{Bare, Helper, Serial, Walk};
+use asc_run::{Bare, Counts as WalkCounts, Ended, Helper, Serial, Walk};
 use asc_shape::{Shape, Steps};
 use asc_traj::Entry;
 use asc_words::{Answer, Line, Outcome, RunLine};
@@ -59,7 +62,7 @@ pub(crate) fn run_alone<F: Store, I: Source, O: Sink, E: Sink, L: Ledger>(
     }
 }
 
-/// Runs the file that a line names, with workers beside it.
+/// Runs the file that a line names, with workers beside it or in rounds.
 pub(crate) fn run_beside<
     T: Threads + Wait + Sync + Copy + Drop + Send,
     F: Store,
@@ -80,7 +83,7 @@ pub(crate) fn run_beside<
     steps: &mut Steps<L>,
 ) -> Outcome
     requires line { IsRunWithin line.now }
-    requires some { 0 < line.now.workers }
+    requires some { asks_for_threads (Line.Run line.now) ≡ true }
     ensures { IsAnswerFor (Ok (Line.Run line.now))
         (devices (F.files store.old) (F.asked store.old) (F.faults store.old)
         (outside (I.left input.old) (O.given out.old) (E.given err.old) steps.old
@@ -90,11 +93,12 @@ pub(crate) fn run_beside<
         (faults (I.faults input.new) (O.faults out.new) (E.faults err.new)))) result }
 {
     match open(alloc, line, store) {
-        Ok(mut opened) => walk_beside(
+        Ok(opened) => walk_in_threads(
             rt,
             alloc,
             line,
-            &mut opened.walk,
+            line.lanes,
+            opened.walk,
             &opened.first,
             gate,
             input,
@@ -131,7 +135,7 @@ pub(crate) fn run_file_alone<I: Source, O: Sink, E: Sink, L: Ledger>(
     }
 }
 
-/// Runs a file, as a line with workers asks. No saved entries are read.
+/// Runs a file, as a line with workers asks, or in rounds with so many lanes. No saved entries are read.
 pub(crate) fn run_file_beside<
     T: Threads + Wait + Sync + Copy + Drop + Send,
     I: Source,
@@ -143,6 +147,7 @@ pub(crate) fn run_file_beside<
     rt: &T,
     alloc: Global,
     line: &RunLine,
+    lanes: usize,
     file: &[u8],
     input: &mut I,
     out: &mut O,
@@ -151,7 +156,7 @@ pub(crate) fn run_file_beside<
     steps: &mut Steps<L>,
 ) -> Outcome
     requires line { IsRunWithin line.now }
-    requires some { 0 < line.now.workers }
+    requires threads { IsThreaded line.now.workers lanes }
     requires file { length file.now ≤ file_limit }
     ensures { Ran
         (outside (I.left input.old) (O.given out.old) (E.given err.old) steps.old
@@ -160,11 +165,12 @@ pub(crate) fn run_file_beside<
         (faults (I.faults input.new) (O.faults out.new) (E.faults err.new))) line.now (image_alone file.now) result }
 {
     match walk_of(alloc, line, settings_of(line), file) {
-        Ok(mut walk) => walk_beside(
+        Ok(walk) => walk_in_threads(
             rt,
             alloc,
             line,
-            &mut walk,
+            lanes,
+            walk,
             &[],
             gate,
             input,
@@ -180,7 +186,7 @@ pub(crate) fn run_file_beside<
 ///
 /// What nobody sees is not run: nothing is guessed where there are no saved entries and the numbers are not reported,
 /// since guesses change nothing else then.
-fn walk_alone<I: Source, O: Sink, E: Sink, L: Ledger>(
+pub(crate) fn walk_alone<I: Source, O: Sink, E: Sink, L: Ledger>(
     alloc: Global,
     line: &RunLine,
     mut walk: Walk,
@@ -210,7 +216,7 @@ fn walk_alone<I: Source, O: Sink, E: Sink, L: Ledger>(
 }
 
 /// A helper that was not visited yet, and has these entries.
-fn helper_with(
+pub(crate) fn helper_with(
     alloc: Global,
     shape: Shape,
     guessing: Guessing,
@@ -250,18 +256,39 @@ pub(crate) fn run_with<H: Helper, I: Source, O: Sink, E: Sink, L: Ledger>(
         (aid (H.tally helper.new) (H.replies helper.new) (H.plan helper.new) (H.machine helper.new)) None result }
 {
     let ended = walk.go(helper, input, out, err, steps);
-    let walked = walk.counts();
-    let counts = counts_of(walked, helper.made(), helper.refused());
+    outcome_at(
+        is_asked,
+        ended,
+        walk.counts(),
+        helper.made(),
+        helper.refused(),
+    )
+}
+
+/// What a walk without workers beside it comes to that ended so, with its numbers where they are asked for.
+pub(crate) fn outcome_at(
+    is_asked: bool,
+    ended: Ended,
+    walked: WalkCounts,
+    made: u64,
+    refused: u64,
+) -> Outcome
+    ensures { result ≡ record {
+      answer = answer_at ended walked.count;
+      counts = reported_at is_asked ended (counts_of walked made refused);
+      workers = None;
+    } }
+{
     Outcome {
         answer: answer_at(ended, walked.count),
-        counts: reported_at(is_asked, ended, counts),
+        counts: reported_at(is_asked, ended, counts_of(walked, made, refused)),
         workers: None,
     }
 }
 
 /// Runs a walk that has not begun to its end, with workers beside it, and tells their numbers where they are asked for. Its
 /// look-ups know these entries from the beginning.
-fn walk_beside<
+pub(crate) fn walk_beside<
     T: Threads + Wait + Sync + Copy + Drop + Send,
     G: Gate + Sync,
     I: Source,

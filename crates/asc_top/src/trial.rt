@@ -4,6 +4,7 @@ ghost use Rattle.asc_outside.specs.Outside.{File, Given};
 ghost use Rattle.asc_calls.specs.World.{faults, outside};
 ghost use Rattle.asc_top.specs.Program.{trial_run};
 ghost use Rattle.asc_top.specs.Numbers.{exit_of, told_by_trial};
+ghost use Rattle.asc_top.specs.Ran.{IsThreaded};
 ghost use Rattle.asc_top.specs.Answered.{IsAnswerFor, devices};
 ghost use Rattle.asc_top.specs.Reported.{EndsTrial, IsPut};
 
@@ -27,7 +28,7 @@ pub(crate) fn trial_alone<O: Sink, L: Ledger>(
 ) -> Outcome
     ensures { (files : Option (List File)) (asked : Option (List (List ℕ))) (store_faults : ℕ)
         (left : Option (List ℕ)) (err : Given) (input_faults err_faults : ℕ)
-        → IsAnswerFor (Ok (Line.Trial n 0))
+        → IsAnswerFor (Ok (Line.Trial n 0 0))
         (devices files asked store_faults
         (outside left (O.given out.old) err steps.old (faults input_faults (O.faults out.old) err_faults)))
         (devices files asked store_faults
@@ -52,7 +53,8 @@ pub(crate) fn trial_alone<O: Sink, L: Ledger>(
     end_trial(n, 0, &ran, output.count(), out)
 }
 
-/// Runs the generated image of a number with workers, and puts a text on its run to out, as `trial_alone`.
+/// Runs the generated image of a number with workers, or in rounds with lanes, and puts a text on its run to out, as
+/// `trial_alone`.
 pub(crate) fn trial_beside<
     T: Threads + Wait + Sync + Copy + Drop + Send,
     O: Sink,
@@ -63,15 +65,16 @@ pub(crate) fn trial_beside<
     alloc: Global,
     n: u64,
     workers: usize,
+    lanes: usize,
     out: &mut O,
     gate: &G,
     steps: &mut Steps<L>,
 ) -> Outcome
-    requires some { 0 < workers }
+    requires threads { IsThreaded workers lanes }
     requires few { workers ≤ 64 }
     ensures { (files : Option (List File)) (asked : Option (List (List ℕ))) (store_faults : ℕ)
         (left : Option (List ℕ)) (err : Given) (input_faults err_faults : ℕ)
-        → IsAnswerFor (Ok (Line.Trial n workers))
+        → IsAnswerFor (Ok (Line.Trial n workers lanes))
         (devices files asked store_faults
         (outside left (O.given out.old) err steps.old (faults input_faults (O.faults out.old) err_faults)))
         (devices files asked store_faults
@@ -88,6 +91,7 @@ pub(crate) fn trial_beside<
         rt,
         alloc,
         &line,
+        lanes,
         &image,
         &mut input,
         &mut output,
@@ -140,7 +144,7 @@ fn tell<O: Sink>(trial: &TrialOutcome, refused: u64, out: &mut O) -> Answer
     }
 }
 
-/// The numbers that a trial tells: none where there were workers.
+/// The numbers that a trial tells: none where workers went beside its run.
 fn told_by_trial(workers: usize, counts: Counts) -> Option<Counts>
     ensures { result ≡ told_by_trial workers counts }
 {
@@ -150,7 +154,7 @@ fn told_by_trial(workers: usize, counts: Counts) -> Option<Counts>
     }
 }
 
-/// How the image of a trial is run.
+/// How the image of a trial is run with so many workers beside it.
 fn trial_run(alloc: Global, workers: usize) -> RunLine
     ensures { result ≡ trial_run workers }
 {
@@ -168,6 +172,7 @@ fn trial_run(alloc: Global, workers: usize) -> RunLine
         span: 100_000,
         ahead: 2,
         workers,
+        lanes: 0,
         queue: 256,
         join: false,
         report: true,

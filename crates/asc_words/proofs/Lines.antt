@@ -1,5 +1,5 @@
 -- The line of words that clap takes, and of words that it refuses.
-use Rattle.std.proofs.Common.{◌≡◌, ◌≢◌, ◌∙◌, ◌^◌, ◌-◌, ◌<◌, ◌≤◌, ◌⊎◌, ℕ, arith, codes, inl, inr, true, false, refl, sym, ap, subst, List, [], ◌∷◌, Option, Some, None, Result, Ok, Err, IsErrAnd, Bor}
+use Rattle.std.proofs.Common.{◌≡◌, ◌≢◌, ◌∙◌, ◌^◌, ◌-◌, ◌<◌, ◌≤◌, ◌⊎◌, ℕ, Bool, arith, codes, inl, inr, true, false, refl, sym, ap, subst, List, [], ◌∷◌, Option, Some, None, Result, Ok, Err, IsErrAnd, Bor}
 use Rattle.std.specs.Prelude.{option_map, if◌then◌else◌, Box}
 use Rattle.std.specs.Box.{box_value}
 use Rattle.std.specs.Result.{result_map_both}
@@ -23,8 +23,8 @@ use Rattle.asc_words.specs.declared.answer.Bad.{Bad}
 use Rattle.asc_words.specs.declared.answer.Bad.TheVariants.{Words}
 use Rattle.asc_words.specs.declared.line.Line.{Line}
 use Rattle.asc_words.specs.declared.line.Line.TheVariants.{Run, Save, Make, Trial}
-use Rattle.asc_words.specs.Line.{IsSaveWithin, IsWithin, address_of, guesses_of, line_of, line_found, make_of, number_in, run_of, run_with, save_of, shared_at, shared_of, shared_with, text_in, trial_of}
-use Rattle.asc_words.specs.Rows.{HasShared, IsMake, IsRun, IsSave, IsTrial, line_fault}
+use Rattle.asc_words.specs.Line.{IsSaveWithin, IsWithin, address_of, beside_in, flag_in, guesses_of, lanes_in, line_of, line_found, make_of, number_in, run_of, run_with, save_of, shared_at, shared_of, shared_with, text_in, trial_of}
+use Rattle.asc_words.specs.Rows.{HasNumber, HasShared, IsMake, IsRun, IsSave, IsTrial, line_fault}
 use Rattle.asc_words.specs.declared.line.Guesses.{Guesses}
 use Rattle.asc_words.specs.declared.line.RunLine.{RunLine}
 use Rattle.asc_words.specs.declared.line.LineFault.TheVariants as faults
@@ -112,9 +112,12 @@ shared_within rows is guesses pc = record {
     span = number_within (codes "span") 1 1000000000 rows is.span;
     ahead = number_within (codes "ahead") 1 64 rows is.ahead;
     workers = omega arith;
+    lanes = omega arith;
+    rounds = λ some. refl;
     queue = number_within (codes "queue") 1 1024 rows is.queue;
   };
   alone = refl;
+  no_lanes = refl;
   quiet = refl;
   loads_none = refl;
 }
@@ -128,6 +131,18 @@ shared_at_within rows is (Ok guesses) (Ok pc) line e =
 
 shared_of_within : (rows : List Row) → HasShared rows → (line : RunLine) → shared_of rows ≡ Ok line → IsSaveWithin line
 shared_of_within rows is = shared_at_within rows is (guesses_of (text_in (codes "guess") rows)) (address_of (first_of (codes "pc") rows))
+
+-- there are few workers or few lanes, and not both
+workers_within : (rows : List Row) → HasNumber (codes "workers") 0 64 rows
+    → (beside_in rows ≤ 64) × (lanes_in rows ≤ 64) × (0 < lanes_in rows → beside_in rows ≡ 0)
+workers_within rows is = by (flag_in (codes "rounds") rows)
+  where
+    w : ℕ
+    w = number_in (codes "workers") rows
+
+    by : (rounds : Bool) → ((if rounds then 0 else w) ≤ 64) × ((if rounds then w else 0) ≤ 64) × (0 < (if rounds then w else 0) → (if rounds then 0 else w) ≡ 0)
+    by true = (omega arith, (number_within (codes "workers") 0 64 rows is).1, λ some. refl)
+    by false = ((number_within (codes "workers") 0 64 rows is).1, omega arith, λ some. absurd (let x : ⊥ = omega (arith, some) in x))
 
 pub run_within : (rows : List Row) → IsRun rows → (line : Line) → run_of rows ≡ Ok line → IsWithin line
 run_within rows is line e = go (shared_of rows) refl e
@@ -145,7 +160,9 @@ run_within rows is line e = go (shared_of rows) refl e
           laps = within.laps;
           span = within.span;
           ahead = within.ahead;
-          workers = (number_within (codes "workers") 0 64 rows is.workers).1;
+          workers = (workers_within rows is.workers).0;
+          lanes = (workers_within rows is.workers).1;
+          rounds = (workers_within rows is.workers).2;
           queue = within.queue;
         })
 
@@ -162,10 +179,12 @@ below_all n is = omega arith
 pub make_within : (rows : List Row) → IsMake rows → IsWithin (Make (number_in (codes "number") rows))
 make_within rows is = below_all _ (number_within (codes "number") 0 (2 ^ 64 - 1) rows is.number).1
 
-pub trial_within : (rows : List Row) → IsTrial rows → IsWithin (Trial (number_in (codes "number") rows) (number_in (codes "workers") rows))
+pub trial_within : (rows : List Row) → IsTrial rows → IsWithin (Trial (number_in (codes "number") rows) (beside_in rows) (lanes_in rows))
 trial_within rows is = (
   below_all _ (number_within (codes "number") 0 (2 ^ 64 - 1) rows is.number).1,
-  (number_within (codes "workers") 0 64 rows is.workers).1,
+  (workers_within rows is.workers).0,
+  (workers_within rows is.workers).1,
+  (workers_within rows is.workers).2,
 )
 
 ok_is : (r : Result Line Bad) (a b : Line) → r ≡ Ok a → r ≡ Ok b → a ≡ b
@@ -181,7 +200,7 @@ lines_within words line is = go (fault_of asc_command words) refl
         let same : Make (number_in (codes "number") make.rows) ≡ line = ok_is _ _ line make.line is in
         subst (λ (l : Line). IsWithin l) same (make_within make.rows make.values)
     within (inr (inr (inr trial))) =
-        let same : Trial (number_in (codes "number") trial.rows) (number_in (codes "workers") trial.rows) ≡ line = ok_is _ _ line trial.line is in
+        let same : Trial (number_in (codes "number") trial.rows) (beside_in trial.rows) (lanes_in trial.rows) ≡ line = ok_is _ _ line trial.line is in
         subst (λ (l : Line). IsWithin l) same (trial_within trial.rows trial.values)
 
     go : (kinds : Kinds) → fault_of asc_command words ≡ kinds → IsWithin line

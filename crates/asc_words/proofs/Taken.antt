@@ -17,7 +17,7 @@ use Rattle.clap.specs.Takes.{is_given}
 use Rattle.clap.specs.Kinds.{Kinds, or_else}
 use Rattle.clap.specs.Faults.{check_fault, defaults_fault, entered_fault, fault_of, level_fault, settle_fault, walk_fault}
 use Rattle.clap.specs.declared.error.kind.ErrorKind.TheVariants as kind
-use Rattle.asc_words.specs.Command.{asc_command, flag, number_argument, number_option, required, run_command, text_option, text_with_default, workers_option}
+use Rattle.asc_words.specs.Command.{asc_command, flag, number_argument, number_option, required, rounds_flag, run_command, text_option, text_with_default, workers_option}
 use Rattle.asc_words.specs.Rows.{HasFlag, HasNumber, HasShared, HasText, IsMake, IsRun, IsSave, IsTrial}
 use Rattle.asc_words.proofs.Fitting.{AllFit, AreDistinct, AreOptions, Found, distinct_of, options_of, defaults_fit, found_for, given_row, made_by_defaults, neither, not_chosen, settle_fits, walk_fits}
 
@@ -141,6 +141,9 @@ guess = filled (text_with_default (codes "guess") (codes "stride"))
 abbrev join : Rule
 join = filled (flag (codes "join"))
 
+abbrev rounds : Rule
+rounds = filled rounds_flag
+
 abbrev report : Rule
 report = filled (flag (codes "report"))
 
@@ -183,7 +186,7 @@ run_distinct = distinct_of built_run.rules refl
 
 -- the rules that only `asc run` has
 abbrev run_rules : List Rule
-run_rules = filled workers_option ∷ filled (text_option (codes "load")) ∷ report ∷ []
+run_rules = filled workers_option ∷ rounds ∷ filled (text_option (codes "load")) ∷ report ∷ []
 
 module _ (words : List Text) (level : Passes built_run [] words false []) where
   run_image_given : is_given (codes "image") (rows_found built_run words) ≡ true
@@ -194,6 +197,7 @@ module _ (words : List Text) (level : Passes built_run [] words false []) where
   run_values = record {
     shared = shared_values built_run run_rules refl refl run_options run_distinct words level run_image_given;
     workers = number_of built_run refl run_options run_distinct words level (codes "workers") 0 64 (codes "0") refl;
+    rounds = has_flag rounds (rows_found built_run words) refl (of_default built_run refl run_options run_distinct words level rounds refl refl);
     report = has_flag report (rows_found built_run words) refl (of_default built_run refl run_options run_distinct words level report refl refl);
   }
 
@@ -244,6 +248,7 @@ module _ (words : List Text) (level : Passes built_trial [] words false []) wher
     number = has_number number 0 (2 ^ 64 - 1) (rows_found built_trial words) refl
         (of_given built_trial refl trial_options trial_distinct words level number refl trial_given);
     workers = number_of built_trial refl trial_options trial_distinct words level (codes "workers") 0 64 (codes "0") refl;
+    rounds = has_flag rounds (rows_found built_trial words) refl (of_default built_trial refl trial_options trial_distinct words level rounds refl refl);
   }
 
 -- ---- asc

@@ -37,6 +37,10 @@ flag name = record (new_rule name) { long = Some name; action = Some SetTrue }
 abbrev pub workers_option : Rule
 workers_option = number_option (codes "workers") 0 64 (codes "0")
 
+-- whether they run the guesses of each visit in rounds
+abbrev pub rounds_flag : Rule
+rounds_flag = flag (codes "rounds")
+
 -- what `asc run` and `asc save` both take: a row for each argument
 abbrev pub shared_arguments : List Rule
 shared_arguments =
@@ -55,9 +59,10 @@ shared_arguments =
     ∷ flag (codes "join")
     ∷ []
 
--- what `asc run` takes: workers, a file of saved entries and a report besides
+-- what `asc run` takes: workers, rounds, a file of saved entries and a report besides
 abbrev pub run_arguments : List Rule
-run_arguments = shared_arguments ++ workers_option ∷ text_option (codes "load") ∷ flag (codes "report") ∷ []
+run_arguments =
+    shared_arguments ++ workers_option ∷ rounds_flag ∷ text_option (codes "load") ∷ flag (codes "report") ∷ []
 
 -- what `asc save` takes
 abbrev pub save_arguments : List Rule
@@ -73,7 +78,7 @@ make_arguments = number_argument ∷ []
 
 -- what `asc trial` takes
 abbrev pub trial_arguments : List Rule
-trial_arguments = number_argument ∷ workers_option ∷ []
+trial_arguments = number_argument ∷ workers_option ∷ rounds_flag ∷ []
 
 -- a subcommand of this name, which takes these arguments
 abbrev pub subcommand_with : Text → List Rule → Shape

@@ -53,12 +53,20 @@ guesses_of text =
     else if bytes_eq text (codes "both") then Ok (record { last = true; stride = true })
     else Err Words
 
+-- how many workers go beside a run: none where it goes in rounds
+abbrev pub beside_in : List Row → ℕ
+beside_in rows = if flag_in (codes "rounds") rows then 0 else number_in (codes "workers") rows
+
+-- how many lanes run the guesses of each visit, where it goes in rounds
+abbrev pub lanes_in : List Row → ℕ
+lanes_in rows = if flag_in (codes "rounds") rows then number_in (codes "workers") rows else 0
+
 -- ---- lines
 
 abbrev pub version_numbered : ℕ → Version
 version_numbered number = if number == 1 then One else Two
 
--- what `asc run` and `asc save` are both asked for, with no workers, no report and no saved entries
+-- what `asc run` and `asc save` are both asked for, with no workers, no lanes, no report and no saved entries
 abbrev pub shared_with : List Row → Guesses → (pc : Option ℕ) → RunLine
 shared_with rows guesses pc = record {
   image = text_in (codes "image") rows;
@@ -74,6 +82,7 @@ shared_with rows guesses pc = record {
   span = number_in (codes "span") rows;
   ahead = number_in (codes "ahead") rows;
   workers = 0;
+  lanes = 0;
   queue = number_in (codes "queue") rows;
   join = flag_in (codes "join") rows;
   report = false;
@@ -93,7 +102,8 @@ shared_of rows = shared_at rows (guesses_of (text_in (codes "guess") rows)) (add
 -- with what only `asc run` is asked for
 abbrev pub run_with : List Row → RunLine → RunLine
 run_with rows line = record line {
-  workers = number_in (codes "workers") rows;
+  workers = beside_in rows;
+  lanes = lanes_in rows;
   report = flag_in (codes "report") rows;
   load = first_of (codes "load") rows;
 }
@@ -112,7 +122,7 @@ make_of rows = Ok (Make (number_in (codes "number") rows))
 
 -- the line of `asc trial`
 abbrev pub trial_of : List Row → Result Line Bad
-trial_of rows = Ok (Trial (number_in (codes "number") rows) (number_in (codes "workers") rows))
+trial_of rows = Ok (Trial (number_in (codes "number") rows) (beside_in rows) (lanes_in rows))
 
 -- the line of a subcommand and of what clap found for its arguments
 abbrev pub line_found : Option (Text × List Row) → Result Line Bad
@@ -145,12 +155,15 @@ pub record IsRunWithin (line : RunLine) : Type 0 where
   pub span : IsBetween 1 1000000000 line.span
   pub ahead : IsBetween 1 64 line.ahead
   pub workers : line.workers ≤ 64
+  pub lanes : line.lanes ≤ 64
+  pub rounds : 0 < line.lanes → line.workers ≡ 0
   pub queue : IsBetween 1 1024 line.queue
 
--- so are those of `asc save`, which has no workers, no report and no saved entries
+-- so are those of `asc save`, which has no workers, no lanes, no report and no saved entries
 pub record IsSaveWithin (line : RunLine) : Type 0 where
   pub within : IsRunWithin line
   pub alone : line.workers ≡ 0
+  pub no_lanes : line.lanes ≡ 0
   pub quiet : line.report ≡ false
   pub loads_none : line.load ≡ None
 
@@ -159,4 +172,4 @@ abbrev pub IsWithin : Line → Type 0
 IsWithin (Run line) = IsRunWithin line
 IsWithin (Save line) = IsSaveWithin line
 IsWithin (Make n) = n < 2 ^ 64
-IsWithin (Trial n workers) = (n < 2 ^ 64) × (workers ≤ 64)
+IsWithin (Trial n workers lanes) = (n < 2 ^ 64) × (workers ≤ 64) × (lanes ≤ 64) × (0 < lanes → workers ≡ 0)

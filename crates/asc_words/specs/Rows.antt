@@ -49,6 +49,7 @@ pub record HasShared (rows : List Row) : Type 0 where
 pub record IsRun (rows : List Row) : Type 0 where
   pub shared : HasShared rows
   pub workers : HasNumber (codes "workers") 0 64 rows
+  pub rounds : HasFlag (codes "rounds") rows
   pub report : HasFlag (codes "report") rows
 
 -- what `asc save` takes has its values
@@ -63,3 +64,4 @@ pub record IsMake (rows : List Row) : Type 0 where
 pub record IsTrial (rows : List Row) : Type 0 where
   pub number : HasNumber (codes "number") 0 (2 ^ 64 - 1) rows
   pub workers : HasNumber (codes "workers") 0 64 rows
+  pub rounds : HasFlag (codes "rounds") rows

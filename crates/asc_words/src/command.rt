@@ -1,7 +1,7 @@
 //! The command that `clap` reads.
 ghost use Rattle.std.specs.Prelude.{◌≡◌, IfOk, false};
 ghost use Rattle.clap.specs.Words.{app_of, rule_of};
-ghost use Rattle.asc_words.specs.Command.{asc_command, flag, number_argument, make_command, number_option, required, run_command, save_command, shared_arguments, subcommand_with, text_option, text_with_default, trial_command, workers_option};
+ghost use Rattle.asc_words.specs.Command.{asc_command, flag, number_argument, make_command, number_option, required, rounds_flag, run_command, save_command, shared_arguments, subcommand_with, text_option, text_with_default, trial_command, workers_option};
 ghost use Rattle.asc_words.specs.Subcommands.{IsSubcommand};
 
 use clap::builder::ValueParser;
@@ -28,6 +28,7 @@ fn run_command<'a>(alloc: Global) -> Result<Command<'a>, AllocError>
 {
     shared_command(alloc, "run")?
         .arg(workers(alloc))?
+        .arg(rounds(alloc))?
         .arg(text(alloc, "load"))?
         .arg(flag(alloc, "report"))
 }
@@ -72,7 +73,8 @@ fn trial_command<'a>(alloc: Global) -> Result<Command<'a>, AllocError>
 {
     Command::new(alloc, "trial")
         .arg(number_argument(alloc))?
-        .arg(workers(alloc))
+        .arg(workers(alloc))?
+        .arg(rounds(alloc))
 }
 
 /// How many workers a run has.
@@ -81,6 +83,14 @@ fn workers<'a>(alloc: Global) -> Arg<'a>
     ensures local { result.global ≡ false }
 {
     number(alloc, "workers", 0, 64, "0")
+}
+
+/// Whether they run the guesses of each visit in rounds.
+fn rounds<'a>(alloc: Global) -> Arg<'a>
+    ensures rule { rule_of result ≡ rounds_flag }
+    ensures local { result.global ≡ false }
+{
+    flag(alloc, "rounds")
 }
 
 /// The number of a generated image.

@@ -1,8 +1,8 @@
-ghost use Rattle.std.specs.Prelude.{ℕ, ◌≡◌, IfOk, Ok, Err, map, option_map};
+ghost use Rattle.std.specs.Prelude.{codes, ℕ, ◌≡◌, IfOk, Ok, Err, map, option_map};
 ghost use Rattle.std.specs.String.{string_bytes};
 ghost use Rattle.clap.specs.Words.{found_of, rows_of};
 ghost use Rattle.asc_words.specs.Rows.{HasFlag, HasNumber, HasShared, IsRun};
-ghost use Rattle.asc_words.specs.Line.{IsWithin, address_of, flag_in, guesses_of, is_address, line_of, number_in, run_of, shared_of, version_numbered};
+ghost use Rattle.asc_words.specs.Line.{IsWithin, address_of, beside_in, flag_in, guesses_of, is_address, lanes_in, line_of, number_in, run_of, shared_of, version_numbered};
 
 use crate::answer::Bad;
 use crate::command::asc_command;
@@ -73,8 +73,10 @@ pub struct RunLine {
     pub span: u64,
     /// How many visits ahead states are guessed, from 1 to 64.
     pub ahead: u32,
-    /// How many workers there are, at most 64.
+    /// How many workers go beside the run, at most 64. None do where it goes in rounds.
     pub workers: usize,
+    /// How many lanes run the guesses of each visit in rounds, at most 64, and 0 where it does not go in rounds.
+    pub lanes: usize,
     /// How many guesses wait for workers at most, from 1 to 1,024.
     pub queue: usize,
     /// Whether the entry of a guess is also joined with an earlier one that it may follow.
@@ -90,12 +92,19 @@ pub struct RunLine {
 pub enum Line {
     /// `asc run`.
     Run(RunLine),
-    /// `asc save`: no workers, no report, and no entries to load.
+    /// `asc save`: no workers, no lanes, no report, and no entries to load.
     Save(RunLine),
     /// `asc make`: the generated image of this number.
-    Make { n: u64 },
-    /// `asc trial`: a run of the generated image of this number, with at most 64 workers.
-    Trial { n: u64, workers: usize },
+    Make {
+        n: u64,
+    },
+    /// `asc trial`: a run of the generated image of this number, with at most 64 workers beside it, or in rounds with at
+    /// most 64 lanes.
+    Trial {
+        n: u64,
+        workers: usize,
+        lanes: usize,
+    },
 }
 
 /// Why there is no line.
@@ -158,10 +167,11 @@ pub fn parse(alloc: Global, words: &[String]) -> Result<Line, LineFault>
         "make" => Ok(Line::Make {
             n: number(found, "number"),
         }),
-        "trial" => Ok(Line::Trial {
-            n: number(found, "number"),
-            workers: number(found, "workers") as usize,
-        }),
+        "trial" => {
+            let n = number(found, "number");
+            let (workers, lanes) = workers_of(found);
+            Ok(Line::Trial { n, workers, lanes })
+        }
         _ => unreachable!(),
     }
 }
@@ -182,8 +192,10 @@ fn run_line(alloc: Global, found: &ArgMatches<'_>) -> Result<RunLine, LineFault>
 {
     let line = shared_line(alloc, found)?;
     let load = file_name(alloc, found.get_str("load"))?;
+    let (workers, lanes) = workers_of(found);
     Ok(RunLine {
-        workers: number(found, "workers") as usize,
+        workers,
+        lanes,
         report: flag(found, "report"),
         load,
         ..line
@@ -213,6 +225,7 @@ fn shared_line(alloc: Global, found: &ArgMatches<'_>) -> Result<RunLine, LineFau
         span: number(found, "span"),
         ahead: number(found, "ahead") as u32,
         workers: 0,
+        lanes: 0,
         queue: number(found, "queue") as usize,
         join: flag(found, "join"),
         report: false,
@@ -250,6 +263,19 @@ fn number(found: &ArgMatches<'_>, id: &str) -> u64
     ensures { result ≡ number_in id.now (rows_of (found_of found.now)) }
 {
     found.get_one::<u64>(id).unwrap()
+}
+
+/// How many workers go beside a run, and how many lanes run the guesses of each visit in rounds.
+fn workers_of(found: &ArgMatches<'_>) -> (usize, usize)
+    requires workers { HasNumber (codes "workers") 0 64 (rows_of (found_of found.now)) }
+    requires rounds { HasFlag (codes "rounds") (rows_of (found_of found.now)) }
+    ensures { result ≡ (beside_in (rows_of (found_of found.now)), lanes_in (rows_of (found_of found.now))) }
+{
+    let workers = number(found, "workers") as usize;
+    match flag(found, "rounds") {
+        true => (0, workers),
+        false => (workers, 0),
+    }
 }
 
 /// Whether a flag was given.

@@ -127,7 +127,7 @@ static LINES: [(&str, &str); 87] = [
 ];
 
 /// The same of options that say how guesses are made and followed.
-static GUESS_LINES: [(&str, &str); 51] = [
+static GUESS_LINES: [(&str, &str); 59] = [
     // which guesses are made
     ("asc run a --guess none", "a 1024 1099511627776 2 none"),
     ("asc run a --guess last", "a 1024 1099511627776 2 last"),
@@ -175,6 +175,20 @@ static GUESS_LINES: [(&str, &str); 51] = [
         "asc run a --workers 64",
         "a 1024 1099511627776 2 workers 64",
     ),
+    (
+        "asc run a --workers 64 --rounds",
+        "a 1024 1099511627776 2 lanes 64",
+    ),
+    (
+        "asc run --rounds a --report --workers 1",
+        "a 1024 1099511627776 2 lanes 1 report",
+    ),
+    ("asc run a --rounds", "a 1024 1099511627776 2"),
+    ("asc run a --workers 0 --rounds", "a 1024 1099511627776 2"),
+    ("asc run a --rounds --rounds", "refused"),
+    ("asc run a --rounds=1", "refused"),
+    ("asc run a --workers 65 --rounds", "refused"),
+    ("asc save i --rounds", "refused"),
     ("asc run a --workers=-1", "refused"),
     ("asc run a --workers 65", "refused"),
     ("asc run a --queue 1", "a 1024 1099511627776 2 queue 1"),
@@ -206,7 +220,7 @@ static GUESS_LINES: [(&str, &str); 51] = [
 ];
 
 /// The same of saved entries, of other subcommands, and of help.
-static OTHER_LINES: [(&str, &str); 53] = [
+static OTHER_LINES: [(&str, &str); 57] = [
     // a file of saved entries
     ("asc run i --load f", "i 1024 1099511627776 2 load f"),
     (
@@ -240,13 +254,20 @@ static OTHER_LINES: [(&str, &str); 53] = [
     ("asc make 300", "make 300"),
     ("asc make +7", "make 7"),
     ("asc make 18446744073709551615", "make 18446744073709551615"),
-    ("asc trial 0", "trial 0 workers 0"),
+    ("asc trial 0", "trial 0 workers 0 lanes 0"),
     (
         "asc trial 18446744073709551615",
-        "trial 18446744073709551615 workers 0",
+        "trial 18446744073709551615 workers 0 lanes 0",
     ),
-    ("asc trial 0 --workers 2", "trial 0 workers 2"),
-    ("asc trial --workers=64 300", "trial 300 workers 64"),
+    ("asc trial 0 --workers 2", "trial 0 workers 2 lanes 0"),
+    ("asc trial --workers=64 300", "trial 300 workers 64 lanes 0"),
+    (
+        "asc trial 300 --workers 3 --rounds",
+        "trial 300 workers 0 lanes 3",
+    ),
+    ("asc trial --rounds 300", "trial 300 workers 0 lanes 0"),
+    ("asc trial 300 --rounds --rounds", "refused"),
+    ("asc make 0 --rounds", "refused"),
     ("asc make", "refused"),
     ("asc make 18446744073709551616", "refused"),
     ("asc make 1 2", "refused"),
@@ -305,6 +326,7 @@ fn run_text(alloc: Global, line: &RunLine) -> Result<String, AllocError> {
         ("span", line.span, 1_000_000),
         ("ahead", u64::from(line.ahead), 4),
         ("workers", line.workers as u64, 0),
+        ("lanes", line.lanes as u64, 0),
         ("queue", line.queue as u64, 256),
     ];
     for (name, number, default) in &numbers {
@@ -334,7 +356,9 @@ fn meaning_of(alloc: Global, words: &[String]) -> Result<String, AllocError> {
             format!(in alloc; "save {meaning}")
         }
         Ok(Line::Make { n }) => format!(in alloc; "make {n}"),
-        Ok(Line::Trial { n, workers }) => format!(in alloc; "trial {n} workers {workers}"),
+        Ok(Line::Trial { n, workers, lanes }) => {
+            format!(in alloc; "trial {n} workers {workers} lanes {lanes}")
+        }
         Err(LineFault::Usage(Bad::Pc)) => String::from_str(alloc, "no address"),
         Err(LineFault::Usage(Bad::Words)) => String::from_str(alloc, "refused"),
         Err(LineFault::Memory) => String::from_str(alloc, "out of memory"),

@@ -1,17 +1,21 @@
--- What a line with workers comes to, whose files were read or not.
-use Rattle.std.proofs.Common.{Ok, subst, sym}
+-- What a line with threads comes to, whose files were read or not.
+use Rattle.std.proofs.Common.{List, Ok, map, ap, subst, sym}
+use Rattle.std.specs.Arc.{arc_value}
+use Rattle.asc_model.specs.Entry.{Entry}
 use Rattle.asc_calls.specs.World.{faults, outside}
 use Rattle.asc_words.specs.declared.line.Line.TheVariants as lines
 use Rattle.asc_words.specs.declared.answer.Outcome.{Outcome}
+use Rattle.asc_top.specs.Ran.{AreOpened}
 use Rattle.asc_top.specs.Answered.{IsAnswerFor, devices}
-use Rattle.asc_top.proofs.Beside.{ran_beside}
 use Rattle.asc_top.proofs.ReadFiles.{answer_of_opened}
 use Rattle.asc_top.proofs.run.run_beside.Goals as goal
 
 pub returns-in-Ok : goal.returns-in-Ok
 returns-in-Ok g c =
     let o = c.in-Ok.ensures.opened in
-    answer_of_opened c.args.line.now _ _ _ _ c.walk_beside.result o (ran_beside c.args.line.now o.read _ _ o.are _ _ _ c.walk_beside.result c.requires.some c.walk_beside.ensures)
+    let same : _ = ap (λ items. map arc_value items) (sym c.deref.ensures.value) in
+    let are = subst (λ (entries : List Entry). AreOpened c.args.line.now o.read c.in-Ok.opened.walk entries) same o.are in
+    answer_of_opened c.args.line.now _ _ _ _ c.walk_in_threads.result o (c.walk_in_threads.ensures o.read are)
 
 pub returns-in-Err : goal.returns-in-Err
 returns-in-Err g c =

@@ -1,12 +1,11 @@
--- What a file comes to with workers beside its walk.
-use Rattle.std.proofs.Common.{[], refl, sym, subst}
+-- What a file comes to with threads.
+use Rattle.std.proofs.Common.{refl, sym, subst}
 use Rattle.asc_calls.specs.World.{faults, outside}
 use Rattle.asc_run.specs.declared.walk.Settings.{Settings}
 use Rattle.asc_words.specs.declared.answer.Outcome.{Outcome}
 use Rattle.asc_top.specs.Program.{image_alone}
 use Rattle.asc_top.specs.Numbers.{settings_of}
 use Rattle.asc_top.specs.Ran.{IsWalkOf, Ran}
-use Rattle.asc_top.proofs.Beside.{ran_beside}
 use Rattle.asc_top.proofs.Refused.{ran_no_walk}
 use Rattle.asc_top.proofs.run.run_file_beside.Goals as goal
 
@@ -15,7 +14,8 @@ returns-in-Ok g c =
     let line = c.args.line.now in
     let own : IsWalkOf line (settings_of line) c.args.file.now c.in-Ok.walk =
     subst (λ (s : Settings). IsWalkOf line s c.args.file.now c.in-Ok.walk) c.settings_of.ensures.settings c.in-Ok.ensures.walk in
-    ran_beside line (image_alone c.args.file.now) _ [] (record { within = c.requires.file; own = own; taken = refl; none = λ _. refl }) _ _ _ c.walk_beside.result c.requires.some c.walk_beside.ensures
+    c.walk_in_threads.ensures (image_alone c.args.file.now)
+    (record { within = c.requires.file; own = own; taken = refl; none = λ _. refl })
 
 pub returns-in-Err : goal.returns-in-Err
 returns-in-Err g c =

@@ -5,5 +5,6 @@ use Rattle.asc_words.proofs.command.run_command.Goals as goal
 pub returns : goal.returns
 returns c =
     let one = with_arg _ _ _ _ _ c.in_ok-shared_command.ensures c.in_ok-arg.ensures c.workers.ensures.rule c.workers.ensures.local in
-    let two = with_arg _ _ _ _ _ one c.in_ok-arg-2.ensures c.text.ensures.rule c.text.ensures.local in
-    IfOk-weaker c.arg-3.result _ _ (λ new adds. with_arg _ new _ _ _ two adds c.flag.ensures.rule c.flag.ensures.local) c.arg-3.ensures
+    let two = with_arg _ _ _ _ _ one c.in_ok-arg-2.ensures c.rounds.ensures.rule c.rounds.ensures.local in
+    let three = with_arg _ _ _ _ _ two c.in_ok-arg-3.ensures c.text.ensures.rule c.text.ensures.local in
+    IfOk-weaker c.arg-4.result _ _ (λ new adds. with_arg _ new _ _ _ three adds c.flag.ensures.rule c.flag.ensures.local) c.arg-4.ensures

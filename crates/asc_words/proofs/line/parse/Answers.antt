@@ -90,33 +90,40 @@ returns-in-make-clause-line c =
     let met = met_make _ _ c.subcommand.result c.unwrap.result c.unwrap.ensures c.subcommand.ensures.name c.subcommand.ensures.rows of c.in-make.is in
     met.line ∙ (λ i. Ok (Make (sym c.number.ensures i)))
 
-pub number-requires-in-trial : goal.number-requires-in-trial
-number-requires-in-trial c =
+pub number-n-requires : goal.number-n-requires
+number-n-requires c =
     let parse = c.in_ok-matches.ensures in
     let of = found _ _ c.in_ok-matches.matches c.in_ok-asc_command.ensures parse.kinds parse.matches in
     let met = met_trial _ _ c.subcommand.result c.unwrap.result c.unwrap.ensures c.subcommand.ensures.name c.subcommand.ensures.rows of c.in-trial.is in
     (0, 2 ^ 64 - 1, met.values.number)
 
-pub number-requires-in-trial-2 : goal.number-requires-in-trial-2
-number-requires-in-trial-2 c =
+pub workers_of-workers-requires-clause-workers : goal.workers_of-workers-requires-clause-workers
+workers_of-workers-requires-clause-workers c =
     let parse = c.in_ok-matches.ensures in
     let of = found _ _ c.in_ok-matches.matches c.in_ok-asc_command.ensures parse.kinds parse.matches in
     let met = met_trial _ _ c.subcommand.result c.unwrap.result c.unwrap.ensures c.subcommand.ensures.name c.subcommand.ensures.rows of c.in-trial.is in
-    (0, 64, met.values.workers)
+    met.values.workers
+
+pub workers_of-workers-requires-clause-rounds : goal.workers_of-workers-requires-clause-rounds
+workers_of-workers-requires-clause-rounds c =
+    let parse = c.in_ok-matches.ensures in
+    let of = found _ _ c.in_ok-matches.matches c.in_ok-asc_command.ensures parse.kinds parse.matches in
+    let met = met_trial _ _ c.subcommand.result c.unwrap.result c.unwrap.ensures c.subcommand.ensures.name c.subcommand.ensures.rows of c.in-trial.is in
+    met.values.rounds
 
 pub returns-in-trial-clause-line : goal.returns-in-trial-clause-line
 returns-in-trial-clause-line c =
     let parse = c.in_ok-matches.ensures in
     let of = found _ _ c.in_ok-matches.matches c.in_ok-asc_command.ensures parse.kinds parse.matches in
     let met = met_trial _ _ c.subcommand.result c.unwrap.result c.unwrap.ensures c.subcommand.ensures.name c.subcommand.ensures.rows of c.in-trial.is in
-    met.line ∙ (λ i. Ok (Trial (sym c.number-in-trial.ensures i) (sym c.number-in-trial-2.ensures i)))
+    met.line ∙ (λ i. Ok (Trial (sym c.number-n.ensures i) (sym c.workers_of-workers.ensures i).0 (sym c.workers_of-workers.ensures i).1))
 
 pub returns-in-trial-clause-within : goal.returns-in-trial-clause-within
 returns-in-trial-clause-within c =
     let parse = c.in_ok-matches.ensures in
     let of = found _ _ c.in_ok-matches.matches c.in_ok-asc_command.ensures parse.kinds parse.matches in
     let met = met_trial _ _ c.subcommand.result c.unwrap.result c.unwrap.ensures c.subcommand.ensures.name c.subcommand.ensures.rows of c.in-trial.is in
-    subst (λ (line : Line). IsWithin line) (λ i. Trial (sym c.number-in-trial.ensures i) (sym c.number-in-trial-2.ensures i)) (trial_within _ met.values)
+    subst (λ (line : Line). IsWithin line) (λ i. Trial (sym c.number-n.ensures i) (sym c.workers_of-workers.ensures i).0 (sym c.workers_of-workers.ensures i).1) (trial_within _ met.values)
 
 pub unreachable-requires : goal.unreachable-requires
 unreachable-requires c =

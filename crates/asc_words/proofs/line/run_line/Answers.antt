@@ -13,9 +13,6 @@ use Rattle.asc_words.proofs.line.run_line.Goals as goal
 pub shared_line-requires : goal.shared_line-requires
 shared_line-requires c = c.requires.shared
 
-pub number-requires : goal.number-requires
-number-requires c = (0, 64, c.requires.workers)
-
 pub flag-requires : goal.flag-requires
 flag-requires c = c.requires.report
 
@@ -29,4 +26,4 @@ returns-clause-line c =
     let line = c.in_ok-line.line in
     let load : c.in_ok-load.load ≡ first_of (codes "load") (rows_of found) = c.in_ok-load.ensures ∙ c.get_str.ensures ∙ first_value-rows found (codes "load") in
     ap (ran (rows_of found)) c.in_ok-line.ensures.line
-    ∙ (λ i. Ok (Run (record line { workers = sym c.number.ensures i; report = sym c.flag.ensures i; load = sym load i })))
+    ∙ (λ i. Ok (Run (record line { workers = (sym c.workers_of-workers.ensures i).0; lanes = (sym c.workers_of-workers.ensures i).1; report = sym c.flag.ensures i; load = sym load i })))

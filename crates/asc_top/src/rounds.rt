@@ -1,0 +1,169 @@
+//! Runs in threads: with workers beside the walk, or in rounds.
+ghost use Rattle.std.specs.Prelude.{◌≡◌, ◌^◌, ◌<◌, ◌≤◌, map, IfOk, IsNone, None};
+ghost use Rattle.std.specs.Arc.{arc_value};
+ghost use Rattle.asc_calls.specs.World.{faults, outside};
+ghost use Rattle.asc_run.specs.Helped.{HasRoom};
+ghost use Rattle.asc_run.specs.VisitedBy.{IsVisit, MayVisit};
+ghost use Rattle.asc_run.specs.declared.last_visits.TheConstants.{MOST_AHEAD};
+ghost use Rattle.asc_live.specs.Rounds.{told_by};
+ghost use Rattle.asc_words.specs.Line.{IsRunWithin};
+ghost use Rattle.asc_top.specs.Program.{Files};
+ghost use Rattle.asc_top.specs.Ran.{AreOpened, IsThreaded, Ran, Walked, loaded_helper};
+
+use crate::run::{helper_with, outcome_at, walk_alone, walk_beside};
+use crate::settings::{guessing_of, keeps_entries};
+use asc_find::Guessing;
+use asc_live::Rounds;
+use asc_outside::{Gate, Memory, Sink, Source};
+use asc_run::Walk;
+use asc_shape::{Shape, State, Steps};
+use asc_traj::Entry;
+use asc_words::{Answer, Outcome, RunLine};
+use asc_work::Lanes;
+use std::alloc::Global;
+use std::sync::ledger::Ledger;
+use std::sync::{Arc, Wait};
+use std::thread::Threads;
+
+/// Runs a walk that has not begun to its end, as a line asks: in rounds where there are lanes, and else with workers beside
+/// it. It has these entries before its first visit.
+pub(crate) fn walk_in_threads<
+    T: Threads + Wait + Sync + Copy + Drop + Send,
+    G: Gate + Sync,
+    I: Source,
+    O: Sink,
+    E: Sink,
+    L: Ledger,
+>(
+    rt: &T,
+    alloc: Global,
+    line: &RunLine,
+    lanes: usize,
+    mut walk: Walk,
+    first: &[Arc<Entry>],
+    gate: &G,
+    input: &mut I,
+    out: &mut O,
+    err: &mut E,
+    steps: &mut Steps<L>,
+) -> Outcome
+    requires new { IsNone walk.ended }
+    requires line { IsRunWithin line.now }
+    requires threads { IsThreaded line.now.workers lanes }
+    ensures { (files : Files) → AreOpened line.now files walk (map arc_value first.now) → Ran
+        (outside (I.left input.old) (O.given out.old) (E.given err.old) steps.old
+        (faults (I.faults input.old) (O.faults out.old) (E.faults err.old)))
+        (outside (I.left input.new) (O.given out.new) (E.given err.new) steps.new
+        (faults (I.faults input.new) (O.faults out.new) (E.faults err.new))) line.now files result }
+{
+    match lanes {
+        0 => walk_beside(
+            rt, alloc, line, &mut walk, first, gate, input, out, err, steps,
+        ),
+        lanes => walk_in_rounds(
+            rt, alloc, line, lanes, walk, first, gate, input, out, err, steps,
+        ),
+    }
+}
+
+/// Runs a walk that has not begun to its end, as a line without workers asks. Lanes run the guesses of each visit in
+/// rounds. It has these entries before its first visit.
+///
+/// What nobody sees is not run, as without lanes.
+fn walk_in_rounds<T: Threads + Sync, G: Gate + Sync, I: Source, O: Sink, E: Sink, L: Ledger>(
+    rt: &T,
+    alloc: Global,
+    line: &RunLine,
+    lanes: usize,
+    mut walk: Walk,
+    first: &[Arc<Entry>],
+    gate: &G,
+    input: &mut I,
+    out: &mut O,
+    err: &mut E,
+    steps: &mut Steps<L>,
+) -> Outcome
+    requires new { IsNone walk.ended }
+    requires line { IsRunWithin line.now }
+    requires none { line.now.workers ≡ 0 }
+    requires some { 1 ≤ lanes }
+    requires few { lanes ≤ 64 }
+    ensures { (files : Files) → AreOpened line.now files walk (map arc_value first.now) → Ran
+        (outside (I.left input.old) (O.given out.old) (E.given err.old) steps.old
+        (faults (I.faults input.old) (O.faults out.old) (E.faults err.old)))
+        (outside (I.left input.new) (O.given out.new) (E.given err.new) steps.new
+        (faults (I.faults input.new) (O.faults out.new) (E.faults err.new))) line.now files result }
+{
+    if !keeps_entries(line) {
+        return walk_alone(alloc, line, walk, first, input, out, err, steps);
+    }
+    match rounds_with(alloc, walk.shape(), guessing_of(line), lanes, first) {
+        Ok(mut rounds) => go_in_rounds(
+            rt,
+            line.report,
+            &mut walk,
+            &mut rounds,
+            gate,
+            input,
+            out,
+            err,
+            steps,
+        ),
+        Err(Memory) => Outcome::of(Answer::Memory),
+    }
+}
+
+/// Runs a walk that has not begun to its end in rounds, and tells its numbers where they are asked for.
+fn go_in_rounds<T: Threads + Sync, G: Gate + Sync, I: Source, O: Sink, E: Sink, L: Ledger>(
+    rt: &T,
+    is_asked: bool,
+    walk: &mut Walk,
+    rounds: &mut Rounds,
+    gate: &G,
+    input: &mut I,
+    out: &mut O,
+    err: &mut E,
+    steps: &mut Steps<L>,
+) -> Outcome
+    requires new { IsNone walk.old.ended }
+    requires room { HasRoom (2 ^ 61) (told_by rounds.old) }
+    ensures { Walked is_asked walk.old walk.new
+        (outside (I.left input.old) (O.given out.old) (E.given err.old) steps.old
+        (faults (I.faults input.old) (O.faults out.old) (E.faults err.old)))
+        (outside (I.left input.new) (O.given out.new) (E.given err.new) steps.new
+        (faults (I.faults input.new) (O.faults out.new) (E.faults err.new)))
+        (told_by rounds.old) (told_by rounds.new) None result }
+{
+    let visit = |rounds: &mut Rounds, state: &mut State, number: u64|
+        requires { MayVisit number (told_by rounds.now) }
+        ensures { IsVisit number state.entry.now state.exit.now (told_by rounds.entry.now) (told_by rounds.exit.now) }
+    { rounds.visit(rt, state, number, gate) };
+    let ended = walk.go_by(rounds, &visit, input, out, err, steps);
+    outcome_at(
+        is_asked,
+        ended,
+        walk.counts(),
+        rounds.made(),
+        rounds.refused(),
+    )
+}
+
+/// A helper in rounds that was not visited yet. It has these entries, and so many lanes.
+fn rounds_with(
+    alloc: Global,
+    shape: Shape,
+    guessing: Guessing,
+    lanes: usize,
+    first: &[Arc<Entry>],
+) -> Result<Rounds, Memory>
+    requires laps { 1 ≤ guessing.laps }
+    requires span { 1 ≤ guessing.span }
+    requires ahead { guessing.ahead ≤ MOST_AHEAD }
+    requires some { 1 ≤ lanes }
+    requires few { lanes ≤ 64 }
+    ensures { IfOk result (λ rounds. rounds.helper ≡ loaded_helper shape guessing (map arc_value first.now)) }
+{
+    let serial = helper_with(alloc, shape, guessing, first)?;
+    let lanes = Lanes::new(alloc, shape, guessing.laps, guessing.span, lanes)?;
+    Ok(Rounds::new(serial, lanes))
+}
