@@ -8,10 +8,10 @@ that is preloaded and refuses. It wants Linux with glibc.
 
 Ten commands are run. Five are of a loop of 13 steps, with guesses: `asc run` with --report, alone, with two workers, in
 rounds with two, and with saved entries, and `asc save`. Three are so with --join: the save, and the run alone and with one
-worker. The others are `asc trial 0` and `asc make 0`. In one row of runs the first allocation alone is refused, then the second alone, and so
-on. In another row all are refused from the first on, from the second on, and so on. A row ends where a run made fewer
-allocations than that. With workers, whose number of them is not the same each time, it ends
-where N runs did so one after another (5).
+worker. The others are `asc trial 0` and `asc make 0`. In one row of runs the first allocation alone is refused, then the
+second alone, and so on. In another row all are refused from the first on, from the second on, and so on. A row ends where a
+run made fewer allocations than that. With workers that number is not the same each time, and a row ends where N runs did
+so one after another (5).
 
 Each run has to end in one of two ways: with status 71, the line `asc: out of memory` and nothing put out; or as with
 memory. Then the status is 0, output is the same, and steps executed and skipped are 13, or of the trial as many as it

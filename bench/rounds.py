@@ -3,15 +3,17 @@
 
     python3 bench/rounds.py [PROGRAM] [--count]
 
-PROGRAM is the built `asc`, crates/asc_cli/out/asc_cli where it is not given. Examples run at their best addresses with
+PROGRAM is the built `asc`, crates/asc_cli/out/asc_cli where it is not given. `collatz_chunks` runs at its best address with
 `--report`, by `--ahead 4` and `--ahead 16`, with one kind of guess and with both, and in rounds with 1, 2 and 3 workers. A
 report that differs from that without workers ends the script.
 
 It prints seconds by the clock, the least of five, how many times as fast a run in rounds is, and its processor's seconds
-beside those without workers: a lane that waited busily would raise these.
+beside those without workers: a lane that waited busily would raise these. Behind that stands how many times as fast the
+first round is, which has a job for each visit ahead: what a run takes that ends with its second visit, less one without
+guesses.
 
-With --count it prints the processor's instructions, as `valgrind --tool=callgrind` counts them, that a run in rounds takes
-more for each guess than one without workers.
+With --count it prints the processor's instructions of `collatz`, as `valgrind --tool=callgrind` counts them, and how many
+more a run in rounds takes for each guess.
 """
 
 import sys
@@ -20,8 +22,8 @@ sys.dont_write_bytecode = True
 
 import harness
 
-# Each program with its input, the one that is timed and the one that is counted.
-CASES = {"collatz_chunks": ("100000\n", "20000\n"), "matrix": ("200\n", "48\n")}
+# What is timed and what is counted: a program and its input.
+TIMED, COUNTED = ("collatz_chunks", b"50000\n"), ("collatz", b"2000\n")
 
 
 def same_report(run, alone):
@@ -29,36 +31,61 @@ def same_report(run, alone):
     return run if run.stderr == alone.stderr else harness.end(f"{run.line}: another report than {alone.line}")
 
 
-def timed(words, text):
-    alone = harness.least(5, "seconds", words, wide=True, input=text)
-    row = f"{alone.seconds:8.3f} s"
+def run_of(words, text, alone=None):
+    """The one of five runs that took least by the clock. Its report is that of this other run."""
+    run = harness.least(5, "seconds", words, ends=(0, 75), wide=True, input=text)
+    return run if alone is None or run.stderr == alone.stderr else harness.end(f"{run.line}: another report")
+
+
+def in_rounds(words, workers):
+    return [*words, "--workers", workers, "--rounds"]
+
+
+def second_visit(words, text):
+    """How many steps a run has to do at least, so that it has a second visit."""
+    low, high = 0, 2**40
+    while low < high:
+        middle = (low + high) // 2
+        run = harness.well([*words, "--guess", "none", "--steps", middle], ends=(0, 75), input=text)
+        low, high = (low, middle) if harness.numbers_of(run)["asked"] >= 2 else (middle + 1, high)
+    return low
+
+
+def timed(words, guess, text):
+    """The row of a run, and of its first round."""
+    limited = [*words, "--steps", second_visit(words, text)]
+    plain = run_of([*limited, "--guess", "none"], text).seconds
+    words, limited = [*words, "--guess", guess], [*limited, "--guess", guess]
+    alone, first = run_of(words, text), run_of(limited, text)
+    whole, rounds = f"{alone.seconds:8.3f} s", f"{1000 * (first.seconds - plain):8.1f} ms"
     for workers in (1, 2, 3):
-        run = harness.least(5, "seconds", [*words, "--workers", workers, "--rounds"], wide=True, input=text)
-        same_report(run, alone)
-        row += f"{alone.seconds / run.seconds:8.2f}, {run.processor / alone.processor:.2f}"
-    return row
+        run = run_of(in_rounds(words, workers), text, alone)
+        whole += f"{alone.seconds / run.seconds:8.2f}, {run.processor / alone.processor:.2f}"
+        rounds += f"{(first.seconds - plain) / (run_of(in_rounds(limited, workers), text, first).seconds - plain):8.2f}"
+    return whole + rounds
 
 
-def counted(words, text):
+def counted(words, guess, text):
+    """The row of a run's instructions."""
+    words = [*words, "--guess", guess]
     alone = harness.callgrind(words, wide=True, input=text)
     row = f"{alone.instructions / 1e6:10.1f}"
     for workers in (1, 3):
-        more = harness.instructions([*words, "--workers", workers, "--rounds"], wide=True, input=text) - alone.instructions
+        more = harness.instructions(in_rounds(words, workers), wide=True, input=text) - alone.instructions
         row += f"{more / harness.numbers_of(alone)['made']:10.0f} a guess"
     return row
 
 
 def main():
     program, counts = harness.asc(*harness.asked(__doc__, 1, "--count")), "--count" in sys.argv
+    (name, text), row = (COUNTED, counted) if counts else (TIMED, timed)
+    address, memory = harness.PLACES[name]
     harness.print_load("beginning")
-    for name, (long, short) in CASES.items():
-        address, memory = harness.PLACES[name]
-        for guess in ("stride", "both"):
-            for ahead in ("4", "16"):
-                words = [program, "run", harness.IMAGES / name, "--memory", memory, "--pc", address, "--report",
-                         "--guess", guess, "--ahead", ahead]
-                result = counted(words, short.encode()) if counts else timed(words, long.encode())
-                print(f"{name:15} --guess {guess:7}--ahead {ahead:4}{result}", flush=True)
+    for guess in ("stride", "both"):
+        for ahead in ("4", "16"):
+            words = [program, "run", harness.IMAGES / name, "--memory", memory, "--pc", address, "--report", "--ahead",
+                     ahead]
+            print(f"{name:15} --guess {guess:7}--ahead {ahead:4}{row(words, guess, text)}", flush=True)
     harness.print_load("end")
 
 

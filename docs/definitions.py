@@ -59,7 +59,7 @@ def row(path, names_cited):
     """The line of one file, or nothing where it has no public definition."""
     text = path.read_text()
     names = [name for name in DEFINITION.findall(text) if name in names_cited]
-    if not DEFINITION.search(text) or "private contracts" in head(text):
+    if not DEFINITION.search(text) or "rivate contracts" in head(text):
         return ""
     link = f"- [{path.stem}](../{path.relative_to(ROOT).as_posix()})"
     return f"{link}: {head(text)} {', '.join(f'`{name}`' for name in names)}".rstrip() + "\n"

@@ -140,10 +140,10 @@ def meaning(command, behind, values, known):
 def check_words(why, known):
     """asc-why finds what is wrong in just the command lines that asc refuses, as its own tests list them."""
     text = (ROOT / "crates/asc_words/src/tests.rt").read_text()
-    table = re.search(r"static LINES.*?\[\n(.*?)\n\];", text, re.S)[1]
-    lines = re.findall(r"\(\s*\"(.*?)\",\s*\"(.*?)\",?\s*\)", table)
-    same("rows of command lines", len(lines), int(re.search(r"static LINES: .*; (\d+)\]", text)[1]))
-    for line, wanted in lines:
+    tables = re.findall(r"static \w*LINES: .*?; (\d+)\] = \[\n(.*?)\n\];", text, re.S)
+    lines = [re.findall(r"\(\s*\"(.*?)\",\s*\"(.*?)\",?\s*\)", table) for _, table in tables]
+    same("rows of command lines", [len(rows) for rows in lines], [int(count) for count, _ in tables])
+    for line, wanted in [row for rows in lines for row in rows]:
         try:
             found = meaning(*why.line_of(line.split(" ")[1:]), known)
         except why.Wrong:
@@ -712,19 +712,32 @@ def check_copy(folder):
     same("the name that it has before", [len(texts), any("asc_embed" in text for text in texts)], [8, False])
 
 
-def check_rounds(program):
-    """In rounds each example reports what it reports without workers, to each byte, for any number of lanes."""
-    for image in sorted(IMAGES.iterdir()):
-        given = ROOT / "examples" / image.name / "input"
+# A library that lets no thread be made.
+THREADLESS = b"#include <errno.h>\nint pthread_create(void) { return EAGAIN; }\n"
 
-        def told(*options):
-            with open(given if given.exists() else os.devnull, "rb") as stdin:
-                return outcome([program, "run", "--report", "--guess=both", "--steps=10000", *options, image],
-                               stdin=stdin)
 
-        alone = told()
+def check_rounds(program, folder, numbers_of):
+    """In rounds each example reports what it reports without workers, to each byte, for any number of lanes; and one does so
+    to its end, also where no thread can be made."""
+    def told(image, *options, **environment):
+        given = ROOT / "examples" / image / "input"
+        with open(given if given.exists() else os.devnull, "rb") as stdin:
+            return outcome([program, "run", "--report", "--guess=both", *options, IMAGES / image], stdin=stdin,
+                           env={**os.environ, **environment})
+
+    for image in sorted(path.name for path in IMAGES.iterdir()):
+        alone = told(image, "--steps=10000")
         for lanes in (1, 3, 64):
-            same(f"{image.name} in rounds with {lanes}", told(f"--workers={lanes}", "--rounds"), alone)
+            same(f"{image} in rounds with {lanes}", told(image, "--steps=10000", f"--workers={lanes}", "--rounds"), alone)
+    alone = told("collatz", "--pc=10484")
+    same("collatz jumps", numbers_of(alone[1])["hits"] > 0, True)
+    same("collatz in rounds", told("collatz", "--pc=10484", "--workers=3", "--rounds"), alone)
+    if has("cc", "rounds without threads"):
+        library = folder / "threadless.so"
+        made = subprocess.run(["cc", "-shared", "-fPIC", "-o", library, "-x", "c", "-"], input=THREADLESS)
+        same("cc's status", made.returncode, 0)
+        same("collatz in rounds without threads",
+             told("collatz", "--pc=10484", "--workers=3", "--rounds", LD_PRELOAD=str(library)), alone)
 
 
 def check_completion(known):
@@ -795,7 +808,8 @@ def main():
         check_shell(program, Path(folder))
         check_copy(Path(folder))
     check_completion(known)
-    check_rounds(program)
+    with tempfile.TemporaryDirectory() as folder:
+        check_rounds(program, Path(folder), why.asc_tools.numbers_of)
     print(f"tools/check.py: {tried} trials, {failed} failed")
     return 1 if failed else 0
 

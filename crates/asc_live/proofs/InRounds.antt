@@ -1,5 +1,5 @@
 -- A visit in rounds: its jobs were planned, run by lanes, and are settled one after another.
-use Rattle.std.proofs.Common.{◌≡◌, inl, inr, ℕ, ◌+◌, ◌<◌, ◌≤◌, true, List, length, get_or, set, Option, Some, None, refl, sym, ap, subst, ◌∙◌, arith}
+use Rattle.std.proofs.Common.{◌≡◌, ◌≢◌, inl, inr, ℕ, ◌+◌, ◌<◌, ◌≤◌, true, List, length, get_or, set, Option, Some, None, refl, sym, ap, subst, ◌∙◌, arith}
 use Rattle.std.specs.Option.{is_some}
 use Rattle.std.proofs.lemmas.List.{get_or-set_other}
 use Rattle.asc_model.specs.State.{State}
@@ -11,7 +11,7 @@ use Rattle.asc_find.specs.declared.guessing.Guessing.{Guessing}
 use Rattle.asc_find.specs.Serial.{Serial}
 use Rattle.asc_work.specs.Lanes.{Lanes, IsDone}
 use Rattle.asc_run.specs.Serial.{Task, bounds_at}
-use Rattle.asc_run.specs.Helped.{aid}
+use Rattle.asc_run.specs.Helped.{Aid, aid}
 use Rattle.asc_run.specs.VisitedBy.{IsVisit}
 use Rattle.asc_run.specs.SerialHelper.{SerialHelper, IsPlanned, IsSettled, plan_of, told_machine}
 use Rattle.asc_run.specs.SerialInside.{MakesJob}
@@ -54,7 +54,7 @@ done_there laps span prev last job (Some made) done = refl
 
 -- the results are there, and are what becomes of the jobs
 pub have_run : (h : SerialHelper) (old new : Lanes) (jobs : List Task) (prev last : State) → AreFor h old → jobs ≡ h.jobs → h.machine.prev ≡ Some prev → h.machine.last ≡ Some last
-    → ((i : ℕ) (d : Task) → i < length jobs → IsDone old.laps old.span prev last (get_or jobs i d) (get_or new.results i None)) → new ≡ record old { results = new.results } → HaveRun h old new
+    → ((i : ℕ) (d : Task) → i < length jobs → IsDone old.laps old.span prev last (get_or jobs i d) (get_or new.results i None)) → new ≡ record old { results = new.results; ran = new.ran } → HaveRun h old new
 have_run h old new jobs prev last fits same p q done rest = record {
   there = λ i from within. done_there old.laps old.span prev last (get_or h.jobs i (Last, 0)) (get_or new.results i None) (moved i (Last, 0) within);
   done = λ prev_too last_too p_too q_too i d from within.
@@ -98,6 +98,16 @@ visit_done number now left old plan done i p w n few stays =
       stays = stays;
       machine = visit-is number now old plan done i p w n;
     }
+
+-- what a helper tells
+abbrev told : SerialHelper → Aid
+told h = aid h.tally None (plan_of h) (told_machine h)
+
+-- a visit of a state of another shape leaves what is told
+pub visit_elsewhere : (number : ℕ) (now : State) (old plan done : SerialHelper) (i : ℕ) → IsPlanned number now old plan → Works plan done i → i ≡ length plan.jobs → now.shape ≢ old.machine.shape → told done ≡ told old
+visit_elsewhere number now old plan done i (inl (same, planned)) w n other = absurd (other same)
+visit_elsewhere number now old plan done i (inr (apart, is)) w n other =
+    ap told (w.none (n ∙ ap (λ (h : SerialHelper). length h.jobs) is) ∙ is)
 
 -- ---- the loop over the jobs
 

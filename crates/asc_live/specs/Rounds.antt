@@ -41,4 +41,4 @@ AreDone h results from = (prev last : State) → h.machine.prev ≡ Some prev �
 pub record HaveRun (h : SerialHelper) (old new : Lanes) : Type 0 where
   pub there : AreThere h new.results 0
   pub done : AreDone h new.results 0
-  pub same : new ≡ record old { results = new.results }
+  pub same : new ≡ record old { results = new.results; ran = new.ran }

@@ -1,4 +1,4 @@
-ghost use Rattle.std.specs.Prelude.{◌≡◌, ◌^◌, ◌<◌, ◌≤◌, ◌∷◌, [], length, true, None, Some};
+ghost use Rattle.std.specs.Prelude.{◌≡◌, ◌≢◌, ◌^◌, ◌<◌, ◌≤◌, ◌∷◌, [], length, true, None, Some};
 ghost use Rattle.std.specs.Option.{is_some};
 ghost use Rattle.asc_traj.specs.Jump.{IsJump};
 ghost use Rattle.asc_find.specs.Finder.{Tells, tally_after};
@@ -49,7 +49,8 @@ impl Rounds {
     /// Learns of the state at a visit, which is the walk's `number`th, and makes its guesses. The gate is passed at
     /// `Traced` once one was traced, whose ticket is how many were made before it.
     ///
-    /// It is a call of its own, and not a `Helper`'s, since it starts threads.
+    /// At a state of another shape there is no guess. It is a call of its own, and not a `Helper`'s, since it starts
+    /// threads.
     pub fn visit<R: Threads + Sync, G: Gate + Sync>(
         &mut self,
         rt: &R,
@@ -58,7 +59,9 @@ impl Rounds {
         gate: &G,
     )
         requires { MayVisit number (told_by self.old) }
-        ensures { IsVisit number state.old state.new (told_by self.old) (told_by self.new) }
+        ensures visit { IsVisit number state.old state.new (told_by self.old) (told_by self.new) }
+        ensures lanes { self.new.lanes.lanes ≡ self.old.lanes.lanes }
+        ensures other { state.old.shape ≢ self.old.helper.machine.shape → told_by self.new ≡ told_by self.old }
     {
         let first = self.serial.made();
         let jobs = self.serial.plan(state, number);
@@ -67,6 +70,13 @@ impl Rounds {
             let made = self.lanes.take(i);
             self.serial.settle(made);
         }
+    }
+
+    /// The helper that keeps the entries.
+    pub fn serial(&self) -> &Serial
+        ensures { result.now ≡ self.now.helper }
+    {
+        &self.serial
     }
 
     /// How many guesses were made.

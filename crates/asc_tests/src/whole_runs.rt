@@ -1,6 +1,6 @@
 //! Whole runs: words, an image and devices, and the answer, what is put to out, to err and to the report.
 use crate::images::wrap;
-use crate::outside::{Devices, QUIET, SOUND, Want, check, check_guessed};
+use crate::outside::{Devices, QUIET, SOUND, Want, check, check_guessed, check_rounds};
 use asc_step::{Fault, FaultKind};
 use asc_top::{Answer, Bad};
 use std::test::Fail;
@@ -779,6 +779,7 @@ fn numbered_runs(rt: HostRuntime) -> Result<(), Fail> {
     let alloc = rt.alloc();
     for row in &NUMBERED {
         let file = wrap(alloc, row.program)?;
+        check_rounds(&rt, alloc, row.line, &file)?;
         check(&rt, alloc, row.line, file, &row.devices, &row.want)?;
     }
     Ok(())

@@ -257,25 +257,44 @@ fn in_rounds(rt: HostRuntime) -> Result<(), Fail> {
     Ok(())
 }
 
-/// Two lanes run beside each other: the first job of a visit is held up until the second one was traced.
-#[test]
-fn held_round(rt: HostRuntime) -> Result<(), Fail> {
-    let alloc = rt.alloc();
-    let (alone, report) = ALONE[0];
-    let line = format!(in alloc; "{alone} --workers 2 --rounds")?;
-    let hold = Hold {
+/// A job of a round is held up where it was traced, until another one was.
+fn traced_until(ticket: u64, other: u64) -> Hold {
+    Hold {
         at: Point::Traced,
-        ticket: 0,
+        ticket,
         until: Point::Traced,
-        other: 1,
-    };
-    let gate = HoldGate::new(alloc, &[hold], TURNS).expect(&rt, "memory");
-    let files = only_image(alloc, wrap(alloc, COUNTS)?)?;
-    let got = run_gated(&rt, alloc, line.as_str(), files, &SOUND, &gate)?;
-    assert!(rt; gate.all_held(), "a lane ran alone");
-    assert_eq!(rt;
-        (got.answer, got.report.bytes()),
-        (Answer::Exit(0), report.as_bytes())
-    );
+        other,
+    }
+}
+
+/// Lanes run beside one another, and each round's tickets go on from those before. Of the second visit the jobs are 0 to
+/// 3, of the third one 4 and 5. One thread alone would wait for all turns.
+#[test]
+fn held_rounds(rt: HostRuntime) -> Result<(), Fail> {
+    let alloc = rt.alloc();
+    let (alone, report) = ALONE[1];
+    let pairs = [
+        traced_until(0, 1),
+        traced_until(1, 0),
+        traced_until(4, 5),
+        traced_until(5, 4),
+    ];
+    let four = [
+        traced_until(0, 3),
+        traced_until(1, 3),
+        traced_until(2, 3),
+        traced_until(3, 0),
+    ];
+    for (lanes, holds) in [("2", pairs), ("4", four)] {
+        let line = format!(in alloc; "{alone} --workers {lanes} --rounds")?;
+        let gate = HoldGate::new(alloc, &holds, TURNS).expect(&rt, "memory");
+        let files = only_image(alloc, wrap(alloc, COUNTS)?)?;
+        let got = run_gated(&rt, alloc, line.as_str(), files, &SOUND, &gate)?;
+        assert!(rt; gate.all_held(), "a lane ran alone, of {lanes}");
+        assert_eq!(rt;
+            (got.answer, got.report.bytes()),
+            (Answer::Exit(0), report.as_bytes())
+        );
+    }
     Ok(())
 }

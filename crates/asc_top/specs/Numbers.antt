@@ -147,7 +147,8 @@ pub record AreNumbersOf (line : RunLine) (image : loader.Image) (entries : List 
       (course_of_image image left) counts
   -- with memory or without, at most 128 guesses were made at each visit
   pub few : counts.made ≤ 128 * counts.asked
-  -- where there are no workers and memory was never wanting, they are those of a serial run, by its definition
+  -- where there are no workers beside it, as in rounds, and memory was never wanting, they are those of a serial run, by
+  -- its definition
   pub serial : line.workers ≡ 0 → counts.refused ≡ 0
       → IsSerialRun line.limit (is_mark (recognised_by line) (course_of_image image left)) (course_of_image image left)
       image.start.shape (guessing_of line) (content_of run_capacity entries) (numbers_of counts)

@@ -161,7 +161,8 @@ fn rounds_with(
     requires ahead { guessing.ahead ≤ MOST_AHEAD }
     requires some { 1 ≤ lanes }
     requires few { lanes ≤ 64 }
-    ensures { IfOk result (λ rounds. rounds.helper ≡ loaded_helper shape guessing (map arc_value first.now)) }
+    ensures helper { IfOk result (λ rounds. rounds.helper ≡ loaded_helper shape guessing (map arc_value first.now)) }
+    ensures lanes { IfOk result (λ rounds. rounds.lanes.lanes ≡ lanes) }
 {
     let serial = helper_with(alloc, shape, guessing, first)?;
     let lanes = Lanes::new(alloc, shape, guessing.laps, guessing.span, lanes)?;

@@ -1,10 +1,11 @@
 -- What each lane has run, and where the result of a job stands.
-use Rattle.std.proofs.Common.{◌≡◌, ◌≢◌, ◌⊎◌, ℕ, zero, suc, ◌+◌, ◌*◌, ◌/◌, ◌%◌, ◌<◌, ◌≤◌, List, [], ◌∷◌, ◌++◌, true, Option, Some, None, Vec, length, get_or, set, take, drop, nat_lt, vec_capacity, All, refl, sym, ap, subst, ◌∙◌, ⊎_elim, inl, inr, arith, length-append}
+use Rattle.std.proofs.Common.{◌≡◌, ◌≢◌, ◌⊎◌, ◌↔◌, ℕ, zero, suc, ◌+◌, ◌*◌, ◌/◌, ◌%◌, ◌<◌, ◌≤◌, List, [], ◌∷◌, ◌++◌, true, Option, Some, None, Vec, length, get_or, set, take, drop, replicate, nat_lt, vec_capacity, All, refl, sym, ap, subst, ◌∙◌, ⊎_elim, inl, inr, arith, length-append}
 use Rattle.std.specs.Int.{div_ceil}
 use Rattle.std.specs.Global.{Global}
 use Rattle.std.specs.Option.{is_some}
 use Rattle.std.proofs.Math.Nat.{div-lt_iff_lt-mul, div-mul-le_self, le_of_lt, lt_of_mul-lt-mul_right, mod-eq-sub-div-mul, mod-lt, mul-le-mul_right}
-use Rattle.std.proofs.lemmas.List.{ext_get_or, get_or-map, get_or_past, get_or-set_same, get_or-set_other, length-map, length-set, map-set}
+use Rattle.std.proofs.Math.Seq.{map-set_same}
+use Rattle.std.proofs.lemmas.List.{ext_get_or, get_or-map, get_or_past, get_or-set_same, get_or-set_other, length-map, length-set, map-append, map-set, replicate-append-replicate}
 use Rattle.std.proofs.lemmas.List.Elements.{All-push}
 use Rattle.std.proofs.lemmas.List.FromFn.{get_or-map-range_with_len, length-map-range_with_len}
 use Rattle.std.proofs.lemmas.Bool.{cases_lt, false≢true, le-ltb}
@@ -13,7 +14,7 @@ use Rattle.asc_traj.specs.declared.made.Made.{Made}
 use Rattle.asc_work.specs.declared.lane.Lane.{Lane}
 use Rattle.asc_work.specs.declared.lane.Round.{Round}
 use Rattle.asc_work.specs.Inside.{HasOwn}
-use Rattle.asc_work.specs.Lanes.{Lanes, HasRunAll, HasRunFirst, IsDone, IsDoneAt, IsLane, Task, dealt, lists_of, most_jobs}
+use Rattle.asc_work.specs.Lanes.{Lanes, AreShared, AreJobs, HasRunAll, HasRunFirst, HasRunOnly, IsDone, IsDoneAt, IsLane, Task, counts_of, dealt, lists_of, most_jobs}
 use Rattle.asc_work.proofs.Posts.{written}
 
 -- ---- one lane
@@ -33,12 +34,18 @@ size_of_last xs x = omega (arith, length-append xs (x ∷ []))
 next_place : (at i count more lanes : ℕ) → i ≡ at + count * lanes → more ≡ count + 1 → i + lanes ≡ at + more * lanes
 next_place at i count more lanes is one = let e : i + lanes ≡ at + (count + 1) * lanes = grind (arith, is) in e ∙ ap (λ (m : ℕ). at + m * lanes) (sym one)
 
+-- a round has one job more for a lane
+one_more : (round : Round) (at count i : ℕ) → i ≡ at + count * round.lanes → i < length round.jobs.now → AreJobs round at count → AreJobs round at (count + 1)
+one_more round at count i is within first j l = ⊎_elim (λ (m : j < count). first j m)
+    (λ (m : count ≤ j). let e : count ≡ j = omega (arith, l, m) in subst (λ (n : ℕ). at + n * round.lanes < length round.jobs.now) e (subst (λ (n : ℕ). n < length round.jobs.now) is within))
+    (cases_lt j count)
+
 -- a lane has run one job more, and kept its result
 pub ran_next : (shape : Shape) (round : Round) (at i : ℕ) (old mid next : Lane) (made : Made) → mid.results ≡ old.results → HasOwn shape next.unfilled next.tracer
-    → next.results.items ≡ mid.results.items ++ Some made ∷ [] → vec_capacity mid.results ≤ vec_capacity next.results → IsDoneAt round i (Some made)
-    → IsLane shape round.lanes old × (i ≡ at + length old.results.items * round.lanes) × HasRunFirst round at (length old.results.items) old
-    → IsLane shape round.lanes next × (i + round.lanes ≡ at + length next.results.items * round.lanes) × HasRunFirst round at (length next.results.items) next
-ran_next shape round at i old mid next made same own items room done before =
+    → next.results.items ≡ mid.results.items ++ Some made ∷ [] → vec_capacity mid.results ≤ vec_capacity next.results → IsDoneAt round i (Some made) → i < length round.jobs.now
+    → IsLane shape round.lanes old × (i ≡ at + length old.results.items * round.lanes) × HasRunFirst round at (length old.results.items) old × AreJobs round at (length old.results.items)
+    → IsLane shape round.lanes next × (i + round.lanes ≡ at + length next.results.items * round.lanes) × HasRunFirst round at (length next.results.items) next × AreJobs round at (length next.results.items)
+ran_next shape round at i old mid next made same own items room done within before =
     let P : ℕ → Option Made → Type 0 = λ j o. IsDoneAt round (at + j * round.lanes) o in
     let is : next.results.items ≡ old.results.items ++ Some made ∷ [] = items ∙ ap (λ (v : Vec (Option Made) Global). v.items ++ Some made ∷ []) same in
     let more : vec_capacity old.results ≤ vec_capacity next.results = subst (λ (v : Vec (Option Made) Global). vec_capacity v ≤ vec_capacity next.results) same room in
@@ -49,18 +56,30 @@ ran_next shape round at i old mid next made same own items room done before =
       record { own = own; room = omega (arith, most, enough) },
       next_place at i (length old.results.items) (length next.results.items) round.lanes before.1 size,
       subst (λ (l : List (Option Made)). (j : ℕ) → j < length l → P j (get_or l j None)) (sym is) (with_last P old.results.items (Some made) None before.2 last),
+      subst (AreJobs round at) (sym size) (one_more round at (length old.results.items) i before.1 within before.3),
     )
+
+-- where the next job is none, an earlier place holds each of the jobs
+earlier : (round : Round) (at count j : ℕ) → length round.jobs.now ≤ at + count * round.lanes → at + j * round.lanes < length round.jobs.now → j < count
+earlier round at count j ended within =
+    let less : j * round.lanes < count * round.lanes = omega (arith, ended, within) in lt_of_mul-lt-mul_right round.lanes less
 
 -- a lane has run all its jobs once the next one is none
 pub ran_all : (round : Round) (at : ℕ) (lane : Lane) → HasRunFirst round at (length lane.results.items) lane
     → length round.jobs.now ≤ at + length lane.results.items * round.lanes → HasRunAll round at lane
-ran_all round at lane first ended j within =
-    let less : j * round.lanes < length lane.results.items * round.lanes = omega (arith, ended, within) in
-    first j (lt_of_mul-lt-mul_right round.lanes less)
+ran_all round at lane first ended j within = first j (earlier round at (length lane.results.items) j ended within)
+
+-- and it has run no other
+pub ran_only : (round : Round) (at : ℕ) (lane : Lane) → AreJobs round at (length lane.results.items)
+    → length round.jobs.now ≤ at + length lane.results.items * round.lanes → HasRunOnly round at lane
+ran_only round at lane first ended j = (first j, earlier round at (length lane.results.items) j ended)
 
 -- what a lane has run that was left so
 pub left_so : (round : Round) (at : ℕ) (left lane : Lane) → left ≡ lane → HasRunAll round at left → HasRunAll round at lane
 left_so round at left lane is all = subst (λ (l : Lane). HasRunAll round at l) is all
+
+pub left_only : (round : Round) (at : ℕ) (left lane : Lane) → left ≡ lane → HasRunOnly round at left → HasRunOnly round at lane
+left_only round at left lane is only = subst (λ (l : Lane). HasRunOnly round at l) is only
 
 -- ---- all lanes
 
@@ -77,14 +96,18 @@ ceil_enough x n some = ⊎_elim
 
 -- a further lane
 pub lane_put : (shape : Shape) (lanes room counter : ℕ) (made more : List Lane) (lane : Lane) → 1 ≤ lanes → room ≡ div_ceil most_jobs lanes → more ≡ made ++ lane ∷ []
-    → HasOwn shape lane.unfilled lane.tracer → room ≤ vec_capacity lane.results → (length made ≡ counter) × All (IsLane shape lanes) made
-    → (length more ≡ counter + 1) × All (IsLane shape lanes) more
-lane_put shape lanes room counter made more lane some is put own enough before =
+    → HasOwn shape lane.unfilled lane.tracer → room ≤ vec_capacity lane.results → lane.results.items ≡ []
+    → (length made ≡ counter) × All (IsLane shape lanes) made × (counts_of made ≡ replicate counter 0)
+    → (length more ≡ counter + 1) × All (IsLane shape lanes) more × (counts_of more ≡ replicate (counter + 1) 0)
+lane_put shape lanes room counter made more lane some is put own enough empty before =
     let all = mul-le-mul_right lanes enough in
     let most : most_jobs ≤ room * lanes = subst (λ (n : ℕ). most_jobs ≤ n * lanes) (sym is) (ceil_enough most_jobs lanes some) in
     let fit : IsLane shape lanes lane = record { own = own; room = omega (arith, all, most) } in (
       ap (λ (l : List Lane). length l) put ∙ size_of_last made lane ∙ ap (λ (n : ℕ). n + 1) before.0,
       subst (All (IsLane shape lanes)) (sym put) (All-push (IsLane shape lanes) made lane before.1 fit),
+      ap (λ (l : List Lane). counts_of l) put ∙ map-append (λ (l : Lane). length l.results.items) made (lane ∷ [])
+          ∙ ap (λ (counts : List ℕ). counts ++ length lane.results.items ∷ []) before.2
+          ∙ ap (λ (l : List (Option Made)). replicate counter 0 ++ length l ∷ []) empty ∙ replicate-append-replicate counter 1 0,
     )
 
 -- the results of a lane
@@ -184,6 +207,22 @@ round_run round n laps span now old new laps_is span_is same size count some lan
     let Told : ℕ → ℕ → Type 0 = λ a b. IsDone a b round.prev.now.value round.last.now.value (get_or round.jobs.now i d) (get_or (dealt (lists_of (take n (new ++ drop (length new) old))) (length round.jobs.now)) i None) in
     subst (λ (a : ℕ). Told a span) laps_is (subst (λ (b : ℕ). Told round.laps b) span_is (all d))
 
+-- the jobs were shared, told of the fields that were written as a slice
+pub round_shared : (round : Round) (n lanes : ℕ) (now old new : List Lane) → length old ≡ lanes → now ≡ old → length now ≡ n → length new ≡ length now
+    → 1 ≤ length old → round.lanes ≡ n → ((k : ℕ) (d : Lane) → k < length now → HasRunOnly round k (get_or new k d))
+    → AreShared (counts_of (take n (new ++ drop (length new) old))) lanes (length round.jobs.now)
+round_shared round n lanes now old new lanes_is same size count some round_lanes each k j within =
+    let old_size : length now ≡ length old = ap (λ (l : List Lane). length l) same in
+    let d = some_lane old some in
+    let here : k < length new = omega (arith, within, lanes_is, old_size, count) in
+    let ran : get_or (counts_of new) k 0 ≡ length (get_or new k d).results.items = get_or-map (λ (lane : Lane). length lane.results.items) new k d 0 here in
+    let ran_is : get_or (counts_of (take n (new ++ drop (length new) old))) k 0 ≡ length (get_or new k d).results.items =
+    ap (λ (l : List Lane). get_or (counts_of l) k 0) (written n now old new same size count) ∙ ran in
+    let number : round.lanes ≡ lanes = omega (arith, round_lanes, size, old_size, lanes_is) in
+    let only = each k d (omega (arith, here, count)) j in
+    subst (λ (r : ℕ). (j < r) ↔ (k + j * lanes < length round.jobs.now)) (sym ran_is)
+    (subst (λ (m : ℕ). (j < length (get_or new k d).results.items) ↔ (k + j * m < length round.jobs.now)) number only)
+
 -- where the result of a job stands
 pub stands_in : (lanes : List Lane) (jobs i n : ℕ) (results : List (Option Made)) (lane : Lane) → dealt (lists_of lanes) jobs ≡ results → 1 ≤ length lanes → n ≡ length lanes
     → lane ≡ get_or lanes (i % n) lane → i < jobs → get_or results i None ≡ get_or lane.results.items (i / n) None
@@ -211,15 +250,20 @@ stands lanes jobs i n results lane view some size is there = ⊎_elim
     (λ (beyond : jobs ≤ i). absurd (false≢true (sym (ap (λ (o : Option Made). is_some o) (past lanes jobs i results view beyond)) ∙ there)))
     (cases_lt i jobs)
 
-abbrev fields : Shape → (laps span lanes : ℕ) → List (Option Made) → Lanes
-fields shape laps span lanes results = record { shape = shape; laps = laps; span = span; lanes = lanes; results = results }
+abbrev fields : Shape → (laps span lanes : ℕ) → List (Option Made) → (ran : List ℕ) → Lanes
+fields shape laps span lanes results ran = record { shape = shape; laps = laps; span = span; lanes = lanes; results = results; ran = ran }
+
+-- how many jobs each lane ran stays where a result is taken
+counts_stay : (lanes : List Lane) (k : ℕ) (lane next : Lane) → lane ≡ get_or lanes k lane → length next.results.items ≡ length lane.results.items → counts_of (set lanes k next) ≡ counts_of lanes
+counts_stay lanes k lane next is left =
+    map-set_same (λ (l : Lane). length l.results.items) lanes k next lane (left ∙ ap (λ (l : Lane). length l.results.items) is)
 
 -- lanes after a result was taken
 pub taken : (t : Lanes) (shape : Shape) (laps span jobs i n : ℕ) (lanes : List Lane) (lane next : Lane)
-    → fields shape laps span (length lanes) (dealt (lists_of lanes) jobs) ≡ t → 1 ≤ length lanes → n ≡ length lanes
+    → fields shape laps span (length lanes) (dealt (lists_of lanes) jobs) (counts_of lanes) ≡ t → 1 ≤ length lanes → n ≡ length lanes
     → lane ≡ get_or lanes (i % n) lane → next.results.items ≡ set lane.results.items (i / n) None
-    → fields shape laps span (length (set lanes (i % n) next)) (dealt (lists_of (set lanes (i % n) next)) jobs)
-    ≡ fields t.shape t.laps t.span t.lanes (set t.results i None)
+    → fields shape laps span (length (set lanes (i % n) next)) (dealt (lists_of (set lanes (i % n) next)) jobs) (counts_of (set lanes (i % n) next))
+    ≡ fields t.shape t.laps t.span t.lanes (set t.results i None) t.ran
 taken t shape laps span jobs i n lanes lane next view some size is left =
     let all = size_of lanes ∙ sym size in
     let k : i % n < length lanes = subst (λ (m : ℕ). i % n < m) size (mod-lt i (omega (arith, some, size))) in
@@ -230,5 +274,7 @@ taken t shape laps span jobs i n lanes lane next view some size is left =
     ap (λ (l : List (List (Option Made))). dealt l jobs) (lists ∙ ap (λ (m : ℕ). set (lists_of lanes) (i % m) next.results.items) (sym all))
     ∙ dealt_set (lists_of lanes) jobs i next.results.items (omega (arith, some, size_of lanes))
     (put ∙ ap (λ (m : ℕ). set (get_or (lists_of lanes) (i % m) []) (i / m) None) (sym all)) in
-    ap (λ (m : ℕ). fields shape laps span m (dealt (lists_of (set lanes (i % n) next)) jobs)) (length-set lanes (i % n) next)
-    ∙ ap (fields shape laps span (length lanes)) results ∙ ap (λ (v : Lanes). fields v.shape v.laps v.span v.lanes (set v.results i None)) view
+    let counts = counts_stay lanes (i % n) lane next is (ap (λ (l : List (Option Made)). length l) left ∙ length-set lane.results.items (i / n) None) in
+    ap (λ (m : ℕ). fields shape laps span m (dealt (lists_of (set lanes (i % n) next)) jobs) (counts_of (set lanes (i % n) next))) (length-set lanes (i % n) next)
+    ∙ ap (λ (l : List (Option Made)). fields shape laps span (length lanes) l (counts_of (set lanes (i % n) next))) results
+    ∙ ap (fields shape laps span (length lanes) (set (dealt (lists_of lanes) jobs) i None)) counts ∙ ap (λ (v : Lanes). fields v.shape v.laps v.span v.lanes (set v.results i None) v.ran) view

@@ -1,5 +1,5 @@
 -- Lanes, and what they make of the jobs of a visit.
-use Rattle.std.specs.Prelude.{◌≡◌, ◌≢◌, ℕ, ◌+◌, ◌*◌, ◌/◌, ◌%◌, ◌^◌, ◌<◌, ◌≤◌, List, [], Option, Some, None, map, length, slice_index_or, vec_capacity, All}
+use Rattle.std.specs.Prelude.{◌≡◌, ◌≢◌, ◌↔◌, ℕ, ◌+◌, ◌*◌, ◌/◌, ◌%◌, ◌^◌, ◌<◌, ◌≤◌, List, [], Option, Some, None, map, length, slice_index_or, vec_capacity, All}
 use Rattle.std.specs.List.{range_with_len}
 use Rattle.asc_model.specs.Shape.{Shape}
 use Rattle.asc_model.specs.State.{State}
@@ -15,13 +15,15 @@ use Rattle.asc_work.specs.declared.lane.Lane.{Lane}
 use Rattle.asc_work.specs.declared.lane.Round.{Round}
 
 -- Lanes: the shape of their states, how far they trace a guess, and how many they are. And what became of each job of the
--- last round, in the jobs' order: nothing is there of a job whose result was taken.
+-- last round, in the jobs' order: nothing is there of a job whose result was taken. And how many jobs each lane ran in that
+-- round.
 pub record Lanes : Type 0 where
   pub shape : Shape
   pub laps : ℕ
   pub span : ℕ
   pub lanes : ℕ
   pub results : List (Option Made)
+  pub ran : List ℕ
 
 -- a guess of a visit: its kind, and how many visits after the last one
 abbrev pub Task : Type 0
@@ -38,6 +40,11 @@ IsDone laps span prev last job None = ⊥
 IsDone laps span prev last job (Some made) = made ≢ Refused
     → IsMade (guess_bounds (view_of last).pc laps span) (guess_of job.0 job.1 prev last) 0 0 made
 
+-- A round's jobs were shared among so many lanes: lane k ran the jobs k, k + lanes, k + 2 lanes and so on, each once, and
+-- no other. So job i was run by lane i modulo their number alone.
+abbrev pub AreShared : (ran : List ℕ) → (lanes jobs : ℕ) → Type 0
+AreShared ran lanes jobs = (k j : ℕ) → k < lanes → (j < slice_index_or ran k 0) ↔ (k + j * lanes < jobs)
+
 -- ---- words of private contracts
 
 -- The results of so many jobs, where each lane has those of its own: job i stands in lane i modulo their number.
@@ -48,6 +55,10 @@ dealt lists jobs =
 -- the results that each lane has
 abbrev pub lists_of : List Lane → List (List (Option Made))
 lists_of lanes = map (λ lane. lane.results.items) lanes
+
+-- how many jobs each lane ran: it has a result of each, or none where that was taken
+abbrev pub counts_of : List Lane → List ℕ
+counts_of lanes = map (λ lane. length lane.results.items) lanes
 
 -- one of so many lanes for states of a shape: it has a tracer or its memory, and room for its part of a round
 pub record IsLane (shape : Shape) (lanes : ℕ) (lane : Lane) : Type 0 where
@@ -75,10 +86,18 @@ abbrev pub HasRunFirst : Round → (at count : ℕ) → Lane → Type 0
 HasRunFirst round at count lane =
     (j : ℕ) → j < count → IsDoneAt round (at + j * round.lanes) (slice_index_or lane.results.items j None)
 
+-- the first `count` jobs of a lane are jobs of the round
+abbrev pub AreJobs : Round → (at count : ℕ) → Type 0
+AreJobs round at count = (j : ℕ) → j < count → at + j * round.lanes < length round.jobs.now
+
 -- it has run all of them
 abbrev pub HasRunAll : Round → (at : ℕ) → Lane → Type 0
 HasRunAll round at lane = (j : ℕ) → at + j * round.lanes < length round.jobs.now
     → IsDoneAt round (at + j * round.lanes) (slice_index_or lane.results.items j None)
+
+-- It has run each of them once, and no others: it has as many results.
+abbrev pub HasRunOnly : Round → (at : ℕ) → Lane → Type 0
+HasRunOnly round at lane = (j : ℕ) → (j < length lane.results.items) ↔ (at + j * round.lanes < length round.jobs.now)
 
 -- 1 to 64 lanes for states of a shape
 pub record AreLanes (shape : Shape) (lanes : List Lane) : Type 0 where

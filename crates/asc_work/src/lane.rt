@@ -7,7 +7,7 @@ ghost use Rattle.asc_traj.specs.declared.made.Made.TheVariants as made;
 ghost use Rattle.asc_traj.specs.Made.{IsMade};
 ghost use Rattle.asc_traj.specs.Trace.{guess_bounds};
 ghost use Rattle.asc_work.specs.Inside.{HasOwn, IsOwn};
-ghost use Rattle.asc_work.specs.Lanes.{HasRunAll, IsDoneAt, IsLane, IsRound, most_jobs};
+ghost use Rattle.asc_work.specs.Lanes.{HasRunAll, HasRunOnly, IsDoneAt, IsLane, IsRound, most_jobs};
 
 use crate::worker::make_tracer;
 use asc_depvec::{Tracer, Unfilled};
@@ -52,6 +52,7 @@ impl Lane {
     pub(crate) fn new(alloc: Global, shape: Shape, room: usize) -> Result<Lane, Memory>
         ensures own { IfOk result (λ lane. HasOwn shape lane.unfilled lane.tracer) }
         ensures room { IfOk result (λ lane. room ≤ vec_capacity lane.results) }
+        ensures empty { IfOk result (λ lane. lane.results.items ≡ []) }
     {
         Ok(Lane {
             alloc,
@@ -69,6 +70,7 @@ impl Lane {
         requires lane { IsLane round.now.last.now.value.shape round.now.lanes self.old }
         ensures lane { IsLane round.now.last.now.value.shape round.now.lanes self.new }
         ensures done { HasRunAll round.now at self.new }
+        ensures only { HasRunOnly round.now at self.new }
     {
         self.results.clear();
         let mut i = at;

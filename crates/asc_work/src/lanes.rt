@@ -1,8 +1,8 @@
-ghost use Rattle.std.specs.Prelude.{◌≡◌, ℕ, ◌^◌, ◌<◌, ◌≤◌, [], Some, None, true, All, IfOk, length, set, slice_index_or};
+ghost use Rattle.std.specs.Prelude.{◌≡◌, ℕ, ◌^◌, ◌<◌, ◌≤◌, [], Some, None, true, All, IfOk, length, replicate, set, slice_index_or};
 ghost use Rattle.std.specs.Option.{is_some};
 ghost use Rattle.asc_model.specs.Shape.{Shape};
 ghost use Rattle.asc_work.specs.declared.lane.Lane.{Lane};
-ghost use Rattle.asc_work.specs.Lanes.{HasRunAll, IsDone, IsLane, IsRound, Task, most_jobs};
+ghost use Rattle.asc_work.specs.Lanes.{AreShared, HasRunAll, HasRunOnly, IsDone, IsLane, IsRound, Task, counts_of, most_jobs};
 
 use crate::lane::{Lane, Round};
 use asc_guess::Kind;
@@ -45,6 +45,7 @@ impl Model for Lanes {
       span = l.span;
       lanes = length l.lanes.items;
       results = model.dealt (model.lists_of l.lanes.items) l.jobs;
+      ran = model.counts_of l.lanes.items;
     } };
 
     ghost invariant = { λ l. model.AreLanes l.shape l.lanes.items × (1 ≤ l.laps) × (1 ≤ l.span) };
@@ -64,7 +65,7 @@ impl Lanes {
         requires span { 1 ≤ span }
         requires some { 1 ≤ lanes }
         requires most { lanes ≤ 64 }
-        ensures { IfOk result (λ l. l ≡ record { shape = shape; laps = laps; span = span; lanes = lanes; results = [] }) }
+        ensures { IfOk result (λ l. l ≡ record { shape = shape; laps = laps; span = span; lanes = lanes; results = []; ran = replicate lanes 0 }) }
     {
         Ok(Lanes {
             shape,
@@ -78,6 +79,9 @@ impl Lanes {
     /// Runs the jobs of a visit, each a kind and how many visits it guesses ahead, from the state of that visit and of
     /// the one before. What became of the jobs of an earlier round is dropped. Once job i's guess was traced the gate is
     /// passed at `Traced`, with the ticket `first + i`. That holds up no job but the later ones of its lane.
+    ///
+    /// Of n lanes, lane k runs the jobs k, k + n, k + 2 n and so on, each once, and no other. So job i is run by lane i
+    /// modulo n alone.
     ///
     /// It can't be refused: where memory is wanting for a job, that job's result says so. It takes no memory but that of
     /// the entries, and of shares of the snapshots.
@@ -98,7 +102,8 @@ impl Lanes {
         ensures done { (i : ℕ) (d : Task) → i < length jobs.now
             → IsDone self.old.laps self.old.span prev.now.value last.now.value
             (slice_index_or jobs.now i d) (slice_index_or self.new.results i None) }
-        ensures same { self.new ≡ record self.old { results = self.new.results } }
+        ensures shares { AreShared self.new.ran self.old.lanes (length jobs.now) }
+        ensures same { self.new ≡ record self.old { results = self.new.results; ran = self.new.ran } }
     {
         let round = Round {
             prev,
@@ -138,6 +143,7 @@ fn new_lanes(alloc: Global, shape: Shape, lanes: usize) -> Result<Vec<Lane>, Mem
     requires most { lanes ≤ 64 }
     ensures count { IfOk result (λ made. length made.items ≡ lanes) }
     ensures each { IfOk result (λ made. All (IsLane shape lanes) made.items) }
+    ensures empty { IfOk result (λ made. counts_of made.items ≡ replicate lanes 0) }
 {
     let room = MOST_JOBS.div_ceil(lanes);
     let mut made = Vec::with_capacity(alloc, lanes)?;
@@ -170,6 +176,7 @@ fn run_all<R: Threads + Sync, G: Gate + Sync>(
     requires each { All (IsLane round.now.last.now.value.shape round.now.lanes) lanes.old }
     ensures each { All (IsLane round.now.last.now.value.shape round.now.lanes) lanes.new }
     ensures done { (k : ℕ) (d : Lane) → k < length lanes.old → HasRunAll round.now k (slice_index_or lanes.new k d) }
+    ensures only { (k : ℕ) (d : Lane) → k < length lanes.old → HasRunOnly round.now k (slice_index_or lanes.new k d) }
     ensures count { length lanes.new ≡ length lanes.old }
 {
     let threads = threads_for(round);
@@ -177,7 +184,7 @@ fn run_all<R: Threads + Sync, G: Gate + Sync>(
         requires { IsRound round.now.last.now.value.shape round.now
             × IsLane round.now.last.now.value.shape round.now.lanes lane.now }
         ensures { IsLane round.entry.now.last.now.value.shape round.entry.now.lanes lane.exit.now
-            × HasRunAll round.entry.now at lane.exit.now }
+            × HasRunAll round.entry.now at lane.exit.now × HasRunOnly round.entry.now at lane.exit.now }
     { lane.run(at, round, gate) };
     for_each_mut(rt, lanes, threads, &run);
 }

@@ -125,17 +125,17 @@ fn rounds(rt: HostRuntime) {
     }
 }
 
-// Two lanes run beside each other: the first job is held up until the second one was traced.
+// Two lanes run beside each other: each of the first two jobs is held up until the other one was traced.
 #[test]
 fn held_lane(rt: HostRuntime) {
     let alloc = rt.alloc();
-    let hold = Hold {
+    let hold = |ticket, other| Hold {
         at: Point::Traced,
-        ticket: 5,
+        ticket,
         until: Point::Traced,
-        other: 6,
+        other,
     };
-    let gate = HoldGate::new(alloc, &[hold], 10_000_000).expect(&rt, "memory");
+    let gate = HoldGate::new(alloc, &[hold(5, 6), hold(6, 5)], 10_000_000).expect(&rt, "memory");
     let last = counting(&rt, alloc, 65_536, 0x10008, 1);
     let mut lanes = Lanes::new(alloc, last.shape(), 1, 100, 2).expect(&rt, "memory");
     lanes.run(

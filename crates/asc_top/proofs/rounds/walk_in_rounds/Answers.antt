@@ -18,7 +18,7 @@ returns-in-Ok g c = λ files opened.
     let line = c.args.line.now in
     let shape_is = c.shape.ensures.shape ∙ ap (λ (walk : Walk). walk.state.shape) opened.own.walk_is in
     let helper_is : c.in-Ok.rounds.helper ≡ loaded_helper opened.own.image.start.shape (guessing_of line) (map arc_value c.args.first.now) =
-    c.in-Ok.ensures ∙ (λ i. loaded_helper (shape_is i) (c.guessing_of.ensures i) (map arc_value c.args.first.now)) in
+    c.in-Ok.ensures.helper ∙ (λ i. loaded_helper (shape_is i) (c.guessing_of.ensures i) (map arc_value c.args.first.now)) in
     let fresh : IsNew (aid c.in-Ok.rounds.helper.tally None (plan_of c.in-Ok.rounds.helper) (told_machine c.in-Ok.rounds.helper)) = record {
       tally = ap (λ (h : SerialHelper). h.tally) helper_is;
       made = ap (λ (h : SerialHelper). h.made) helper_is;
