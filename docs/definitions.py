@@ -5,8 +5,7 @@
     python3 docs/definitions.py --check    says whether the list is what this script would write
 
 The crates are in the order of crates.txt, and the files of one in that of its specs/Lib.antt. Of a file are told the first
-sentence of its first comment, and the names that contracts in the code cite. A file of words of private contracts is left
-out.
+sentence of its first comment, and the names that contracts in the code cite, without words of private contracts.
 """
 
 import re
@@ -17,7 +16,10 @@ ROOT = Path(__file__).resolve().parent.parent
 TARGET = ROOT / "docs/DEFINITIONS.md"
 MARKED = re.compile(r"(?<=<!-- list: docs/definitions\.py writes it -->\n).*?(?=^<!-- end of the list -->$)",
                     re.MULTILINE | re.DOTALL)
-DEFINITION = re.compile(r"^(?:abbrev |unfoldable )?pub (?!mod |use )(?:record |data )?(\S+)", re.MULTILINE)
+# A definition, or one of a module without a name: there a line with pub alone is a field.
+DEFINITION = re.compile(r"^(?:(?:abbrev |unfoldable )?pub (?!mod |use )(?:record |data )?"
+                        r"| +(?:abbrev |unfoldable )pub | +pub (?:record |data ))(\S+)", re.MULTILINE)
+PRIVATE = re.compile(r"[Ww]ords of private contracts")
 CITED = re.compile(r"ghost use Rattle\.(\w+)\.specs\.(\w+)(?:\.\{(.*?)\}| as (\w+));", re.DOTALL)
 
 
@@ -58,8 +60,8 @@ def cited():
 def row(path, names_cited):
     """The line of one file, or nothing where it has no public definition."""
     text = path.read_text()
-    names = [name for name in DEFINITION.findall(text) if name in names_cited]
-    if not DEFINITION.search(text) or "rivate contracts" in head(text):
+    names = [name for name in DEFINITION.findall(PRIVATE.split(text)[0]) if name in names_cited]
+    if not DEFINITION.search(text) or "private contracts" in head(text):
         return ""
     link = f"- [{path.stem}](../{path.relative_to(ROOT).as_posix()})"
     return f"{link}: {head(text)} {', '.join(f'`{name}`' for name in names)}".rstrip() + "\n"
