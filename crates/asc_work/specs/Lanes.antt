@@ -40,8 +40,8 @@ IsDone laps span prev last job None = ⊥
 IsDone laps span prev last job (Some made) = made ≢ Refused
     → IsMade (guess_bounds (view_of last).pc laps span) (guess_of job.0 job.1 prev last) 0 0 made
 
--- A round's jobs were shared among so many lanes: lane k ran the jobs k, k + lanes, k + 2 lanes and so on, each once, and
--- no other. So job i was run by lane i modulo their number alone.
+-- A round's jobs were shared among so many lanes: lane k has a result of each of the jobs k, k + lanes, k + 2 lanes and so
+-- on, and of no other. So the result of job i is that of lane i modulo their number alone.
 abbrev pub AreShared : (ran : List ℕ) → (lanes jobs : ℕ) → Type 0
 AreShared ran lanes jobs = (k j : ℕ) → k < lanes → (j < slice_index_or ran k 0) ↔ (k + j * lanes < jobs)
 

@@ -80,8 +80,8 @@ impl Lanes {
     /// the one before. What became of the jobs of an earlier round is dropped. Once job i's guess was traced the gate is
     /// passed at `Traced`, with the ticket `first + i`. That holds up no job but the later ones of its lane.
     ///
-    /// Of n lanes, lane k runs the jobs k, k + n, k + 2 n and so on, each once, and no other. So job i is run by lane i
-    /// modulo n alone.
+    /// Of n lanes, lane k has a result of each of the jobs k, k + n, k + 2 n and so on, and of no other. So the result of
+    /// job i is that of lane i modulo n alone.
     ///
     /// It can't be refused: where memory is wanting for a job, that job's result says so. It takes no memory but that of
     /// the entries, and of shares of the snapshots.

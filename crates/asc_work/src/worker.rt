@@ -273,7 +273,7 @@ impl<W: Insert + Drop, H: Halt + Drop> Worker<W, H> {
     }
 }
 
-// Makes the tracer of its memory, where that was not done yet.
+/// Makes the tracer of its memory, where that was not done yet.
 pub(crate) fn make_tracer(unfilled: &mut Option<Unfilled>, tracer: &mut Option<Tracer>)
     ensures made { (shape : Shape) → HasOwn shape unfilled.old tracer.old → HasTracer shape tracer.new }
     ensures none { unfilled.new ≡ None }
