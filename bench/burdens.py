@@ -11,7 +11,7 @@ case, the steps of a lap and the greatest ratio are printed, and with --all each
 
     spin     an endless loop of one instruction, up to a limit, visited at each step
     spread   a loop that puts a word into each page of 16 MiB in a lap
-    others   the examples, at each head of a loop that is met at least 50 times
+    others   the examples, at each address that asc_show finds them to come back to at least 50 times
 """
 
 import os
@@ -56,13 +56,16 @@ def cases(folder):
     loader = SourceFileLoader("asc_pc", str(harness.ROOT / "tools/asc-pc"))
     tool = module_from_spec(spec_from_loader("asc_pc", loader))
     loader.exec_module(tool)
+    given = os.path.join(folder, "profiled")
     for name, (text, options) in CASES.items():
         short = name.split("/")[-1]
         path = str((EXAMPLES / name).parent / "images" / short)
         own = EXAMPLES / name / "input"
         text = LONGER.get(short, text)
         text = text if text is not None else own.read_bytes() if own.exists() else b""
-        yield short, [path, *options], text, [f"{head:x}" for head in tool.heads_of(path)]
+        Path(given).write_bytes(text)
+        heads = tool.Shows(tool.asc_tools.shower(), [path, *options], given).profile().heads
+        yield short, [path, *options], text, [f"{head.pc:x}" for head in heads]
 
 
 class Case:

@@ -23,7 +23,8 @@ ASC = str(ROOT / "crates/asc_cli/out/asc_cli")
 
 # The best address of each of these examples, and the memory that it wants.
 PLACES = {"collatz": ("10484", "1024"), "collatz_chunks": ("100f4", "1024"), "matrix": ("104ec", "1024"),
-          "ising": ("106a8", "16384")}
+          "ising": ("106a8", "16384"), "mandel": ("100f4", "1024"), "sieve": ("100f4", "1024"),
+          "queens": ("101a0", "1024")}
 
 # By this the C library fills and copies long pieces by wide writes. Else it takes string instructions, of which callgrind
 # counts each byte.

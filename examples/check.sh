@@ -1,7 +1,8 @@
 #!/bin/sh
 # Runs the examples on asc and on qemu-riscv32, and compares what they write to standard output and standard
 # error, and their exit statuses, byte for byte: with one another, and with what is known. Then it has
-# tools/check.py try the tools, and docs/commands.py run the commands of documents.
+# docs/signatures.py compare a list with the sources, tools/check.py try the tools, and docs/commands.py run the
+# commands of documents.
 #
 #     examples/check.sh [PROGRAM]
 #
@@ -79,6 +80,9 @@ all_runs() {
     refused "$1/matrix" 'matrix: wants a side from 1 to 2048' '0'
     refused "$1/collatz" 'collatz: wants a number from 1 on' '-1'
     refused "$1/ising" 'ising: wants a number of lattices, a side from 1 to 1024, and a seed' '5 16'
+    refused "$1/mandel" 'mandel: wants columns and rows of at most 262144 cells, and a number of rounds' '1024 257 9'
+    refused "$1/sieve" 'sieve: wants a number from 3 to 67108864' '2'
+    refused "$1/queens" 'queens: wants a number from 2 to 16' '17'
     typed "$1/adder"
 }
 
@@ -136,13 +140,17 @@ if has riscv64-unknown-elf-gcc "the comparison of the images with their sources"
     esac
 fi
 
+if has python3 "the comparison of signatures in docs/EMBEDDING.md with the sources"; then
+    python3 "$root/docs/signatures.py" --check || differ "signatures.py --check"
+fi
+
 if has python3 "the trial of the tools"; then
     python3 "$root/tools/check.py" "$asc" || differ "tools/check.py"
 fi
 
 if has python3 "the run of the documents' commands"; then
     for document in $documents; do
-        if [ "$document" = docs/TUTORIAL.md ] && [ ! -x "$show" ]; then
+        if [ "$document" != README.md ] && [ ! -x "$show" ]; then
             echo "examples/check.sh: no program $show: $document is left out"
         else
             python3 "$root/docs/commands.py" --program "$asc" "$root/$document" || differ "$document"

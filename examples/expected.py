@@ -88,6 +88,42 @@ def ising(data):
     return b"least energy %d at lattice %d\n" % (min(found), found.index(min(found)))
 
 
+def mandel(data):
+    """Numbers count 2^-24, and products are rounded down."""
+    columns, rows, limit = map(int, data.split())
+    unit = 1 << 24
+    beside, below = 3 * unit // columns, 5 * unit // 2 // rows
+
+    def cell(row, column):
+        z, rounds = (0, 0), 0
+        while rounds < limit and sum(part * part // unit for part in z) <= 4 * unit:
+            (x, y), rounds = z, rounds + 1
+            z = (x * x // unit - y * y // unit - 9 * unit // 4 + beside // 2 + column * beside,
+                 2 * (x * y // unit) + 5 * unit // 4 - below // 2 - row * below)
+        return "#" if rounds == limit else " .+"[(rounds > 3) + (rounds > 11)]
+
+    picture = ["".join(cell(row, column) for column in range(columns)) for row in range(rows)]
+    inside = sum(row.count("#") for row in picture)
+    return "".join(row + "\n" for row in picture).encode() + b"%d of %d points are inside\n" % (inside, columns * rows)
+
+
+def sieve(data):
+    """All numbers but the multiples of smaller ones."""
+    limit = int(data)
+    multiples = (range(number * number, limit, number) for number in range(2, math.isqrt(limit) + 1))
+    primes = set(range(2, limit)).difference(*multiples)
+    return b"%d primes below %d, the greatest %d\n" % (len(primes), limit, max(primes))
+
+
+def queens(data):
+    """Places of the rows in all orders, where no two stand on a diagonal."""
+    rows = range(int(data))
+    found = [places for places in itertools.permutations(rows)
+             if all(len({places[row] + turn * row for row in rows}) == len(rows) for turn in (1, -1))]
+    first = collections.Counter(places[0] for places in found)
+    return b"".join(b"%d " % first[place] for place in rows) + b"ways, %d in all\n" % len(found)
+
+
 def adder(data):
     sums = itertools.accumulate(map(int, data.split()))
     return b"> " + b"".join(b"%d\n> " % number for number in sums) + b"\n"
@@ -143,7 +179,7 @@ def startup(_):
 
 PROGRAMS = {function.__name__: function
             for function in (hello, echo, word_count, quicksort, sha256, matrix, collatz, collatz_chunks, ising,
-                             adder, life, copies, statistics, frequencies, startup)}
+                             mandel, sieve, queens, adder, life, copies, statistics, frequencies, startup)}
 
 
 def folder_of(name):

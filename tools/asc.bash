@@ -13,7 +13,12 @@ _asc() {
     fi
     # A tool's own options, some of which stand before all else, and the command that has its others.
     case $tool in
-        asc-pc) own="--asc --try --best --lap --seconds" command=run commands= ;;
+        asc_show)
+            commands="entry miss at profile"
+            [ "$COMP_CWORD" -ne 2 ] || [ "$command" != profile ] || own=--all
+            command=run
+            ;;
+        asc-pc) own="--asc --show --no-try --best --lap --seconds" command=run commands= ;;
         asc-plot)
             commands="steps hits workers"
             case $command in
@@ -22,7 +27,8 @@ _asc() {
             esac
             ;;
         asc-show)
-            [ "$COMP_CWORD" -ne 1 ] || own="--show --data"
+            [ "$COMP_CWORD" -ne 1 ] || own="--show --data --miss"
+            [[ " ${COMP_WORDS[*]} " != *" --miss "* || $COMP_CWORD -eq 1 ]] || own=--guess
             command=show commands=
             ;;
         asc-steps)
@@ -30,15 +36,18 @@ _asc() {
             command=run commands=
             ;;
         asc-why)
-            [ "$COMP_CWORD" -ne 1 ] || own=--asc
-            [ "$command" = --asc ] && [ "$COMP_CWORD" -gt 2 ] && command=${COMP_WORDS[3]} at=3
+            while [[ ${COMP_WORDS[at]} = --@(asc|show) && $COMP_CWORD -gt $((at + 1)) ]]; do
+                at=$((at + 2))
+            done
+            command=${COMP_WORDS[at]}
+            [ "$COMP_CWORD" -ne "$at" ] || own="--asc --show"
             ;;
     esac
-    [ "$tool" = asc ] || [ "$COMP_CWORD" -ne 1 ] || own+=" --help"
+    [[ $tool = asc?(_show) || $COMP_CWORD -ne 1 ]] || own+=" --help"
     if [ "$COMP_CWORD" -eq "$at" ] && [ -n "$commands" ]; then
         offered=$commands
         [[ $word != -* ]] || offered=$own
-    elif [[ $command != @(run|save|show|steps|--asc) && $before != --workers ]]; then
+    elif [[ $command != @(run|save|show|steps|--asc|--show) && $before != --workers ]]; then
         [ "$command" = trial ] && offered="--workers --rounds"
     else
         case $before in
@@ -79,4 +88,4 @@ _asc() {
     mapfile -t COMPREPLY < <(compgen -W "$offered" -- "$word")
 }
 
-complete -F _asc asc asc-pc asc-plot asc-show asc-steps asc-why
+complete -F _asc asc asc_show asc-pc asc-plot asc-show asc-steps asc-why

@@ -46,6 +46,13 @@ def has(tool, what):
     return False
 
 
+def shows(what):
+    if SHOW.exists():
+        return True
+    print(f"tools/check.py: no program {SHOW}: {what} is left out")
+    return False
+
+
 def module(path):
     """A tool as a module of Python."""
     sys.dont_write_bytecode = True
@@ -237,6 +244,28 @@ FAULTS = [
 ]
 NO_SYMBOLS = "; an image with symbols, without -s, tells where"
 
+# Code, a command line in a shell, and what is said where asc_show tells where the program stood. The last reads a byte.
+READING = [0x00000513, 0x00000597, 0x00100613, 0x03F00893, 0x00000073, 0x0005C683, 0x06200713, 0x00E68463, 0x0000006F,
+           0x0000006F]
+MORE = "a greater --steps lets it go on, up to 1099511627776"
+STOOD = [
+    ([0x00000013, 0x0000006F], '"$@" image --steps 9', f"it stands at 0x00010058; the stack pointer is 0x0010ffc0; {MORE}"),
+    ([0x00010137, 0x0000006F], '"$@" image --steps=9',
+     f"it stands at 0x00010058; the stack pointer is 0x00010000, inside the image: a stack overflow; {MORE}"),
+    ([0x00000297, 0x0002A423, 0x00000013], '"$@" image', "where code was overwritten, which is another word in the image: "
+     "0x00000000 is no instruction of this machine; the stack pointer is 0x0010ffc0"),
+    ([0x00010137, 0xFF010113, 0x00012023], '"$@" image', f"a store to 0x0000fff0{OUTSIDE}: it lies just below, as a stack "
+     f"that grew too far; the stack pointer is 0x0000fff0, below memory: a stack overflow{NO_SYMBOLS}"),
+    ([0x00000067], '"$@" --memory 64 image', "a fetch at 0x00000000, outside memory, which is 0x10000 to 0x1ffff: a call "
+     "through a wrong pointer, or a return address that was written over, or no start-up code; the stack pointer is "
+     "0x0001ffc0"),
+    (READING, '{ dd bs=1 count=1 of=/dev/null 2>/dev/null; "$@" image --steps 20; cat; } <given',
+     f"it stands at 0x00010078; the stack pointer is 0x0010ffc0; {MORE}"),
+    (READING, '"$@" image --steps 20 </dev/null', f"it stands at 0x00010074; the stack pointer is 0x0010ffc0; {MORE}"),
+    (READING, 'echo b | "$@" image --steps 20', f"where it stands is told where its input is a file; {MORE}"),
+    (READING, 'echo b | "$@" image --steps 3', f"it stands at 0x00010060; the stack pointer is 0x0010ffc0; {MORE}"),
+]
+
 # Command lines in a shell, with what is said of each; "$@" is the program and the word run.
 HELLO, ECHO, MATRIX = (IMAGES / name for name in ("hello", "echo", "matrix"))
 LINES = [
@@ -282,10 +311,10 @@ SAVES = [
 ]
 
 
-def explained(what, program, line, wanted, folder, command="run"):
+def explained(what, program, line, wanted, folder, command="run", show="none"):
     """One command line on asc and on asc-why: the same but for a line more, which is as wanted."""
     alone = outcome(["sh", "-c", line, "sh", program, command], cwd=folder)
-    told = outcome(["sh", "-c", line, "sh", TOOLS / "asc-why", "--asc", program, command], cwd=folder)
+    told = outcome(["sh", "-c", line, "sh", TOOLS / "asc-why", "--asc", program, "--show", show, command], cwd=folder)
     added = f"asc-why: {wanted}\n".encode() if wanted else b""
     same(f"asc-why: {what}", told, (alone[0], alone[1] + added, alone[2]))
 
@@ -307,20 +336,36 @@ def check_why(program, folder):
         path.write_bytes(elf(code))
         more = "" if "fetch" in wanted else NO_SYMBOLS
         explained(wanted, program, f'"$@" image {" ".join(options)}', wanted + more, folder)
+    path.write_bytes(elf([0x00000297, 0x0002A423, 0x00000013]))
+    explained("a word that was met", program, '"$@" image', "where code was overwritten, which is another word in the "
+              "image: 0x00000000 is no instruction of this machine", folder)
+    check_stood(program, folder)
     check_ends(program, folder)
     if has("riscv64-unknown-elf-gcc", "the line of a fault"):
         (folder / "crash.c").write_text("static int height(volatile int *at)\n{\n    return at[1];\n}\n\n"
                                         "int main(void)\n{\n    return height(0);\n}\n")
-        subprocess.run(["riscv64-unknown-elf-gcc", "-march=rv32im", "-mabi=ilp32", "-g", "-Og", "-ffreestanding",
-                        "-nostdlib", "-static", "-T", ROOT / "examples/link.ld", "-o", "crash",
-                        ROOT / "examples/start.s", "crash.c"], cwd=folder, check=True)
+        built(folder, "crash", "-g", "-Og", ROOT / "examples/start.s", "crash.c")
         explained("a line of source", program, '"$@" crash', "in height, at crash.c:3, lw a0,4(a0): "
                   f"a load from 0x00000004{OUTSIDE}: a null pointer", folder)
 
 
+def check_stood(program, folder):
+    """What is said of where a program stood; and programs in place of asc_show that have no answer."""
+    (folder / "given").write_text("abc")
+    path = folder / "image"
+    path.write_bytes(elf(STOOD[0][0]))
+    for name in ("silent", "killed", "refusing"):
+        show = script(folder, name, {"silent": "exit 0", "killed": "kill -s KILL $$", "refusing": "exit 64"}[name])
+        explained(f"asc_show is {name}", program, STOOD[0][1], MORE, folder, show=show)
+    if shows("where a program stood"):
+        for code, line, wanted in STOOD:
+            path.write_bytes(elf(code))
+            explained(wanted, program, line, wanted, folder, show=SHOW)
+
+
 def check_ends(program, folder):
     """A pipe whose reader has gone, input that would have to be waited for, and a signal."""
-    why = [TOOLS / "asc-why", "--asc", program, "run"]
+    why = [TOOLS / "asc-why", "--show", "none", "--asc", program, "run"]
     gone = b"asc: output failed\nasc-why: standard output: it is a pipe whose reader has gone\n74\n"
     line = f'{{ sleep 0.3; "$@" {ECHO} <{ROOT}/README.md; echo $? >status; }} 2>errors | :; cat errors status'
     same("asc-why: a closed pipe", outcome(["sh", "-c", line, "sh", *why], cwd=folder)[0], gone)
@@ -348,7 +393,7 @@ def signalled(number, why, folder):
     # Where this script runs behind others, a shell may have it ignore SIGINT, and what it starts would too.
     before = signal.signal(signal.SIGINT, signal.default_int_handler)
     try:
-        return outcome([*why[:2], stand_in, *why[3:]])[1:]
+        return outcome([*why[:-2], stand_in, why[-1], HELLO])[1:]
     finally:
         signal.signal(signal.SIGINT, before)
 
@@ -423,46 +468,96 @@ def nested(folder):
     return path
 
 
-HEADS = "    --pc     visits          lap"
+# In place of asc_show, for the stand-in of asc: laps of 1000 steps at two addresses; the trace at 1005c ends at the span.
+SHOW_STAND_IN = """case $1 in
+    profile) echo "steps 100000 up to its end"; echo "chosen 0001005c"
+        echo "  00010054 met 3 first 0 last 99000 back"
+        for pc in 10058 1005c; do echo "  000$pc met 100 first 0 last 99000 back"; done ;;
+    entry) [ "$3" = 10058 ] && echo "steps 1000 up to the visit" || echo "steps 1000 up to the span" ;;
+    *) echo steps ;;
+esac
+"""
+ALL, STEPS = (f"{steps} steps up to its end; without --pc asc chooses " for steps in (218, 100000))
+HEADS, TRIED = "      --pc     visits          lap  within", "  lap ends       hits  skipped"
+UNTRIED = b"asc-pc: no laps have %d steps, so none is tried; --lap takes another least\n"
+ROW, NUMBERS = "        100       1000.0   99.0%", "         90    81.0%"
+
+
+def show_stand_in(folder):
+    return script(folder, "standing", SHOW_STAND_IN)
 
 
 def check_pc(program, folder):
-    def told(*words):
-        return outcome([TOOLS / "asc-pc", "--asc", program, *words])
-
-    image = nested(folder)
-    same("asc-pc: two loops", told(image), (
-        f"218 steps\n{HEADS}  where\n   10058          5         43.6\n"
-        "   1005c        100          2.2\n".encode(), b"", 0))
-    same("asc-pc: a limit", told(image, "--steps", "20", "--pc=10058"), (
-        f"20 steps\n{HEADS}  where\n   1005c          9          2.2\n".encode(), b"", 0))
-    same("asc-pc: no head", told(HELLO), (f"9 steps\n{HEADS}  where\n".encode(), b"", 0))
-    same("asc-pc: no file", told(folder / "none"), (b"", b"asc: store failed\n", 66))
-    same("asc-pc: wrong words", told(image, "--pages=4"), (b"", b"asc: usage\n", 64))
-    tried = outcome([TOOLS / "asc-pc", "--asc", stand_in(folder), "--lap=1000", image, "--guess", "last", "--try"])
-    row = "        100       1000.0         90    81.0%\n"
-    same("asc-pc: a trial", tried, (
-        f"100000 steps\n{HEADS}       hits  skipped  where\n   10058{row}   1005c{row}".encode(), b"", 0))
-    best = [TOOLS / "asc-pc", "--best", "--asc", stand_in(folder), "--lap=1000", "--seconds=60", image, "--workers=2"]
+    check_profile(program, folder)
+    image, guessing, standing = nested(folder), stand_in(folder), show_stand_in(folder)
+    known = [TOOLS / "asc-pc", "--asc", guessing, "--show", standing, "--lap=1000"]
+    rows = f"{ROW}  visit   {NUMBERS}", f"{ROW}  span    {NUMBERS}\n  with --span 4000{' ' * 34}{NUMBERS}"
+    same("asc-pc: trials", outcome([*known, image, "--guess", "last"]), (
+        f"{STEPS}1005c\n{HEADS}{TRIED}  where\n*    10058{rows[0]}\n     1005c{rows[1]}\n".encode(), b"", 0))
+    same("asc-pc: little is jumped over", outcome([*known, image, "--guess=none"])[1:], (
+        f"asc-pc: little is jumped over; asc-show --miss {image} 10058 3 tells what guesses have wrong\n".encode(), 0))
+    same("asc-pc: no laps are as long", outcome([*known[:-1], "--lap=2000", image]), (
+        f"{STEPS}1005c\n{HEADS}{TRIED}  where\n     10058{ROW}\n     1005c{ROW}\n".encode(), UNTRIED % 2000, 0))
+    many = script(folder, "many", "echo 'steps 9000 up to its end'; echo 'chosen none'; for k in $(seq 100 121); do "
+                                  "echo \"  00010$k met 9 first 0 last 9 back\"; done")
+    same("asc-pc: many rows", [outcome([TOOLS / "asc-pc", "--show", many, *words, image])[0].decode().splitlines()[-1]
+                               for words in ([], ["--no-try"])],
+         ["  2 more with --no-try", "     10121          9          1.1    0.1%"])
+    best = [*known[:1], "--best", *known[1:], "--seconds=60", image, "--workers=2"]
     line, gained, status = outcome(best)
     same("asc-pc: the best options", (re.sub(rb"ahead \d+ --queue \d+", b"ahead A --queue Q", line), status), (
         b"--pc 10058 --laps 1 --span 4000 --ahead A --queue Q --workers 2\n", 0))
+    gained = re.sub(rb"asc-pc: \d+ s: .*\n", b"", gained)
     same("asc-pc: what they gain", re.sub(rb"\d\.\d\d times", b"G times", gained),
          b"asc-pc: on the first 100000 steps G times as fast as a plain run, 81% skipped\n")
     same("asc-pc: no kind is on", outcome([*best, "--guess=none"]), (
         b"", b"asc-pc: nothing gained: no kind of guess is on\n", 1))
     same("asc-pc: no long laps", outcome([*best, "--lap=2000"]), (b"", (
-        b"asc-pc: nothing gained: no head of a loop with laps of 2000 steps or more was met 4 times in 100000 steps, of those "
-        b"that time was left for\n"), 1))
+        b"asc-pc: nothing gained: no address with laps of 2000 steps or more was met 4 times from above in 100000 steps\n"
+        ), 1))
+    slow = script(folder, "slow", f"sleep 5.5\n{SHOW_STAND_IN}")
+    same("asc-pc: what is being done", outcome([*known[:3], "--show", slow, "--no-try", image])[1:], (
+        b"asc-pc: 5 s: the profile is being made\n", 0))
+
+
+def check_profile(program, folder):
+    """What asc-pc makes of programs, with asc_show."""
+    if not shows("the profile of asc-pc"):
+        return
+
+    def told(*words):
+        return outcome([TOOLS / "asc-pc", "--asc", program, "--show", SHOW, *words])
+
+    image = nested(folder)
+    outer, inner = "    10058          5         43.0   78.9%", "     1005c        100          2.1   96.3%\n"
+    same("asc-pc: two loops", told(image, "--no-try"), (
+        f"{ALL}10058\n{HEADS}  where\n {outer}\n{inner}".encode(), b"", 0))
+    same("asc-pc: a trial", told("--lap=10", image), (
+        f"{ALL}10058\n{HEADS}{TRIED}  where\n*{outer}  visit             3    59.6%\n{inner}".encode(), b"", 0))
+    limited = f"200 steps up to the limit; without --pc asc chooses 10058\n{HEADS}{TRIED}  where\n"
+    same("asc-pc: a trial up to a limit", told("--lap=10", "--steps=200", image, "--workers", "2", "--span", "50"), (
+        f"{limited}*    10058          5         43.0   86.0%  visit             2    43.0%\n"
+        "     1005c         93          2.1   98.0%\n".encode(), b"", 0))
+    same("asc-pc: a limit", told(image, "--steps", "20", "--pc=10058"), (
+        f"20 steps up to the limit; without --pc asc chooses 1005c\n{HEADS}{TRIED}  where\n"
+        "     1005c          9          2.0   80.0%\n".encode(), UNTRIED % 100, 0))
+    same("asc-pc: no head", told(HELLO), (
+        f"9 steps up to its end; without --pc asc chooses none\n{HEADS}{TRIED}  where\n".encode(), UNTRIED % 100, 0))
+    same("asc-pc: no file", told(folder / "none"), (b"", b"asc_show: the file can't be read\n", 66))
+    same("asc-pc: wrong words", told(image, "--pages=4")[2], 64)
     if has("riscv64-unknown-elf-gcc", "function and line of asc-pc"):
         (folder / "sum.c").write_text("int main(void)\n{\n    volatile int sum = 0;\n    for (int k = 0; k < 10; k++)\n"
                                       "        sum += k;\n    return 0;\n}\n")
-        subprocess.run(["riscv64-unknown-elf-gcc", "-march=rv32im", "-mabi=ilp32", "-g", "-Os", "-ffreestanding",
-                        "-nostdlib", "-static", "-T", ROOT / "examples/link.ld", "-o", "sum",
-                        ROOT / "examples/start.s", "sum.c"], cwd=folder, check=True)
-        rows = told(folder / "sum")[0].decode().splitlines()[2:]
+        built(folder, "sum", "sum.c", "-g", "-Os", ROOT / "examples/start.s")
+        rows = told("--no-try", folder / "sum")[0].decode().splitlines()[2:]
         same("asc-pc: function and line", [re.sub(r"  +", " ", row).split(" ")[-2:] for row in rows],
              [["main", "sum.c:5"]])
+
+
+def built(folder, name, *words):
+    """A program of the cross compiler."""
+    subprocess.run(["riscv64-unknown-elf-gcc", "-march=rv32im", "-mabi=ilp32", "-ffreestanding", "-nostdlib", "-static",
+                    "-T", ROOT / "examples/link.ld", "-o", name, *words], cwd=folder, check=True)
 
 
 ENTRY = """steps 2 up to the visit
@@ -483,8 +578,7 @@ CODE = """code
 
 def check_show(folder):
     """The second of twenty laps, with and without instructions, and what asc_show refuses."""
-    if not SHOW.exists():
-        print(f"tools/check.py: no program {SHOW}: the trial of asc-show is left out")
+    if not shows("the trial of asc-show"):
         return
 
     def shown(*words):
@@ -500,13 +594,64 @@ def check_show(folder):
     if has("riscv64-unknown-elf-gcc", "the instructions of asc-show"):
         (folder / "again.s").write_text(".globl _start\n_start: li a0, 20\nagain: addi a0, a0, -1\nbnez a0, again\n"
                                         "li a7, 93\necall\n")
-        subprocess.run(["riscv64-unknown-elf-gcc", "-march=rv32im", "-mabi=ilp32", "-nostdlib", "-static", "-T",
-                        ROOT / "examples/link.ld", "-o", "again", "again.s"], cwd=folder, check=True)
+        built(folder, "again", "again.s")
         at = ("00010078", "0001007c", "10078")
         same("asc-show: code", shown(folder / "again", "10078", "2"), ((ENTRY + CODE).format(*at).encode(), b"", 0))
         data = "".join(line for line in ENTRY.splitlines(True) if not line.startswith(("  {0}", "  {1}")))
         same("asc-show: data alone", shown("--data", folder / "again", "10078", "2"),
              ((data + "code 2 instructions\n").format(*at).encode(), b"", 0))
+    check_misses(shown, image, folder)
+
+
+# Options behind --miss, and what is printed: of the inner loop of `nested`, whose a0 goes down from 20 to 1 five times.
+MISSES = [
+    ("3 18", "stride: right at 18 of 18\n"),
+    ("3 40", "stride: right at 36 of 40\n  a0 differs at 4 of 40; at visit 21 guessed 00000000, met 00000014\n"),
+    ("12", "stride: right at 9 of 10\n  a0 differs at 1 of 10; at visit 21 guessed 00000000, met 00000014\n"),
+    ("95 --guess=last", "last: right at 0 of 6\n  a0 differs at 6 of 6; at visit 95 guessed 00000007, met 00000006\n"),
+    ("3 1 --guess both", "last: right at 0 of 1\n  a0 differs at 1 of 1; at visit 3 guessed 00000013, met 00000012\n"
+                         "stride: right at 1 of 1\n"),
+]
+# A loop that doubles a variable, and a word of the stack and of the break with it.
+DOUBLING = """.globl _start
+_start: la s0, counts
+li a0, 20
+again: lw t0, 12(s0)
+slli t0, t0, 1
+addi t0, t0, 1
+sw t0, 12(s0)
+sw t0, -16(sp)
+lw t1, -16(sp)
+lw t2, 512(s0)
+addi t2, t2, 1
+mul t2, t2, t2
+sw t2, 512(s0)
+addi a0, a0, -1
+bnez a0, again
+li a7, 93
+ecall
+.data
+.type counts, @object
+.size counts, 64
+counts: .zero 64
+"""
+
+
+def check_misses(shown, image, folder):
+    for words, wanted in MISSES:
+        same(f"asc-show --miss {words}", shown("--miss", image, "1005c", *words.split()), (wanted.encode(), b"", 0))
+    same("asc-show --miss: no such visit", shown("--miss", image, "1005c", "101"), (
+        b"", b"asc_show: the program ended before that visit; visits so far: 100\n", 69))
+    same("asc-show --miss: no guesses", shown("--miss", image, "1005c", "3", "--guess=none"), (
+        b"", b"asc-show: no kind of guess is on\n", 0))
+    for words in ([], ["1"], ["two"], ["3", "--pages=4"]):
+        same(f"asc-show --miss: wrong words {words}", shown("--miss", image, "1005c", *words)[::2], (b"", 64))
+    if has("riscv64-unknown-elf-gcc", "the names of asc-show --miss"):
+        (folder / "doubling.s").write_text(DOUBLING)
+        built(folder, "doubling", "doubling.s")
+        told = shown("--miss", folder / "doubling", "10080", "4", "1")[0].decode()
+        same("asc-show --miss: names", re.findall(r"^(stride.*?):|^  \w{8} (.*) differs", told, re.M),
+             [("stride, at again", ""), ("", "counts+12"), ("", "taken memory")])
 
 
 def check_plot(folder):
@@ -542,7 +687,7 @@ def check_plot(folder):
 def check_full(program, folder):
     """A full device as standard output, and a pipe whose reader has ended."""
     image, guessing = nested(folder), stand_in(folder)
-    asked = {"asc-pc": ["--asc", program, image], "asc-steps": ["--asc", program, image],
+    asked = {"asc-pc": ["--show", show_stand_in(folder), "--no-try", image], "asc-steps": ["--asc", program, image],
              "asc-plot": ["hits", "--asc", guessing, image], "asc-why": ["--help"],
              "asc-show": ["--show", script(folder, "showing", "echo steps"), image, "1005c", "2"]}
     for tool, words in asked.items():
@@ -592,6 +737,7 @@ def check_terminal(program, folder):
     waits = b": the guest's input is read from the terminal; end it with Ctrl-D\n"
     ours, theirs = pty.openpty()
     for tool, *words in (("asc-pc", "--asc", program, image), ("asc-pc", "--best", "--asc", program, image),
+                         ("asc-show", "--miss", "--show", showing, image, "1005c", "3"),
                          ("asc-steps", "--asc", program, image), ("asc-plot", "hits", "--asc", guessing, image),
                          ("asc-plot", "workers", "--asc", guessing, image)):
         started = Started([TOOLS / tool, *words], folder, theirs)
@@ -609,14 +755,13 @@ def check_terminal(program, folder):
     os.close(theirs)
 
 
-# In place of asc: a run at 1005c that does not end; either one that guesses or one that does not. It says so once the tool
-# has seen the end of the one at 10058.
+# In place of asc: a run at 1005c that does not end. It says so once the tool has seen the end of the one at 10058.
 ENDLESS = STAND_IN + """
 import os
 if "--pc=10058" in sys.argv:
     os.symlink(str(os.getpid()), "number")
     os.replace("number", "counted")
-if "--pc=1005c" in sys.argv and ("--guess=none" in sys.argv) != GUESSES:
+if "--pc=1005c" in sys.argv:
     while not os.path.lexists("counted") or os.path.exists(f"/proc/{os.readlink('counted')}"):
         time.sleep(0.1)
     time.sleep(1)
@@ -638,26 +783,33 @@ def check_interrupt(folder):
         return "no run goes on", started.interrupted()
 
     image, endless = nested(folder), script(folder, "endless", ">runs; exec sleep 600")
-    for tool, *words in (("asc-pc", "--asc", endless, image), ("asc-pc", "--best", "--asc", endless, image),
+    for tool, *words in (("asc-pc", "--show", endless, image), ("asc-pc", "--best", "--asc", endless, image),
                          ("asc-plot", "hits", "--asc", endless, image), ("asc-steps", "--asc", endless, image),
-                         ("asc-show", "--show", endless, image, "1005c", "2"), ("asc-why", "--asc", endless, "run", image)):
-        same(f"{tool} {words[0]}: an interrupt", told(tool, *words), (b"", b"", -signal.SIGINT))
-    row, line = "        100       1000.0", "asc-pc: an interrupt ended it; {} of 2 heads were counted\n"
-    asked = ["asc-pc", "--asc", script(folder, "counting", ENDLESS.replace("GUESSES", "False")), image]
-    same("asc-pc: an interrupt among rows", told(*asked), (
-        f"100000 steps\n{HEADS}  where\n   10058{row}\n".encode(), line.format(1).encode(), -signal.SIGINT))
-    asked = ["asc-pc", "--try", "--asc", script(folder, "trying", ENDLESS.replace("GUESSES", "True")), image]
+                         ("asc-show", "--show", endless, image, "1005c", "2"),
+                         ("asc-show", "--miss", "--show", endless, image, "1005c", "3"),
+                         ("asc-why", "--asc", endless, "run", image)):
+        profiling = b"asc-pc: an interrupt ended the profile; --steps bounds a long run\n"
+        said = profiling if words[0] == "--show" and tool == "asc-pc" else b""
+        same(f"{tool} {words[0]}: an interrupt", told(tool, *words), (b"", said, -signal.SIGINT))
+    trying = script(folder, "trying", ENDLESS)
+    asked = ["asc-pc", "--show", show_stand_in(folder), "--asc", trying, image]
+    known = (f"{STEPS}1005c\n{HEADS}{TRIED}  where\n*    10058{ROW}  visit   {NUMBERS}\n"
+             f"     1005c{ROW}  span              -        -\n")
     same("asc-pc: an interrupt among trials", told(*asked), (
-        f"100000 steps\n{HEADS}       hits  skipped  where\n   10058{row}         90    81.0%\n"
-        f"   1005c{row}          -        -\n".encode(), line.format(2).encode(), -signal.SIGINT))
+        known.encode(), b"asc-pc: an interrupt ended it; 1 of 2 addresses tried\n", -signal.SIGINT))
+    spanned = f"  with --span 4000{' ' * 34}          -        -\n"
+    same("asc-pc: trials that are not done in time", outcome([TOOLS / "asc-pc", *asked[1:], "--seconds=2"], cwd=folder), (
+        f"{known}{spanned}".encode(), b"", 0))
 
 
 def check_shell(program, folder):
     """A reader that wants one line, a tool that is named by a link from another folder or is a copy there, and programs that
     a signal ends or that report nothing."""
     line = '{ "$@"; echo $? >status; } 2>errors | head -1; cat errors'
-    told = outcome(["sh", "-c", line, "sh", TOOLS / "asc-pc", "--asc", program, nested(folder)], cwd=folder)
-    same("asc-pc | head -1", (told, (folder / "status").read_text() in ("0\n", "141\n")), ((b"218 steps\n", b"", 0), True))
+    standing = ["--show", show_stand_in(folder), nested(folder)]
+    told = outcome(["sh", "-c", line, "sh", TOOLS / "asc-pc", "--no-try", *standing], cwd=folder)
+    same("asc-pc | head -1", (told, (folder / "status").read_text() in ("0\n", "141\n")),
+         ((f"{STEPS}1005c\n".encode(), b"", 0), True))
     (folder / "linked").symlink_to(TOOLS / "asc-steps")
     same("asc-steps by a link", outcome([folder / "linked", "--asc", program, HELLO], cwd="/"), (b"9\n", b"", 0))
     copied = folder / "copied"
@@ -671,8 +823,10 @@ def check_shell(program, folder):
     same("asc-show: its program is killed", outcome([TOOLS / "asc-show", "--show", killed, "image"]),
          (b"", b"", -signal.SIGKILL))
     for path, status in ((killed, -9), (script(folder, "silent", "exit 0"), 0)):
-        same(f"asc-pc: {path.name}", outcome([TOOLS / "asc-pc", "--asc", path, HELLO]), (
-            b"", f"asc-pc: a run ended with status {status} and no numbers\n".encode(), 1))
+        same(f"asc-pc: {path.name}", outcome([TOOLS / "asc-pc", "--asc", path, *standing])[1:], (
+            f"asc-pc: a run ended with status {status} and no numbers\n".encode(), 1))
+        same(f"asc-pc: asc_show is {path.name}", outcome([TOOLS / "asc-pc", "--show", path, HELLO]), (
+            b"", f"asc-pc: asc_show ended with status {status} and no profile\n".encode(), 1))
 
 
 # ---- documents
@@ -709,7 +863,7 @@ def check_copy(folder):
     same("the crates that copy.sh lists", sorted(line[0].split()[0] for line in lines), sorted(wanted))
     same("the crates that it copies", sorted(path.name for path in (copied / "crates").iterdir()), sorted(wanted))
     texts = [path.read_text() for path in copied.glob("crates/embed/*/**/*") if path.suffix in (".rt", ".antt")]
-    same("the name that it has before", [len(texts), any("asc_embed" in text for text in texts)], [8, False])
+    same("the name that it has before", [len(texts), any("asc_embed" in text for text in texts)], [12, False])
 
 
 # A library that lets no thread be made.
@@ -760,18 +914,21 @@ def check_completion(known):
     for words in (["run"], ["save"], ["run", "--load"], ["run", "--load", "="]):
         same(f"files behind {' '.join(words)}", offered("asc", *words, "examples/images/h"), ["examples/images/hello"])
     for tool, first, own, others in (
-            ("asc-pc", [], "--asc --try --best --lap --seconds", list(known)),
+            ("asc-pc", [], "--asc --show --no-try --best --lap --seconds", list(known)),
             ("asc-plot", ["hits"], "--asc --parts", list(known)),
             ("asc-plot", ["workers"], "--asc --most --times", list(known)), ("asc-plot", ["steps"], "", []),
-            ("asc-show", [], "--show --data --help", "--memory --steps --machine --laps --span".split()),
-            ("asc-steps", [], "--asc --help", list(known)), ("asc-why", [], "--asc --help", [])):
+            ("asc-show", [], "--show --data --miss --help", "--memory --steps --machine --laps --span".split()),
+            ("asc-show", ["--miss"], "--guess", "--memory --steps --machine --laps --span".split()),
+            ("asc_show", ["profile"], "--all", list(known)), ("asc_show", ["entry"], "", list(known)),
+            ("asc-steps", [], "--asc --help", list(known)), ("asc-why", [], "--asc --show --help", [])):
         wanted = own.split() + (["--help"] if tool == "asc-pc" else []) + others
         what = " ".join([tool, *first])
         same(f"options of {what}", offered(tool, *first, "--"), wanted)
         same(f"files of {what}", offered(tool, *first, *["--asc"] * (wanted[:1] == ["--asc"]), "examples/images/h"),
              ["examples/images/hello"])
     same("what asc-plot draws", offered("asc-plot", ""), ["steps", "hits", "workers"])
-    for words in (["run"], ["--asc", "program", "run"]):
+    same("what asc_show is asked", offered("asc_show", ""), ["entry", "miss", "at", "profile"])
+    for words in (["run"], ["--asc", "program", "run"], ["--show", "shower", "--asc", "program", "run"]):
         same(f"options behind asc-why {' '.join(words)}", offered("asc-why", *words, "--"), list(known))
     for name, (taken, default) in known.items():
         if default is None:
@@ -790,7 +947,7 @@ def main():
     why = module(TOOLS / "asc-why")
     known = check_options(why)
     check_words(why, known)
-    for tool, lines in (("asc-why", 1), ("asc-steps", 1), ("asc-pc", 2), ("asc-plot", 3), ("asc-show", 1)):
+    for tool, lines in (("asc-why", 1), ("asc-steps", 1), ("asc-pc", 2), ("asc-plot", 3), ("asc-show", 2)):
         for asked in ("--help", "-h"):
             told = outcome([TOOLS / tool, asked])
             same(f"{tool} {asked}", (told[0].decode().count(f"    {tool} "), told[1:]), (lines, (b"", 0)))

@@ -7,8 +7,8 @@
 # FOLDER is made, and may not be there yet. The program is tried before any proof, and then proved, by
 #
 #     cd FOLDER/crates/embed
-#     rt try --data collatz=data/collatz -- collatz 10484 <stdin
-#     rt run -- data/collatz 10484 <stdin
+#     rt try --data life=data/life -- life 10684 <stdin
+#     rt run -- data/life 10684 <stdin
 set -e
 [ $# -eq 1 ] || { echo "examples/embed/copy.sh: wants a folder to make" >&2; exit 64; }
 [ ! -e "$1" ] || { echo "examples/embed/copy.sh: $1 is there already" >&2; exit 73; }

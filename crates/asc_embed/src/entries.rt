@@ -1,6 +1,7 @@
-//! Entries: one is traced, and a state jumps by a list of them.
-ghost use Rattle.std.specs.Prelude.{◌≡◌, ◌≤◌, All, Some, IfOk, IfSome, IsNone};
+//! Entries: they are traced and kept, and a state jumps by a list of them.
+ghost use Rattle.std.specs.Prelude.{◌≡◌, ◌≤◌, All, Some, IfOk, IfSome, IsNone, drop, take, vec_len};
 ghost use Rattle.std.specs.Arc.{arc_value};
+ghost use Rattle.asc_model.specs.Entry as model;
 ghost use Rattle.asc_model.specs.Entry.{Matches, entry_of};
 ghost use Rattle.asc_model.specs.Plain.{plain};
 ghost use Rattle.asc_model.specs.Step.{At};
@@ -11,6 +12,9 @@ use asc_shape::{Guess, Snapshot, State};
 use asc_traj::{Entry, Made, Never, Stop};
 use std::alloc::Global;
 use std::sync::Arc;
+
+/// The most entries that `keep` keeps.
+pub const MOST_ENTRIES: usize = 64;
 
 /// The entry of the steps from a state to where `stop` ends them, or none where no step goes on.
 pub fn entry_from(alloc: Global, state: &State, stop: &Stop) -> Result<Option<Arc<Entry>>, Memory>
@@ -26,6 +30,28 @@ pub fn entry_from(alloc: Global, state: &State, stop: &Stop) -> Result<Option<Ar
         Made::Empty | Made::Stopped => Ok(None),
         Made::Refused => Err(Memory),
     }
+}
+
+/// Puts the entry of the steps from a state behind others, while these are fewer than 64.
+pub fn keep(
+    alloc: Global,
+    entries: &mut Vec<Arc<Entry>>,
+    state: &State,
+    stop: &Stop,
+) -> Result<(), Memory>
+    requires laps { 1 ≤ stop.now.laps }
+    requires span { 1 ≤ stop.now.span }
+    ensures old { take (vec_len entries.old) entries.new.items ≡ entries.old.items }
+    ensures new { All (λ held. let entry : model.Entry = arc_value held in entry_of entry.steps state.now ≡ Some entry)
+        (drop (vec_len entries.old) entries.new.items) }
+    ensures most { vec_len entries.old ≤ MOST_ENTRIES → vec_len entries.new ≤ MOST_ENTRIES }
+{
+    if entries.len() < MOST_ENTRIES {
+        if let Some(entry) = entry_from(alloc, state, stop)? {
+            entries.push(entry)?;
+        }
+    }
+    Ok(())
 }
 
 /// Puts the first of these entries that matches a state, and answers how many steps it stands for.

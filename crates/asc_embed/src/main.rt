@@ -1,40 +1,40 @@
-//! A small program over the crates, to be copied: it runs an image, and on its way prints the entry of one lap, which is
-//! what the steps from one visit of an address to the next read and write. By that entry it jumps over the lap.
+//! A small program over the crates, to be copied: it runs an image, and at each visit of an address jumps by the entry of
+//! an earlier lap, where one matches. A lap is the steps from one visit to the next.
 //!
 //!     asc_embed IMAGE ADDRESS
 //!
-//! Its functions are proved to be safe and to return. What those of `entries` answer their clauses say, and of the others
-//! none does.
+//! Its functions are proved to be safe and to return. What those of `entries` and `walk` answer their clauses say, and of
+//! the others none does.
 #![tactic(auto)]
 
-ghost use Rattle.std.specs.Prelude.{◌≡◌, ◌<◌};
+ghost use Rattle.std.specs.Prelude.{◌≡◌, ◌<◌, ◌≤◌};
 
 #[cfg(test)]
 mod counted;
 mod entries;
 #[cfg(test)]
 mod tests;
+mod walk;
 
-use crate::entries::{entry_from, jump};
+use crate::walk::{MOST_STEPS, walk};
 use asc_calls::{Calls, Served};
 use asc_elf::read;
 use asc_outside::{Memory, Sink, Source};
 use asc_shape::{State, Steps, Version};
-use asc_step::{Stepped, step};
+use asc_step::Stepped;
 use asc_streams::{StreamSink, StreamSource};
-use asc_traj::{Entry, Part, Stop, cells_of};
+use asc_traj::{Entry, Stop};
+use std::alloc::Global;
 use std::marker::Brand;
 use std::process::ExitCode;
+use std::sync::Arc;
 use std::sync::ledger::{Blank, Ledger};
 use std::{env, fs, io};
 
-/// The guest's memory, 1 MiB.
-const MEMORY: u32 = 0x10_0000;
+/// The guest's memory, 128 KiB.
+const MEMORY: u32 = 0x2_0000;
 
-/// The most steps of a run. A loop of steps has a bound, since each function has to return.
-const MOST_STEPS: u64 = 1 << 40;
-
-/// The most steps of a lap.
+/// The most steps of a lap that is traced.
 const MOST_IN_LAP: u64 = 1_000_000;
 
 /// Why there is no exit status of the guest.
@@ -89,25 +89,21 @@ fn run<L: Ledger>(rt: &HostRuntime, blank: Blank) -> Result<u8, Trouble>
         out: StreamSink::new(rt.stdout()),
         err: StreamSink::new(rt.stderr()),
         steps: Steps::<L>::new(blank),
+        entries: Vec::new(rt.alloc()),
+        executed: 0,
+        jumped: 0,
     };
-    if guest.go_to(Some(pc)) == Went::ToPc {
-        let stop = Stop {
-            pc,
-            laps: 1,
-            span: MOST_IN_LAP,
-        };
-        match entry_from(rt.alloc(), &guest.state, &stop)? {
-            Some(entry) => {
-                print(rt, &entry)?;
-                let _ = jump(&[entry], &mut guest.state);
-            }
-            None => eprintln!(rt; "no step goes on there")?,
-        }
-    }
-    match guest.go_to(None) {
-        Went::Exit(code) => Ok(code),
-        _ => Ok(255),
-    }
+    let stop = Stop {
+        pc,
+        laps: 1,
+        span: MOST_IN_LAP,
+    };
+    let code = guest.run(rt.alloc(), &stop)?;
+    eprintln!(rt;
+        "steps executed {}, jumped over {}",
+        guest.executed, guest.jumped
+    )?;
+    Ok(code.unwrap_or(255))
 }
 
 /// The words of the command line: the name of an image, and an address.
@@ -123,25 +119,7 @@ fn words(rt: &HostRuntime) -> Result<(String, u32), Trouble> {
     }
 }
 
-/// Prints an entry to standard error: how many steps it has, and each place that they read first, and each that they
-/// write, with its byte in hexadecimal digits.
-fn print(rt: &HostRuntime, entry: &Entry) -> io::Result<()> {
-    eprint!(rt; "{} steps\nreads", entry.steps())?;
-    print_cells(rt, entry.reads())?;
-    eprint!(rt; "\nwrites")?;
-    print_cells(rt, entry.writes())?;
-    eprintln!(rt; "")
-}
-
-/// Prints each place with its byte.
-fn print_cells(rt: &HostRuntime, parts: &[Part]) -> io::Result<()> {
-    for (place, byte) in &cells_of(rt.alloc(), parts)? {
-        eprint!(rt; " {place}:{byte:02x}")?;
-    }
-    Ok(())
-}
-
-/// A program on its way, with its devices.
+/// A program on its way, with its devices, the entries of laps that it made, and its counts of steps.
 #[derive(Drop)]
 struct Guest<I, O, E, L: Ledger> {
     state: State,
@@ -150,37 +128,39 @@ struct Guest<I, O, E, L: Ledger> {
     out: O,
     err: E,
     steps: Steps<L>,
-}
-
-/// Where a program went.
-#[derive(Clone, Copy, Debug, PartialEq, Eq)]
-enum Went {
-    /// It stands at the address.
-    ToPc,
-    /// It ended with this code.
-    Exit(u8),
-    /// It met a fault, a device failed, or it took as many steps as it may.
-    Stopped,
+    entries: Vec<Arc<Entry>>,
+    executed: u64,
+    jumped: u64,
 }
 
 impl<I: Source, O: Sink, E: Sink, L: Ledger> Guest<I, O, E, L> {
-    /// Takes steps, and serves the guest's calls, until the program stands at an address or goes on no more.
-    fn go_to(&mut self, pc: Option<u32>) -> Went {
-        for _ in 0..MOST_STEPS {
-            if Some(self.state.pc()) == pc {
-                return Went::ToPc;
+    /// Walks, and serves the guest's calls, to the program's end. It answers the status, or none where the program met a
+    /// fault, a device failed, or it took as many steps as it may.
+    fn run(&mut self, alloc: Global, stop: &Stop) -> Result<Option<u8>, Memory>
+        requires laps { 1 ≤ stop.now.laps }
+        requires span { 1 ≤ stop.now.span }
+    {
+        for _call in 0..MOST_STEPS {
+            let walked = walk(
+                alloc,
+                &mut self.state,
+                &mut self.entries,
+                stop,
+                &mut self.steps,
+            )?;
+            self.executed = self.executed.saturating_add(walked.executed);
+            self.jumped = self.jumped.saturating_add(walked.jumped);
+            if walked.ended != Stepped::Call {
+                return Ok(None);
             }
-            match step(&mut self.state, &mut self.steps) {
-                Stepped::Went => (),
-                Stepped::Call => match self.serve() {
-                    Served::Went => (),
-                    Served::Exit(code) => return Went::Exit(code),
-                    _ => return Went::Stopped,
-                },
-                Stepped::Fault(_) => return Went::Stopped,
+            self.executed = self.executed.saturating_add(1);
+            match self.serve() {
+                Served::Went => (),
+                Served::Exit(code) => return Ok(Some(code)),
+                _ => return Ok(None),
             }
         }
-        Went::Stopped
+        Ok(None)
     }
 
     /// Serves the call at which the program stands.

@@ -4,7 +4,9 @@ ghost use Rattle.std.specs.Arc.{arc_value};
 ghost use Rattle.asc_model.specs.Entry.{IsTrueEntry};
 
 use crate::counted::Counted;
-use crate::entries::{entry_from, jump};
+use crate::entries::{entry_from, jump, keep};
+use crate::walk::{Walked, walk};
+use asc_outside::Memory;
 use asc_shape::{Shape, State, Steps};
 use asc_step::{Stepped, step_many, try_step};
 use asc_traj::{Entry, Stop, cells_of};
@@ -65,7 +67,14 @@ fn tells(entries: &[Arc<Entry>], i: usize)
     entries[i].truth();
 }
 
-/// Walks with a counter of its own.
+/// A lap from one visit of the loop's head to the next.
+static LAP: Stop = Stop {
+    pc: 0x10008,
+    laps: 1,
+    span: 1000,
+};
+
+/// Takes steps with a counter of its own.
 fn walk_counted<L: Ledger>(state: &mut State, most: u64, blank: Blank) -> (u64, Stepped)
     requires name { blank.name ≡ L.name }
     requires parts { blank.parts ≡ L.parts }
@@ -74,7 +83,43 @@ fn walk_counted<L: Ledger>(state: &mut State, most: u64, blank: Blank) -> (u64, 
     step_many(state, most, &mut Steps::<L>::new(blank))
 }
 
-/// Walks so far, and looks at the answer.
+/// Walks by entries with a counter of its own.
+fn walk_by<L: Ledger>(
+    alloc: Global,
+    state: &mut State,
+    entries: &mut Vec<Arc<Entry>>,
+    blank: Blank,
+) -> Result<Walked, Memory>
+    requires name { blank.name ≡ L.name }
+    requires parts { blank.parts ≡ L.parts }
+    requires some { 0 < L.parts }
+{
+    walk(alloc, state, entries, &LAP, &mut Steps::<L>::new(blank))
+}
+
+/// Walks through the loop by entries, and looks at how many steps were executed and jumped over, and at the end.
+fn check_loop<R: Abort>(
+    rt: &R,
+    alloc: Global,
+    entries: &mut Vec<Arc<Entry>>,
+    x7: u32,
+    executed: u64,
+    jumped: u64,
+) {
+    let mut state = looping(rt, alloc);
+    state.set_reg(7, x7);
+    let walked = walk_by::<Brand>(alloc, &mut state, entries, Blank::new(1));
+    let ended = Stepped::Call;
+    let want = Walked {
+        executed,
+        jumped,
+        ended,
+    };
+    assert_eq!(rt; walked.expect(rt, "memory"), want);
+    assert_eq!(rt; (state.pc(), state.reg(5)), (0x10010, 4));
+}
+
+/// Takes steps so far, and looks at the answer.
 fn check_walk<R: Abort>(rt: &R, state: &mut State, most: u64, want: (u64, Stepped)) {
     let got = walk_counted::<Brand>(state, most, Blank::new(1));
     assert_eq!(rt; got, want, "at most {most} steps");
@@ -96,12 +141,7 @@ fn walks(rt: HostRuntime) {
     assert_eq!(rt; (state.pc(), state.reg(5)), (0x1000C, 2));
     check_walk(&rt, &mut state, 100, (5, Stepped::Call));
     assert_eq!(rt; (state.pc(), state.reg(5)), (0x10010, 4));
-    let stop = Stop {
-        pc: 0x10008,
-        laps: 1,
-        span: 1000,
-    };
-    let none = entry_from(rt.alloc(), &state, &stop).expect(&rt, "memory");
+    let none = entry_from(rt.alloc(), &state, &LAP).expect(&rt, "memory");
     assert!(rt; none.is_none());
 }
 
@@ -157,6 +197,20 @@ fn jumps(rt: HostRuntime) -> Result<(), Fail> {
     check_same(&rt, &jumped, &walked);
     check_walk(&rt, &mut jumped, 100, (4, Stepped::Call));
     Ok(())
+}
+
+/// The four laps are traced the first time, and jumped over the second time, where another register differs.
+#[test]
+fn walks_by_entries(rt: HostRuntime) {
+    let alloc = rt.alloc();
+    let mut entries = Vec::new(alloc);
+    check_loop(&rt, alloc, &mut entries, 0, 8, 0);
+    assert_eq!(rt; entries.len(), 4);
+    check_loop(&rt, alloc, &mut entries, 9, 0, 8);
+    assert_eq!(rt; entries.len(), 4);
+    let state = looping(&rt, alloc);
+    keep(alloc, &mut entries, &state, &LAP).expect(&rt, "memory");
+    assert_eq!(rt; entries.len(), 5);
 }
 
 /// Each step puts the pc, and each ADDI also x5.

@@ -1,10 +1,11 @@
 -- Steps and jumps keep the shape of a state, and go on by states.
-use Rattle.std.proofs.Common.{◌≡◌, ℕ, zero, suc, ◌+◌, ◌-◌, ◌≤◌, sym, ap, ◌∙◌, zero-add, suc-add, arith}
+use Rattle.std.proofs.Common.{◌≡◌, ℕ, zero, suc, ◌+◌, ◌-◌, ◌≤◌, Option, Some, None, sym, ap, ◌∙◌, zero-add, suc-add, arith}
 use Rattle.asc_model.specs.Shape.{Shape}
 use Rattle.asc_model.specs.State.{State}
 use Rattle.asc_model.specs.Machine.{Machine, state_of, view_of}
 use Rattle.asc_model.specs.Step.{At, Outcome, Goes, Calls, Fails, next_of, outcome, next}
 use Rattle.asc_model.specs.Plain.{plain}
+use Rattle.asc_traj.specs.Jump.{IsJump}
 use Rattle.asc_model.proofs.PlainSteps.{plain-first, plain-last, plain-none}
 
 at-same : (a b : State) → At a ≡ At b → a ≡ b
@@ -27,6 +28,11 @@ plain-shape zero s t h = sym (ap (λ (u : State). u.shape) (plain-none s t h))
 plain-shape (suc n) s t h =
     let first = plain-first n s t h in
     plain-shape n first.0 t first.2 ∙ next-shape s first.0 first.1
+
+-- and so does a jump
+pub jump-shape : (reply : Option ℕ) (left : ℕ) (s t : State) → IsJump reply left s t → t.shape ≡ s.shape
+jump-shape None left s t same = ap (λ (u : State). u.shape) same
+jump-shape (Some n) left s t jump = plain-shape n s t jump.goes
 
 -- n plain steps that reach a state reach one after k of them
 plain-front : (j k : ℕ) (s t : State) → plain (j + k) s ≡ At t → (u : State) × (plain k s ≡ At u)

@@ -95,6 +95,15 @@ impl LastVisits {
         }
     }
 
+    /// Before the first visit, again. It takes no memory.
+    pub fn begin(&mut self)
+        ensures { self.new ≡ no_visits self.old.guessing }
+    {
+        self.forget();
+        self.clear_jobs();
+        self.issued = 0;
+    }
+
     /// Gives up both states.
     pub fn forget(&mut self)
         ensures { self.new ≡ forgotten self.old }

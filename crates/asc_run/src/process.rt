@@ -46,6 +46,19 @@ impl Process {
         })
     }
 
+    /// Begins anew as the program of an image of the same shape. It takes no memory.
+    pub fn again(&mut self, image: &Image<'_>)
+        requires { image.now.start.shape ≡ self.old.state.shape }
+        ensures state { self.new.state ≡ image.now.start }
+        ensures calls { self.new.calls
+            ≡ record { low = image.now.low; high = high_of image.now; brk = image.now.low; ended = false } }
+        ensures count { self.new.count ≡ 0 }
+    {
+        image.put(&mut self.state);
+        self.calls = Calls::new(image.low(), image.high());
+        self.count = 0;
+    }
+
     /// Takes plain steps until so many are done, one leads to `pc`, or the next does not go on, in a loop of their own. It
     /// answers what the last attempt answered.
     pub fn go_on<L: Ledger>(&mut self, pc: Option<u32>, most: u64, steps: &mut Steps<L>) -> Stepped

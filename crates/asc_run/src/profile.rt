@@ -47,6 +47,9 @@ impl Process {
             (faults (I.faults input.new) (O.faults out.new) (E.faults err.new)))
             a a self.new.count 0 ended) }
         ensures nowhere { settings.recognised ≡ Recognised.Nowhere → result ≡ Ok None }
+        ensures kept { vec_capacity notes.new ≡ vec_capacity notes.old }
+        ensures shape { IfOk result (λ _. self.new.state.shape ≡ self.old.state.shape) }
+        ensures ended_shape { IfErr result (λ ended. device_of ended ≡ None → self.new.state.shape ≡ self.old.state.shape) }
         ensures limit { self.new.count ≤ settings.limit }
         ensures sound { IfOk result (λ _. faults (I.faults input.new) (O.faults out.new) (E.faults err.new)
             ≡ faults (I.faults input.old) (O.faults out.old) (E.faults err.old)) }
@@ -99,6 +102,8 @@ impl Process {
             a a self.new.count 0 ended) }
         ensures rise { IsNone result → CountsRise notes.new.items }
         ensures few { vec_len notes.new ≤ stop }
+        ensures shape { device_of_turn result ≡ None → self.new.state.shape ≡ self.old.state.shape }
+        ensures kept { vec_capacity notes.new ≡ vec_capacity notes.old }
         ensures limit { self.new.count ≤ stop }
         ensures faults { BlamesOnly (device_of_turn result)
             (faults (I.faults input.old) (O.faults out.old) (E.faults err.old))

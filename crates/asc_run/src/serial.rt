@@ -6,7 +6,7 @@ ghost use Rattle.asc_find.specs.Serial.{Serial as machine, serial_reply};
 ghost use Rattle.asc_run.specs.Helped.{aid, Plans, VisitsMachine};
 ghost use Rattle.asc_shard.specs.Content.{outcome_of};
 ghost use Rattle.asc_shard.specs.Shard.{run_capacity};
-ghost use Rattle.asc_run.specs.SerialHelper.{IsPlanned, IsSettled, added, first_helper, plan_of, told_machine};
+ghost use Rattle.asc_run.specs.SerialHelper.{IsPlanned, IsSettled, added, begun, first_helper, plan_of, told_machine};
 ghost use Rattle.asc_run.specs.SerialInside.{AddsJoin, MakesJob};
 ghost use Rattle.asc_run.specs.declared.last_visits.TheConstants.{MOST_AHEAD, MOST_JOBS};
 
@@ -97,6 +97,14 @@ impl Serial {
         ensures outcome { result ≡ outcome_of self.old.machine.content (arc_value entry) }
     {
         self.shard.insert(entry)
+    }
+
+    /// Before the first visit of a further run, which begins with the entries that the runs before left. What was counted
+    /// stays. It takes no memory.
+    pub fn begin(&mut self)
+        ensures { self.new ≡ begun self.old }
+    {
+        self.visits.begin();
     }
 
     /// Plans the guesses of a visit, which is the walk's `number`th, and answers how many jobs they are. A copy of the

@@ -1,17 +1,23 @@
-ghost use Rattle.std.specs.Prelude.{◌≤◌};
+ghost use Rattle.std.specs.Prelude.{◌≡◌, ◌≤◌, ◌<◌, ◌^◌, IsNone};
+ghost use Rattle.asc_run.specs.Helped.{aid, HasRoom};
+ghost use Rattle.asc_run.specs.SerialHelper.{plan_of, told_machine};
 
 use crate::last_visits::MOST_AHEAD;
-use crate::tests::{COUNTING, run};
-use crate::{Counts, Ended, Helper, MOST_STEPS, Recognised, Serial, Settings};
+use crate::tests::{COUNTING, HEAD, run};
+use crate::{Counts, Ended, Helper, MOST_STEPS, Recognised, Serial, Settings, Walk};
+use asc_elf::read;
 use asc_find::{Finder, Guessing};
 use asc_guess::Kind;
-use asc_shape::{Shape, State};
+use asc_outside::{CountSink, SureSource};
+use asc_shape::{Shape, State, Steps, Version};
 use asc_shard::Inserted;
 use asc_traj::Made;
+use std::alloc::Global;
 use std::marker::Brand;
 use std::process::Abort;
 use std::sync::Arc;
-use std::sync::ledger::Blank;
+use std::sync::ledger::{Blank, Ledger};
+use std::test::Fail;
 
 /// The kinds that are on, two visits ahead, and whether entries are joined.
 fn two_ahead(last: bool, stride: bool, join: bool) -> Guessing
@@ -210,6 +216,117 @@ fn runs_preloaded(rt: HostRuntime) {
             }
         );
     }
+}
+
+/// It reads a byte, counts x5 from there up to 4 in a loop of two instructions from 0x10020 on, and ends with code 0.
+static READING: [u32; 13] = [
+    0x03F0_0893,
+    0x0000_0513,
+    0x0001_05B7,
+    0x1005_8593,
+    0x0010_0613,
+    0x0000_0073,
+    0x0005_C283,
+    0x0040_0313,
+    0x0012_8293,
+    0xFE62_9EE3,
+    0x05D0_0893,
+    0x0000_0513,
+    0x0000_0073,
+];
+
+/// Fails where a helper has counted so much that it has no room for a run.
+fn check_room<R: Abort>(rt: &R, serial: &Serial)
+    ensures { HasRoom (2 ^ 61) (aid serial.now.tally None (plan_of serial.now) (told_machine serial.now)) }
+{
+    assert!(rt; serial.asked() < 1 << 40);
+    assert!(rt; serial.given() < 1 << 40);
+    assert!(rt; serial.made() < 1 << 40);
+    assert!(rt; serial.full() == 0);
+}
+
+/// Runs a walk that has not begun over an input of this byte. It is to end with code 0 and these numbers.
+fn check_run<R: Abort, L: Ledger>(
+    rt: &R,
+    alloc: Global,
+    walk: &mut Walk,
+    serial: &mut Serial,
+    byte: u8,
+    steps: &mut Steps<L>,
+    want: Counts,
+)
+    requires { IsNone walk.old.ended }
+    ensures { walk.new.state.shape ≡ walk.old.state.shape }
+{
+    check_room(rt, serial);
+    let mut input = Vec::new(alloc);
+    input.push(byte).expect(rt, "memory");
+    let (mut out, mut err) = (CountSink::new(), CountSink::new());
+    let ended = walk.go(
+        serial,
+        &mut SureSource::new(input),
+        &mut out,
+        &mut err,
+        steps,
+    );
+    assert_eq!(rt; ended, Ended::Exit(0));
+    let got = walk.counts();
+    assert_eq!(rt; got.count, want.count);
+    if serial.refused() == 0 {
+        assert_eq!(rt; got, want, "input {byte}");
+    }
+}
+
+/// A walk begins anew over another input, and its helper with the entries of the run before. So the second run makes two
+/// jumps, of which it makes none on its own.
+fn check_again<R: Abort, L: Ledger>(rt: &R, alloc: Global, blank: Blank) -> Result<(), Fail>
+    requires name { blank.name ≡ L.name }
+    requires parts { blank.parts ≡ L.parts }
+    requires some { 0 < L.parts }
+{
+    let mut file = HEAD.to_vec(alloc)?;
+    assert!(rt; file.len() == 84);
+    // How much of the file is code, and in memory.
+    file[68] = 52;
+    file[72] = 52;
+    for word in &READING {
+        file.extend_from_slice(&word.to_le_bytes())?;
+    }
+    let image = read(&file, 65_536, Version::One).expect(rt, "an image");
+    let settings = Settings {
+        limit: MOST_STEPS,
+        recognised: Recognised::At(0x10020),
+    };
+    let mut walk = Walk::new(alloc, &image, settings).expect(rt, "memory");
+    let mut serial = Serial::new(alloc, image.shape(), two_ahead(false, true, false)).expect(
+        rt, "memory",
+    );
+    let mut steps = Steps::<L>::new(blank);
+    let first = Counts {
+        count: 19,
+        executed: 13,
+        skipped: 6,
+        asked: 4,
+        hits: 2,
+    };
+    check_run(rt, alloc, &mut walk, &mut serial, 0, &mut steps, first);
+    walk.again(&image);
+    serial.begin();
+    let second = Counts {
+        count: 15,
+        executed: 9,
+        skipped: 6,
+        asked: 2,
+        hits: 2,
+    };
+    check_run(rt, alloc, &mut walk, &mut serial, 2, &mut steps, second);
+    assert!(rt; serial.refused() > 0 || serial.made() == 6);
+    Ok(())
+}
+
+#[test]
+fn runs_again(rt: HostRuntime) -> Result<(), Fail> {
+    check_again::<_, Brand>(&rt, rt.alloc(), Blank::new(1))
 }
 
 /// A visit's calls, as another runner makes them, which can do none of the jobs.

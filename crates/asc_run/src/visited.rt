@@ -73,6 +73,7 @@ impl Visited {
             (H.tally helper.old) (H.tally helper.new) }
         ensures seen { SeesAll self.new.asked (H.plan helper.old) (H.plan helper.new) }
         ensures unset { IsNone pc → helper.new ≡ helper.old }
+        ensures shape { device_of result ≡ None → self.new.process.state.shape ≡ self.old.process.state.shape }
         ensures limit { self.new.process.count ≤ limit }
         ensures skipped { self.new.skipped ≤ self.new.process.count }
         ensures faults { BlamesOnly (device_of result)

@@ -100,13 +100,15 @@ impl Model for Walk {
 
     ghost invariant = { λ w. (w.settings.limit ≤ 2 ^ 40) × (w.visited.process.count ≤ w.settings.limit)
         × (w.visited.skipped ≤ w.visited.process.count) × HasBounds w.settings.recognised
+        × (noted_counts w.settings.recognised ≤ vec_capacity w.notes)
         × (w.ended ≡ None → model.HasNotBegun w.visited.process.count w.visited.process.calls
         × (model.tally w.visited.asked w.visited.skipped w.visited.hits ≡ model.tally 0 0 0)
-        × (w.notes.items ≡ []) × (noted_counts w.settings.recognised ≤ vec_capacity w.notes)) };
+        × (w.notes.items ≡ [])) };
 }
 
 impl Walk {
     ghost use Rattle.asc_calls.specs.World.{faults, outside, BlamesOnly};
+    ghost use Rattle.asc_run.specs.Execution.{device_of};
     ghost use Rattle.asc_run.specs.Helped.{aid, HasRoom};
     ghost use Rattle.asc_run.specs.VisitedBy.{IsVisit, MayVisit, Visits};
     ghost use Rattle.asc_run.specs.Visits.{HasBounds};
@@ -135,13 +137,29 @@ impl Walk {
         })
     }
 
+    /// Begins anew, at the first state of an image of the same shape: nothing was done, jumped over or asked for, and no
+    /// answer is kept. The settings stay. It takes no memory.
+    pub fn again(&mut self, image: &Image<'_>)
+        requires { image.now.start.shape ≡ self.old.state.shape }
+        ensures walk { self.new ≡ new_walk image.now self.old.settings }
+        ensures new { IsNone self.new.ended }
+    {
+        self.notes.clear();
+        let visited = &mut self.visited;
+        visited.process.again(image);
+        visited.skipped = 0;
+        visited.asked = 0;
+        visited.hits = 0;
+        self.ended = None;
+    }
+
     /// Runs the program to its end, its limit, or a call in which a device fails. No allocator is handed in.
     ///
     /// Wherever the program stands at the recognised address, the helper is visited and then asked for a jump, each
     /// once. Where the address is to be chosen, that begins when the steps are done of which it is. Where none is
     /// recognised the helper is neither visited nor asked.
     ///
-    /// A second call answers as the first did, and changes nothing.
+    /// A second call answers as the first did, and changes nothing, unless the walk began anew.
     pub fn go<H: Helper, I: Source, O: Sink, E: Sink, L: Ledger>(
         &mut self,
         helper: &mut H,
@@ -172,6 +190,9 @@ impl Walk {
             × (helper.new ≡ helper.old) × (input.new ≡ input.old) × (out.new ≡ out.old) × (err.new ≡ err.old)
             × (steps.new ≡ steps.old)) }
         ensures limit { self.new.count ≤ self.old.settings.limit }
+
+        // Where no device failed its state has the shape that it had, so that it may begin anew.
+        ensures shape { device_of result ≡ None → self.new.state.shape ≡ self.old.state.shape }
 
         // The count of faults of the device that failed in this call rises by one, and those of the others stay.
         ensures faults { BlamesOnly (device_in self.old.ended result)
@@ -222,6 +243,9 @@ impl Walk {
             × (helper.new ≡ helper.old) × (input.new ≡ input.old) × (out.new ≡ out.old) × (err.new ≡ err.old)
             × (steps.new ≡ steps.old)) }
         ensures limit { self.new.count ≤ self.old.settings.limit }
+
+        // Where no device failed its state has the shape that it had, so that it may begin anew.
+        ensures shape { device_of result ≡ None → self.new.state.shape ≡ self.old.state.shape }
 
         // The count of faults of the device that failed in this call rises by one, and those of the others stay.
         ensures faults { BlamesOnly (device_in self.old.ended result)

@@ -1,28 +1,33 @@
 -- What asc_show answers.
-use Rattle.std.specs.Prelude.{◌≡◌, ◌⊎◌, ℕ, ◌*◌, ◌<◌, false, codes, decimal, List, [], ◌++◌, Option, None, MatchOption, Result, Ok, Err}
-use Rattle.std.specs.Arc.{arc_value}
+use Rattle.std.specs.Prelude.{◌≡◌, ◌⊎◌, ℕ, ◌*◌, false, codes, decimal, List, [], ◌++◌, Option, Result, Ok, Err}
+use Rattle.asc_model.specs.State.{State}
 use Rattle.asc_outside.specs.Outside.{AsksFor, File, Given, MayHold, MayHoldLonger, PutsPart, given_after}
 use Rattle.asc_outside.specs.Lists.{given_number}
 use Rattle.asc_elf.specs.Image as loader
 use Rattle.asc_elf.specs.declared.fault.ElfFault.{ElfFault}
-use Rattle.asc_calls.specs.World.{World, world, faults}
+use Rattle.asc_calls.specs.World.{CallState, World, world, faults}
 use Rattle.asc_run.specs.declared.walk.Ended.{Ended}
 use Rattle.asc_run.specs.declared.walk.Ended.TheVariants as ends
 use Rattle.asc_words.specs.Line.{file_limit}
 use Rattle.asc_words.specs.declared.line.LineFault.{LineFault}
 use Rattle.asc_words.specs.declared.line.LineFault.TheVariants as LineFaults
+use Rattle.asc_words.specs.declared.line.RunLine.{RunLine}
 use Rattle.asc_show.specs.declared.answer.Answer.{Answer}
 use Rattle.asc_show.specs.declared.answer.Answer.TheVariants as answers
-use Rattle.asc_show.specs.declared.lap.Lap.{Lap}
+use Rattle.asc_show.specs.declared.answer.Reached.{Reached}
+use Rattle.asc_show.specs.declared.answer.Reached.TheVariants.{Visits, Steps}
+use Rattle.asc_show.specs.declared.request.Question.{Question}
+use Rattle.asc_show.specs.declared.request.Question.TheVariants.{Entry, Miss, At, Profile}
 use Rattle.asc_show.specs.declared.request.Request.{Request}
-use Rattle.asc_show.specs.Text.{entry_text}
-use Rattle.asc_traj.specs.Trace.{guess_bounds}
-use Rattle.asc_show.specs.Visited.{Comes, EndsBefore, IsLap}
+use Rattle.asc_show.specs.Entered.{EndsEntry, ShowsEntry}
+use Rattle.asc_show.specs.Missed.{EndsMisses, ShowsMisses}
+use Rattle.asc_show.specs.Registers.{EndsRegisters, ShowsRegisters}
+use Rattle.asc_show.specs.Profile.{EndsProfile, ShowsProfile}
 use Rattle.asc_show.specs.Asked.{Asks}
 
 -- ---- the status and the line of an answer
 
--- the status of a program that ended before the visit
+-- the status of a program that ended before what is asked for
 abbrev pub code_of_end : Ended → ℕ
 code_of_end (ends.Exit code) = 69
 code_of_end (ends.Fault fault) = 76
@@ -41,14 +46,14 @@ code_of answers.StoreFault = 66
 code_of answers.NoStep = 69
 code_of answers.Memory = 71
 code_of answers.OutFault = 74
-code_of (answers.Ended ended visits) = code_of_end ended
+code_of (answers.Ended ended reached) = code_of_end ended
 
 -- the answer to words that are no line
 abbrev pub refusal_of : LineFault → Answer
 refusal_of (LineFaults.Usage bad) = answers.Usage
 refusal_of LineFaults.Memory = answers.Memory
 
--- how a program ended before the visit
+-- how a program ended
 abbrev pub end_text : Ended → List ℕ
 end_text (ends.Exit code) = codes "the program ended"
 end_text (ends.Fault fault) = codes "the program met a fault"
@@ -57,23 +62,54 @@ end_text ends.ReadFault = codes "standard input failed"
 end_text ends.WriteFault = codes "the guest's output failed"
 end_text ends.ErrFault = codes "the guest's error output failed"
 
--- the line of an answer; an entry that was shown has none
+-- what it did not come to
+abbrev pub before_text : Reached → List ℕ
+before_text (Visits visits) = codes " before that visit; visits so far: "
+before_text (Steps steps) = codes " before that step; steps so far: "
+
+abbrev pub number_of : Reached → ℕ
+number_of (Visits visits) = visits
+number_of (Steps steps) = steps
+
+-- the line of an answer; what was shown has none
 unfoldable pub answer_text : Answer → List ℕ
 answer_text answers.Shown = []
 answer_text answers.Usage =
-    codes "asc_show: wants IMAGE ADDRESS VISIT [OPTIONS]: a file, hexadecimal digits, a number from 1 on, options of asc run\n"
+    codes "asc_show: wants entry|miss IMAGE ADDRESS VISIT, at IMAGE STEPS, or profile [--all] IMAGE, and options of asc run\n"
 answer_text (answers.Image fault) = codes "asc_show: the file is no image; asc run tells its fault\n"
 answer_text answers.TooLong = codes "asc_show: the file has more than 67,108,864 bytes\n"
 answer_text answers.StoreFault = codes "asc_show: the file can't be read\n"
 answer_text answers.NoStep = codes "asc_show: no entry: a guest call or a fault stands at that visit\n"
 answer_text answers.Memory = codes "asc_show: out of memory\n"
 answer_text answers.OutFault = codes "asc_show: standard output failed\n"
-answer_text (answers.Ended ended visits) =
-    codes "asc_show: " ++ end_text ended ++ codes " before that visit; visits so far: " ++ decimal visits ++ codes "\n"
+answer_text (answers.Ended ended reached) =
+    codes "asc_show: " ++ end_text ended ++ before_text reached ++ decimal (number_of reached) ++ codes "\n"
+
+-- ---- what is shown of a plain run, and how it ends before
+
+-- A program that stands so; what it writes is only counted, from nothing on.
+abbrev pub counted_world : State → CallState → (left : Option (List ℕ)) → (steps input_faults : ℕ) → World
+counted_world state calls left steps input_faults =
+    world state calls left (given_number 0) (given_number 0) steps (faults input_faults 0 0)
+
+-- the text is what a question asks of the plain run from start
+abbrev pub ShowsText : RunLine → Question → (start : World) → (left : Option (List ℕ)) → (steps : ℕ)
+    → (text : List ℕ) → Type 0
+ShowsText line (Entry visit) = ShowsEntry line visit
+ShowsText line (Miss visit) = ShowsMisses line visit
+ShowsText line (At count) = ShowsRegisters line count
+ShowsText line (Profile addresses) = ShowsProfile line addresses
+
+-- the answer says why there is no such text
+abbrev pub HasNoText : RunLine → Question → (start : World) → (left : Option (List ℕ)) → (steps : ℕ) → Answer → Type 0
+HasNoText line (Entry visit) = EndsEntry line visit
+HasNoText line (Miss visit) = EndsMisses line visit
+HasNoText line (At count) = EndsRegisters line count
+HasNoText line (Profile addresses) = EndsProfile line
 
 -- ---- what was done
 
--- What is told of the guest's input, of the output for the entry, of the counter of steps, and how often the input has
+-- What is told of the guest's input, of the output for the text, of the counter of steps, and how often the input has
 -- failed.
 pub record Outer : Type 0 where
   pub left : Option (List ℕ)
@@ -84,71 +120,46 @@ pub record Outer : Type 0 where
 abbrev pub outer : Option (List ℕ) → Given → (steps input_faults : ℕ) → Outer
 outer left out steps input_faults = record { left = left; out = out; steps = steps; input_faults = input_faults }
 
--- a program that has not begun; what it writes is only counted
-abbrev pub start_world : loader.Image → Outer → World
-start_world image o = world image.start
-    (record { low = image.low; high = loader.high_of image; brk = image.low; ended = false })
-    o.left (given_number 0) (given_number 0) o.steps (faults o.input_faults 0 0)
-
 -- what a file is, in as much memory as is asked for
 abbrev pub load_of : Request → (content : List ℕ) → Result loader.Image ElfFault
 load_of request content = loader.image_of content (1024 * request.line.memory) request.line.version
 
--- The plain run of a file came to the visit that is asked for, before the limit, and this is the lap that begins there.
--- What was taken from the input, and the count of steps, are that run's.
-pub record ShowsLap (request : Request) (content : List ℕ) (old new : Outer) (lap : Lap) : Type 0 where
-  pub image : loader.Image
-  pub loads : load_of request content ≡ Ok image
-  pub now : World
-  pub count : ℕ
-  pub comes : Comes request.pc request.visit (start_world image old) now count
-  pub before : count < request.line.limit
-  pub left : new.left ≡ now.left
-  pub steps : new.steps ≡ now.steps
-  pub is : IsLap (guess_bounds request.pc request.line.laps request.line.span) now.state lap
+-- a program that has not begun
+abbrev pub start_world : loader.Image → Outer → World
+start_world image o = counted_world image.start
+    (record { low = image.low; high = loader.high_of image; brk = image.low; ended = false }) o.left o.steps o.input_faults
 
--- The plain run of a file, up to the limit, ended so, and before that was at the address so often.
-pub record ShowsEnd (request : Request) (content : List ℕ) (old new : Outer) (ended : Ended) (visits : ℕ) : Type 0 where
-  pub image : loader.Image
-  pub loads : load_of request content ≡ Ok image
-  pub now : World
-  pub count : ℕ
-  pub before : visits < request.visit
-  pub ends : EndsBefore request.line.limit request.pc visits (start_world image old) now count ended
-  pub left : new.left ≡ now.left
-  pub steps : new.steps ≡ now.steps
+-- a file is an image, of whose program, before it begins, P holds
+abbrev pub Starts : Request → (content : List ℕ) → Outer → (World → Type 0) → Type 0
+Starts request content o P =
+    (image : loader.Image) × (load_of request content ≡ Ok image) × P (start_world image o)
+
+-- of some text that is asked for of that program P holds
+abbrev pub Shows : Request → (content : List ℕ) → (old new : Outer) → (List ℕ → Type 0) → Type 0
+Shows request content old new P = Starts request content old
+    (λ start. (text : List ℕ) × ShowsText request.line request.question start new.left new.steps text × P text)
 
 -- it is answered that the guest's input failed
 abbrev pub HasInputFailed : Answer → Type 0
-HasInputFailed answer = (visits : ℕ) × (answer ≡ answers.Ended ends.ReadFault visits)
+HasInputFailed answer = (reached : Reached) × (answer ≡ answers.Ended ends.ReadFault reached)
 
--- a lap has an entry, whose text has P
-abbrev pub HasText : Lap → (List ℕ → Type 0) → Type 0
-HasText lap P = MatchOption lap.entry ⊥ (λ entry. P (entry_text (arc_value entry) lap.why))
-
--- of some lap that begins at the visit P holds
-abbrev pub Shows : Request → (content : List ℕ) → (old new : Outer) → (Lap → Type 0) → Type 0
-Shows request content old new P = (lap : Lap) × ShowsLap request content old new lap × P lap
-
--- the text of a lap's entry was put to an output
-abbrev pub IsShowing : Lap → (before after : Given) → Answer → Type 0
-IsShowing lap before after answers.Shown = HasText lap (λ text. after ≡ given_after before text)
-IsShowing lap before after answers.OutFault = HasText lap (λ text. PutsPart before after text)
-IsShowing lap before after answers.NoStep = (lap.entry ≡ None) × (after ≡ before)
-IsShowing lap before after answers.Memory = after ≡ before
-IsShowing lap before after (answers.Ended ended visits) = ⊥
-IsShowing lap before after (answers.Image fault) = ⊥
-IsShowing lap before after answers.Usage = ⊥
-IsShowing lap before after answers.TooLong = ⊥
-IsShowing lap before after answers.StoreFault = ⊥
+-- it is answered that the guest's output failed, or its error output
+abbrev pub HasOutputFailed : Answer → Type 0
+HasOutputFailed answer = (reached : Reached)
+    × ((answer ≡ answers.Ended ends.WriteFault reached) ⊎ (answer ≡ answers.Ended ends.ErrFault reached))
 
 -- What an answer says of a file that was read, and what was put to the output.
 abbrev pub Says : Request → (content : List ℕ) → (old new : Outer) → Answer → Type 0
 Says request content old new answers.Memory = new.out ≡ old.out
 Says request content old new (answers.Image fault) = (load_of request content ≡ Err fault) × (new ≡ old)
-Says request content old new (answers.Ended ended visits) =
-    ShowsEnd request content old new ended visits × (new.out ≡ old.out)
-Says request content old new answer = Shows request content old new (λ lap. IsShowing lap old.out new.out answer)
+Says request content old new answers.Shown =
+    Shows request content old new (λ text. new.out ≡ given_after old.out text)
+Says request content old new answers.OutFault = Shows request content old new (λ text. PutsPart old.out new.out text)
+Says request content old new answers.Usage = ⊥
+Says request content old new answers.TooLong = ⊥
+Says request content old new answers.StoreFault = ⊥
+Says request content old new answer = Starts request content old
+    (λ start. HasNoText request.line request.question start new.left new.steps answer) × (new.out ≡ old.out)
 
 -- ---- what an answer to words says
 

@@ -1,7 +1,7 @@
 //! The answers of the program, with their lines and statuses.
 ghost use Rattle.std.specs.Prelude.{◌≡◌, ◌+◌, ◌≤◌, ◌++◌, codes, decimal, length};
 ghost use Rattle.arrayvec.specs.ArrayVec.{array_vec_len};
-ghost use Rattle.asc_show.specs.Shown.{answer_text, code_of, code_of_end, end_text};
+ghost use Rattle.asc_show.specs.Shown.{answer_text, before_text, code_of, code_of_end, end_text, number_of};
 
 use arrayvec::ArrayVec;
 use asc_elf::ElfFault;
@@ -12,12 +12,12 @@ use itoa::Buffer;
 /// How the program ends.
 #[derive(Clone, Copy, Debug, PartialEq, Eq)]
 pub enum Answer {
-    /// The entry was put to the output.
+    /// What was asked for was put to the output.
     Shown,
     /// At the visit stands a guest call, or an instruction that meets a fault: there is no entry.
     NoStep,
-    /// The guest's program ended before the visit, and had been at the address so often.
-    Ended(Ended, u64),
+    /// The guest's program ended before it came to what was asked for, and had come so far.
+    Ended(Ended, Reached),
     /// The command line is wrong.
     Usage,
     /// The file is no image that can be run.
@@ -28,15 +28,24 @@ pub enum Answer {
     StoreFault,
     /// Want of memory.
     Memory,
-    /// The output failed, while it took the entry.
+    /// The output failed, while it took what was asked for.
     OutFault,
+}
+
+/// How far a program came.
+#[derive(Clone, Copy, Debug, PartialEq, Eq)]
+pub enum Reached {
+    /// How often it had been at the address.
+    Visits(u64),
+    /// How many steps it had done.
+    Steps(u64),
 }
 
 /// A line as far as it is built.
 pub(crate) type Line = ArrayVec<u8, 128>;
 
 impl Answer {
-    /// The exit status: 0 where the entry was shown, or one of BSD's sysexits where it has one.
+    /// The exit status: 0 where what was asked for was shown, or one of BSD's sysexits where it has one.
     pub fn code(&self) -> u8
         ensures { result ≡ code_of self.now }
     {
@@ -52,7 +61,7 @@ impl Answer {
         }
     }
 
-    /// The line of an answer, or nothing where the entry was shown.
+    /// The line of an answer, or nothing where what was asked for was shown.
     #[tactic(auto, unfolding(crate::specs::Shown::answer_text))]
     pub(crate) fn line(&self) -> Line
         ensures { result.items ≡ answer_text self.now }
@@ -62,7 +71,7 @@ impl Answer {
             Answer::Shown => {}
             Answer::Usage => put(
                 &mut line,
-                b"asc_show: wants IMAGE ADDRESS VISIT [OPTIONS]: a file, hexadecimal digits, a number from 1 on, options of asc run\n",
+                b"asc_show: wants entry|miss IMAGE ADDRESS VISIT, at IMAGE STEPS, or profile [--all] IMAGE, and options of asc run\n",
             ),
             Answer::Image(_) => put(
                 &mut line,
@@ -79,7 +88,7 @@ impl Answer {
             ),
             Answer::Memory => put(&mut line, b"asc_show: out of memory\n"),
             Answer::OutFault => put(&mut line, b"asc_show: standard output failed\n"),
-            Answer::Ended(ended, visits) => put_end(&mut line, *ended, *visits),
+            Answer::Ended(ended, reached) => put_end(&mut line, *ended, *reached),
         }
         line
     }
@@ -99,7 +108,7 @@ impl From<LineFault> for Answer {
     }
 }
 
-/// The status where a program ended before the visit.
+/// The status where a program ended before it came so far.
 fn code_of_end(ended: Ended) -> u8
     ensures { result ≡ code_of_end ended }
 {
@@ -111,20 +120,43 @@ fn code_of_end(ended: Ended) -> u8
     }
 }
 
-/// Appends the line of a program that ended before the visit.
-fn put_end(line: &mut Line, ended: Ended, visits: u64)
+/// Appends the line of a program that ended before it came so far.
+fn put_end(line: &mut Line, ended: Ended, reached: Reached)
     requires { array_vec_len line.old ≡ 0 }
-    ensures { line.new.items ≡ line.old.items ++ codes "asc_show: " ++ end_text ended
-        ++ codes " before that visit; visits so far: " ++ decimal visits ++ codes "\n" }
+    ensures { line.new.items ≡ line.old.items ++ codes "asc_show: " ++ end_text ended ++ before_text reached
+        ++ decimal (number_of reached) ++ codes "\n" }
 {
     put(line, b"asc_show: ");
     put(line, end_text(ended).as_bytes());
-    put(line, b" before that visit; visits so far: ");
-    put_number(line, visits);
+    put(line, before_text(reached).as_bytes());
+    put_number(line, reached.number());
     put(line, b"\n");
 }
 
-/// How a program ended before the visit.
+impl Reached {
+    /// The number of visits or steps.
+    fn number(self) -> u64
+        ensures { result ≡ number_of self }
+    {
+        match self {
+            Reached::Visits(visits) => visits,
+            Reached::Steps(steps) => steps,
+        }
+    }
+}
+
+/// What a program came not to, and what is counted.
+fn before_text(reached: Reached) -> &'static str
+    ensures text { result.now ≡ before_text reached }
+    ensures short { length result.now ≤ 40 }
+{
+    match reached {
+        Reached::Visits(_) => " before that visit; visits so far: ",
+        Reached::Steps(_) => " before that step; steps so far: ",
+    }
+}
+
+/// How a program ended.
 fn end_text(ended: Ended) -> &'static str
     ensures text { result.now ≡ end_text ended }
     ensures short { length result.now ≤ 40 }

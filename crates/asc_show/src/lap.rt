@@ -31,10 +31,23 @@ pub(crate) fn trace_lap(
     requires span { 1 ≤ span }
     ensures { IfOk result (λ lap. IsLap (guess_bounds pc laps span) state.now lap) }
 {
-    let mut tracer = Tracer::new(alloc, state.shape(), TRACE_CAP)?;
     let guess = Guess::last(Snapshot::of(alloc, state)?);
-    // That it is a state, of the same shape.
-    let _ = guess.shape();
+    trace_guess(alloc, guess, pc, laps, span)
+}
+
+/// Traces a guess until steps have led to `pc` `laps` times, or the trace ends before.
+pub(crate) fn trace_guess(
+    alloc: Global,
+    guess: Guess,
+    pc: u32,
+    laps: u64,
+    span: u64,
+) -> Result<Lap, Memory>
+    requires laps { 1 ≤ laps }
+    requires span { 1 ≤ span }
+    ensures { IfOk result (λ lap. IsLap (guess_bounds pc laps span) guess lap) }
+{
+    let mut tracer = Tracer::new(alloc, guess.shape(), TRACE_CAP)?;
     tracer.start(guess);
     let traced = trace(&mut tracer, &Stop { pc, laps, span }, &mut Never);
     let entry = if traced.steps == 0 {

@@ -1,10 +1,17 @@
-//! Shows what the entry of one lap reads and writes.
+//! Answers a question of the plain run of an image.
 //!
-//!     asc_show IMAGE ADDRESS VISIT [OPTIONS]
+//!     asc_show entry IMAGE ADDRESS VISIT [OPTIONS]
+//!     asc_show miss IMAGE ADDRESS VISIT [OPTIONS]
+//!     asc_show at IMAGE STEPS [OPTIONS]
+//!     asc_show profile [--all] IMAGE [OPTIONS]
 //!
-//! IMAGE is run plainly to where it stands at ADDRESS (hexadecimal digits) for the VISITth time. From there a lap is
-//! traced, up to the next visit. OPTIONS are those of `asc run`: `--memory`, `--machine`, `--steps`, and for the trace
-//! `--laps` and `--span`. Those on guesses and reports have to be right, and mean nothing here; `--pc` is refused.
+//! `entry` runs IMAGE to where it stands at ADDRESS (hexadecimal digits) for the VISITth time, and traces a lap from
+//! there: it shows what the lap's entry reads and writes. `miss` guesses that visit from the two before it, as a worker
+//! would, and shows which of the places that are read first were guessed wrong. `at` shows the registers after STEPS
+//! steps. `profile` shows how often the addresses are met that a step led back to, or with `--all` all that are met.
+//!
+//! OPTIONS are those of `asc run`. Those that a question doesn't need have to be right, and mean nothing there; `--pc` is
+//! refused where an ADDRESS is given.
 #![tactic(auto)]
 
 ghost use Rattle.std.specs.Prelude.{◌≡◌, ◌<◌, map};
@@ -13,7 +20,15 @@ ghost use Rattle.std.specs.String.{string_bytes};
 ghost use Rattle.asc_show.specs.Status.{IsStatusFor, IsStatusOf, IsStatusOver};
 
 mod answer;
+mod entry;
 mod lap;
+mod laws;
+mod meetings;
+mod miss;
+mod miss_text;
+mod profile;
+mod profile_text;
+mod registers;
 mod request;
 mod show;
 #[cfg(test)]

@@ -1,8 +1,9 @@
 //! The words of the command line.
-ghost use Rattle.std.specs.Prelude.{ℕ, ◌≡◌, ◌≤◌, ◌++◌, [], ◌∷◌, IfOk, IfSome, IsNone, OnOk, Err, length, map};
+ghost use Rattle.std.specs.Prelude.{ℕ, ◌≡◌, ◌≢◌, ◌≤◌, ◌++◌, true, false, [], ◌∷◌, codes, IfOk, IfSome, IsNone, OnOk, Ok, Err, length, map};
 ghost use Rattle.std.specs.String.{string_bytes};
-ghost use Rattle.asc_words.specs.Line.{IsRunWithin};
-ghost use Rattle.asc_show.specs.Asked.{Asks, IsNumber, run_words};
+ghost use Rattle.asc_words.specs.Line.{IsRunWithin, line_of};
+ghost use Rattle.asc_words.specs.declared.line.Line.TheVariants.{Run};
+ghost use Rattle.asc_show.specs.Asked.{Asks, AsksAddresses, AsksCount, AsksVisit, HasNumber, IsNumber, word_at};
 
 use asc_words::{Bad, Line, LineFault, RunLine, parse};
 use std::alloc::{AllocError, Global};
@@ -10,12 +11,41 @@ use std::alloc::{AllocError, Global};
 /// What a command line asks for.
 #[derive(Debug, Drop)]
 pub struct Request {
-    /// How the image is run and traced. What it says of guesses and reports means nothing here.
+    /// How the image is run. What it says of reports and workers means nothing here.
     pub line: RunLine,
+    /// What is asked of that run.
+    pub question: Question,
+}
+
+/// What is asked of the plain run of an image.
+#[derive(Clone, Copy, Debug, PartialEq, Eq)]
+pub enum Question {
+    /// The entry of the lap that begins at a visit.
+    Entry(Visit),
+    /// What a guess of a visit from the two before it has wrong; the number is at least 3.
+    Miss(Visit),
+    /// The registers after so many steps.
+    At(u64),
+    /// How often addresses are met.
+    Profile(Addresses),
+}
+
+/// A visit of an address.
+#[derive(Clone, Copy, Debug, PartialEq, Eq)]
+pub struct Visit {
     /// The address.
     pub pc: u32,
     /// Which visit of it, from 1 on.
-    pub visit: u64,
+    pub number: u64,
+}
+
+/// Which addresses of those that a run meets.
+#[derive(Clone, Copy, Debug, PartialEq, Eq)]
+pub enum Addresses {
+    /// Those that a step led back to.
+    Heads,
+    /// All.
+    All,
 }
 
 const WRONG: LineFault = LineFault::Usage(Bad::Words);
@@ -24,24 +54,109 @@ const WRONG: LineFault = LineFault::Usage(Bad::Words);
 pub fn request_of(alloc: Global, words: &[String]) -> Result<Request, LineFault>
     ensures asks { IfOk result (λ request. Asks (map string_bytes words.now) request) }
     ensures within { IfOk result (λ request. IsRunWithin request.line) }
-    ensures visit { IfOk result (λ request. 1 ≤ request.visit) }
+    ensures number { IfOk result (λ request. HasNumber request.question) }
     ensures usage { (bad : Bad) → result ≡ Err (LineFault.Usage bad)
         → (request : Request) → Asks (map string_bytes words.now) request → ⊥ }
+{
+    if words.len() < 2 {
+        return Err(WRONG);
+    }
+    match words[1].as_str() {
+        "entry" => {
+            let (line, visit) = visit_of(alloc, words, 1)?;
+            let question = Question::Entry(visit);
+            Ok(Request { line, question })
+        }
+        "miss" => {
+            let (line, visit) = visit_of(alloc, words, 3)?;
+            let question = Question::Miss(visit);
+            Ok(Request { line, question })
+        }
+        "at" => {
+            let (line, count) = count_of(alloc, words)?;
+            let question = Question::At(count);
+            Ok(Request { line, question })
+        }
+        "profile" => {
+            let (line, addresses) = addresses_of(alloc, words)?;
+            let question = Question::Profile(addresses);
+            Ok(Request { line, question })
+        }
+        _ => Err(WRONG),
+    }
+}
+
+/// The run and the visit of a question with an image, an address and a visit's number, which is at least this.
+fn visit_of(alloc: Global, words: &[String], least: u64) -> Result<(RunLine, Visit), LineFault>
+    ensures asks { IfOk result (λ asked. AsksVisit least (map string_bytes words.now) asked.0 asked.1) }
+    ensures within { IfOk result (λ asked. IsRunWithin asked.0) }
+    ensures usage { (bad : Bad) → result ≡ Err (LineFault.Usage bad)
+        → (line : RunLine) (visit : Visit) → AsksVisit least (map string_bytes words.now) line visit → ⊥ }
+{
+    if words.len() < 5 {
+        return Err(WRONG);
+    }
+    let Some(number) = number(words[4].as_str()) else {
+        return Err(WRONG);
+    };
+    if number < least {
+        return Err(WRONG);
+    }
+    let mut asked = run_words(alloc)?;
+    put_word(alloc, &mut asked, words[2].as_str())?;
+    put_word(alloc, &mut asked, "--pc")?;
+    put_word(alloc, &mut asked, words[3].as_str())?;
+    let line = line_with(alloc, asked, &words[5..])?;
+    match line.pc {
+        Some(pc) => Ok((line, Visit { pc, number })),
+        None => Err(WRONG),
+    }
+}
+
+/// The run and the count of a question with an image and a count of steps.
+fn count_of(alloc: Global, words: &[String]) -> Result<(RunLine, u64), LineFault>
+    ensures asks { IfOk result (λ asked. AsksCount (map string_bytes words.now) asked.0 asked.1) }
+    ensures within { IfOk result (λ asked. IsRunWithin asked.0) }
+    ensures usage { (bad : Bad) → result ≡ Err (LineFault.Usage bad)
+        → (line : RunLine) (count : ℕ) → AsksCount (map string_bytes words.now) line count → ⊥ }
 {
     if words.len() < 4 {
         return Err(WRONG);
     }
-    let Some(visit) = number(words[3].as_str()) else {
+    let Some(count) = number(words[3].as_str()) else {
         return Err(WRONG);
     };
-    let asked = run_words(alloc, words)?;
-    match parse(alloc, &asked)? {
-        Line::Run(line) => match line.pc {
-            Some(pc) => Ok(Request { line, pc, visit }),
-            None => Err(WRONG),
-        },
-        _ => Err(WRONG),
+    let mut asked = run_words(alloc)?;
+    put_word(alloc, &mut asked, words[2].as_str())?;
+    let line = line_with(alloc, asked, &words[4..])?;
+    Ok((line, count))
+}
+
+/// The run and the addresses of a question with an image, maybe behind `--all`.
+fn addresses_of(alloc: Global, words: &[String]) -> Result<(RunLine, Addresses), LineFault>
+    requires { 2 ≤ length words.now }
+    ensures asks { IfOk result (λ asked. AsksAddresses (map string_bytes words.now) asked.0 asked.1) }
+    ensures within { IfOk result (λ asked. IsRunWithin asked.0) }
+    ensures usage { (bad : Bad) → result ≡ Err (LineFault.Usage bad)
+        → (line : RunLine) (addresses : Addresses) → AsksAddresses (map string_bytes words.now) line addresses → ⊥ }
+{
+    let asked = run_words(alloc)?;
+    if has_all(words) {
+        let line = line_with(alloc, asked, &words[3..])?;
+        Ok((line, Addresses::All))
+    } else {
+        let line = line_with(alloc, asked, &words[2..])?;
+        Ok((line, Addresses::Heads))
     }
+}
+
+/// Whether the third word is `--all`.
+fn has_all(words: &[String]) -> bool
+    ensures yes { result ≡ true → word_at 2 (map string_bytes words.now) ≡ codes "--all" }
+    ensures no { result ≡ false → word_at 2 (map string_bytes words.now) ≢ codes "--all" }
+    ensures enough { result ≡ true → 3 ≤ length words.now }
+{
+    words.len() > 2 && words[2].as_str() == "--all"
 }
 
 /// The number of a text, where it is one.
@@ -49,26 +164,37 @@ fn number(text: &str) -> Option<u64>
     ensures some { IfSome result (λ number. IsNumber text.now number) }
     ensures none { IsNone result → (number : ℕ) → IsNumber text.now number → ⊥ }
 {
-    match u64::from_str_radix(text, 10) {
-        Ok(number) if number >= 1 => Some(number),
-        _ => None,
+    u64::from_str_radix(text, 10).ok()
+}
+
+/// The line of some words and options behind them, where it is one of `asc run`.
+fn line_with(
+    alloc: Global,
+    mut asked: Vec<String>,
+    options: &[String],
+) -> Result<RunLine, LineFault>
+    ensures line { IfOk result (λ line.
+        line_of (map string_bytes asked.items ++ map string_bytes options.now) ≡ Ok (Run line)) }
+    ensures within { IfOk result (λ line. IsRunWithin line) }
+    ensures usage { (bad : Bad) → result ≡ Err (LineFault.Usage bad) → (line : RunLine)
+        → line_of (map string_bytes asked.items ++ map string_bytes options.now) ≡ Ok (Run line) → ⊥ }
+{
+    for word in options {
+        put_word(alloc, &mut asked, word.as_str())?;
+    }
+    match parse(alloc, &asked)? {
+        Line::Run(line) => Ok(line),
+        _ => Err(WRONG),
     }
 }
 
-/// The command line of `asc run` that the words stand for.
-fn run_words(alloc: Global, words: &[String]) -> Result<Vec<String>, AllocError>
-    requires { 4 ≤ length words.now }
-    ensures { IfOk result (λ asked. map string_bytes asked.items ≡ run_words (map string_bytes words.now)) }
+/// The words with which a line of `asc run` begins.
+fn run_words(alloc: Global) -> Result<Vec<String>, AllocError>
+    ensures { IfOk result (λ asked. map string_bytes asked.items ≡ codes "asc" ∷ codes "run" ∷ []) }
 {
     let mut asked = Vec::new(alloc);
     put_word(alloc, &mut asked, "asc")?;
     put_word(alloc, &mut asked, "run")?;
-    put_word(alloc, &mut asked, words[1].as_str())?;
-    put_word(alloc, &mut asked, "--pc")?;
-    put_word(alloc, &mut asked, words[2].as_str())?;
-    for word in &words[4..] {
-        put_word(alloc, &mut asked, word.as_str())?;
-    }
     Ok(asked)
 }
 

@@ -1,28 +1,30 @@
-//! An entry, shown.
-ghost use Rattle.std.specs.Prelude.{◌≡◌, ◌≢◌, ◌≤◌, map};
+//! What a command line asks for, shown.
+ghost use Rattle.std.specs.Prelude.{◌≡◌, ◌≢◌, IfErr, IfOk, IsErrAnd, map};
 ghost use Rattle.std.specs.String.{string_bytes};
 ghost use Rattle.asc_outside.specs.Outside.{Blames};
+ghost use Rattle.asc_run.specs.Walk.{HasNotBegun};
 ghost use Rattle.asc_words.specs.Line.{IsRunWithin};
-ghost use Rattle.asc_show.specs.Shown.{Answers, AsksForImage, HasInputFailed, IsShowing, Says, outer};
+ghost use Rattle.asc_show.specs.Asked.{HasNumber};
+ghost use Rattle.asc_show.specs.Shown.{Answers, AsksForImage, HasInputFailed, HasNoText, HasOutputFailed, Says, ShowsText, counted_world, outer};
 
 use crate::answer::Answer;
-use crate::lap::{Lap, trace_lap};
-use crate::request::{Request, request_of};
-use crate::text::entry_text;
-use crate::visit::Visitor;
+use crate::entry::entry_of_visit;
+use crate::miss::misses_at;
+use crate::profile::profile;
+use crate::registers::registers_after;
+use crate::request::{Question, Request, request_of};
 use asc_elf::read;
-use asc_outside::{CountSink, Failed, Loaded, Sink, Source, Store, StoreFault, put_all};
+use asc_outside::{Failed, Loaded, Sink, Source, Store, StoreFault, put_all};
 use asc_run::Process;
 use asc_shape::Steps;
 use asc_words::FILE_LIMIT;
 use std::alloc::Global;
 use std::sync::ledger::Ledger;
 
-/// Runs an image plainly to a visit of an address, traces the lap that begins there, and puts the text of its entry to
-/// out.
+/// Puts to out what words ask of the plain run of an image.
 ///
-/// The words are the program's name, an image of the store, the address, the visit's number, and options of `asc run`.
-/// What the guest writes is only counted.
+/// The words are the program's name, a question, an image of the store, what the question is about, and options of
+/// `asc run`. What the guest writes is only counted.
 pub fn show<F: Store, I: Source, O: Sink, L: Ledger>(
     alloc: Global,
     words: &[String],
@@ -38,6 +40,8 @@ pub fn show<F: Store, I: Source, O: Sink, L: Ledger>(
     // The store, the input and the output have failed where that is answered, once, and else not.
     ensures store { Blames (result ≡ Answer.StoreFault) (F.faults store.old) (F.faults store.new) }
     ensures input { Blames (HasInputFailed result) (I.faults input.old) (I.faults input.new) }
+    // What the guest writes is counted, and that can't fail.
+    ensures counted { HasOutputFailed result → ⊥ }
     ensures out { Blames (result ≡ Answer.OutFault) (O.faults out.old) (O.faults out.new) }
 {
     let request = match request_of(alloc, words) {
@@ -63,11 +67,13 @@ pub fn show_file<I: Source, O: Sink, L: Ledger>(
     steps: &mut Steps<L>,
 ) -> Answer
     requires within { IsRunWithin request.now.line }
-    requires visit { 1 ≤ request.now.visit }
+    requires number { HasNumber request.now.question }
     ensures says { Says request.now file.now
         (outer (I.left input.old) (O.given out.old) steps.old (I.faults input.old))
         (outer (I.left input.new) (O.given out.new) steps.new (I.faults input.new)) result }
     ensures input { Blames (HasInputFailed result) (I.faults input.old) (I.faults input.new) }
+    // What the guest writes is counted, and that can't fail.
+    ensures counted { HasOutputFailed result → ⊥ }
     ensures out { Blames (result ≡ Answer.OutFault) (O.faults out.old) (O.faults out.new) }
     ensures read { result ≢ Answer.StoreFault }
 {
@@ -79,45 +85,40 @@ pub fn show_file<I: Source, O: Sink, L: Ledger>(
     let Ok(process) = Process::new(alloc, &image) else {
         return Answer::Memory;
     };
-    let mut visitor = Visitor { process, visits: 0 };
-    let (mut guest_out, mut guest_err) = (CountSink::new(), CountSink::new());
-    if let Some(ended) = visitor.come(
-        request.pc,
-        request.visit,
-        line.limit,
-        input,
-        &mut guest_out,
-        &mut guest_err,
-        steps,
-    ) {
-        return Answer::Ended(ended, visitor.visits);
-    }
-    match trace_lap(
-        alloc,
-        &visitor.process.state,
-        request.pc,
-        line.laps,
-        line.span,
-    ) {
-        Ok(lap) => show_lap(alloc, &lap, out),
-        Err(_) => Answer::Memory,
+    match text_of(alloc, process, request, input, steps) {
+        Ok(text) => match put_all(out, &text) {
+            Ok(()) => Answer::Shown,
+            Err(Failed) => Answer::OutFault,
+        },
+        Err(answer) => answer,
     }
 }
 
-/// Puts the text of a lap's entry to out.
-fn show_lap<O: Sink>(alloc: Global, lap: &Lap, out: &mut O) -> Answer
-    ensures showing { IsShowing lap.now (O.given out.old) (O.given out.new) result }
-    ensures out { Blames (result ≡ Answer.OutFault) (O.faults out.old) (O.faults out.new) }
-    ensures read { result ≢ Answer.StoreFault }
+/// The text that is asked for of a program that has not begun, or why there is none.
+fn text_of<I: Source, L: Ledger>(
+    alloc: Global,
+    process: Process,
+    request: &Request,
+    input: &mut I,
+    steps: &mut Steps<L>,
+) -> Result<Vec<u8>, Answer>
+    requires within { IsRunWithin request.now.line }
+    requires number { HasNumber request.now.question }
+    requires start { HasNotBegun process.count process.calls }
+    ensures shown { IfOk result (λ text. ShowsText request.now.line request.now.question
+        (counted_world process.state process.calls (I.left input.old) steps.old (I.faults input.old))
+        (I.left input.new) steps.new text.items) }
+    ensures ended { IfErr result (λ answer. HasNoText request.now.line request.now.question
+        (counted_world process.state process.calls (I.left input.old) steps.old (I.faults input.old))
+        (I.left input.new) steps.new answer) }
+    ensures input { Blames (IsErrAnd result HasInputFailed) (I.faults input.old) (I.faults input.new) }
+    ensures counted { IfErr result (λ answer. HasOutputFailed answer → ⊥) }
 {
-    let Some(entry) = &lap.entry else {
-        return Answer::NoStep;
-    };
-    let Ok(text) = entry_text(alloc, entry, lap.why) else {
-        return Answer::Memory;
-    };
-    match put_all(out, &text) {
-        Ok(()) => Answer::Shown,
-        Err(Failed) => Answer::OutFault,
+    let line = &request.line;
+    match request.question {
+        Question::Entry(visit) => entry_of_visit(alloc, process, line, visit, input, steps),
+        Question::Miss(visit) => misses_at(alloc, process, line, visit, input, steps),
+        Question::At(count) => registers_after(alloc, process, line, count, input, steps),
+        Question::Profile(addresses) => profile(alloc, process, line, addresses, input, steps),
     }
 }

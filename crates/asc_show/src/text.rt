@@ -27,7 +27,7 @@ pub(crate) fn entry_text(alloc: Global, entry: &Entry, why: Why) -> Result<Vec<u
 }
 
 /// Where a trace ended.
-fn why_text(why: Why) -> &'static str
+pub(crate) fn why_text(why: Why) -> &'static str
     ensures { result.now ≡ why_text why }
 {
     match why {
@@ -41,7 +41,7 @@ fn why_text(why: Why) -> &'static str
 }
 
 /// Appends a number in decimal.
-fn put_number(text: &mut Vec<u8>, number: u64) -> Result<(), AllocError>
+pub(crate) fn put_number(text: &mut Vec<u8>, number: u64) -> Result<(), AllocError>
     ensures { OnOk result (text.new.items ≡ text.old.items ++ decimal number) }
 {
     let mut buffer = Buffer::new();
@@ -49,7 +49,11 @@ fn put_number(text: &mut Vec<u8>, number: u64) -> Result<(), AllocError>
 }
 
 /// Appends the lines of cells.
-fn put_cells(text: &mut Vec<u8>, shape: Shape, cells: &[(u32, u8)]) -> Result<(), AllocError>
+pub(crate) fn put_cells(
+    text: &mut Vec<u8>,
+    shape: Shape,
+    cells: &[(u32, u8)],
+) -> Result<(), AllocError>
     requires { All (λ cell. cell.0 < length_of shape) cells.now }
     ensures { OnOk result (text.new.items ≡ text.old.items ++ cells_text shape 0 cells.now) }
 {
@@ -80,7 +84,7 @@ fn put_first(text: &mut Vec<u8>, shape: Shape, cells: &[(u32, u8)]) -> Result<us
 }
 
 /// The bytes of the first four cells, the highest first, where they are a word.
-fn word_of(cells: &[(u32, u8)]) -> Option<[u8; 4]>
+pub(crate) fn word_of(cells: &[(u32, u8)]) -> Option<[u8; 4]>
     ensures { option_map (λ bytes. bytes) result ≡ word_of cells.now }
 {
     match cells {
@@ -113,7 +117,7 @@ fn put_line(text: &mut Vec<u8>, shape: Shape, place: u32, bytes: &[u8]) -> Resul
 }
 
 /// Appends a place's name, or its address in memory.
-fn put_place(text: &mut Vec<u8>, shape: Shape, place: u32) -> Result<(), AllocError>
+pub(crate) fn put_place(text: &mut Vec<u8>, shape: Shape, place: u32) -> Result<(), AllocError>
     requires { place < length_of shape }
     ensures { OnOk result (text.new.items ≡ text.old.items ++ place_text shape place) }
 {
@@ -137,7 +141,7 @@ fn names() -> &'static [u8]
 }
 
 /// Appends two hexadecimal digits for each byte.
-fn put_hex(text: &mut Vec<u8>, bytes: &[u8]) -> Result<(), AllocError>
+pub(crate) fn put_hex(text: &mut Vec<u8>, bytes: &[u8]) -> Result<(), AllocError>
     requires { length bytes.now ≤ 4 }
     ensures { OnOk result (text.new.items ≡ text.old.items ++ encode_lower bytes.now) }
 {

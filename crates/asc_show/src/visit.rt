@@ -1,9 +1,11 @@
-//! A program that is run plainly to a visit of an address.
-ghost use Rattle.std.specs.Prelude.{◌≡◌, ◌≤◌, ◌<◌, ◌+◌, ◌^◌, true, false, Some, None, IsNone, IfSome, if◌then◌else◌};
-ghost use Rattle.asc_calls.specs.World.{world, faults, BlamesOnly};
+//! A program that is run plainly to visits of an address.
+ghost use Rattle.std.specs.Prelude.{◌≡◌, ◌≤◌, ◌<◌, ◌+◌, ◌^◌, ℕ, List, true, false, Some, None, IsNone, IfSome, if◌then◌else◌};
+ghost use Rattle.asc_model.specs.State.{State};
+ghost use Rattle.asc_calls.specs.World.{World, world, faults, BlamesOnly};
 ghost use Rattle.asc_run.specs.Turn.{device_of_turn};
 ghost use Rattle.asc_run.specs.Visits.{is_at};
 ghost use Rattle.asc_show.specs.Visited.{Comes, EndsBefore};
+ghost use Rattle.asc_show.specs.Seen.{ComesFrom, IsOnWay};
 
 use asc_outside::{Sink, Source};
 use asc_run::{Ended, Process};
@@ -14,7 +16,7 @@ use std::sync::ledger::Ledger;
 #[derive(Drop)]
 pub(crate) struct Visitor {
     pub(crate) process: Process,
-    /// How often it stood at the address.
+    /// How often it stood at the address, but for the visit to which it came last.
     pub(crate) visits: u64,
 }
 
@@ -54,11 +56,52 @@ impl Visitor {
             (faults (I.faults input.old) (O.faults out.old) (E.faults err.old))
             (faults (I.faults input.new) (O.faults out.new) (E.faults err.new)) }
     {
+        self.come_on(pc, visit, limit, input, out, err, steps)
+    }
+
+    /// Runs a program on until it stands at `pc` for the `visit`th time, as `come` does from its start. It goes on from a
+    /// visit to which it came, or has not begun.
+    pub(crate) fn come_on<I: Source, O: Sink, E: Sink, L: Ledger>(
+        &mut self,
+        pc: u32,
+        visit: u64,
+        limit: u64,
+        input: &mut I,
+        out: &mut O,
+        err: &mut E,
+        steps: &mut Steps<L>,
+    ) -> Option<Ended>
+        requires limit { limit ≤ 2 ^ 40 }
+        requires count { self.old.process.count ≤ limit }
+        requires few { self.old.visits ≤ self.old.process.count }
+        requires before { self.old.visits < visit }
+        // Wherever it began, and whatever was seen at earlier visits.
+        ensures there { IsNone result → (start : World) (seen : List (ℕ × State)) → IsOnWay pc self.old.visits seen start
+            (world self.old.process.state self.old.process.calls (I.left input.old) (O.given out.old) (E.given err.old) steps.old
+            (faults (I.faults input.old) (O.faults out.old) (E.faults err.old))) self.old.process.count
+            → ComesFrom pc visit seen start
+            (world self.new.process.state self.new.process.calls (I.left input.new) (O.given out.new) (E.given err.new) steps.new
+            (faults (I.faults input.new) (O.faults out.new) (E.faults err.new))) self.new.process.count }
+        ensures ended { IfSome result (λ ended. (start : World) (seen : List (ℕ × State)) → IsOnWay pc self.old.visits seen start
+            (world self.old.process.state self.old.process.calls (I.left input.old) (O.given out.old) (E.given err.old) steps.old
+            (faults (I.faults input.old) (O.faults out.old) (E.faults err.old))) self.old.process.count
+            → EndsBefore limit pc self.new.visits start
+            (world self.new.process.state self.new.process.calls (I.left input.new) (O.given out.new) (E.given err.new) steps.new
+            (faults (I.faults input.new) (O.faults out.new) (E.faults err.new))) self.new.process.count ended) }
+        ensures before { self.new.visits < visit }
+        ensures last { IsNone result → self.new.visits + 1 ≡ visit }
+        ensures few { IsNone result → self.new.visits ≤ self.new.process.count }
+        ensures limit { self.new.process.count ≤ limit }
+        ensures below { IsNone result → self.new.process.count < limit }
+        ensures faults { BlamesOnly (device_of_turn result)
+            (faults (I.faults input.old) (O.faults out.old) (E.faults err.old))
+            (faults (I.faults input.new) (O.faults out.new) (E.faults err.new)) }
+    {
         loop {
             if self.process.count == limit {
                 return Some(Ended::Limit);
             }
-            if self.lands(pc) && self.visits == visit {
+            if self.is_there(pc, visit) {
                 return None;
             }
             let landed = self.process.count;
@@ -71,17 +114,24 @@ impl Visitor {
         }
     }
 
-    /// Whether the program stands at `pc`, which is a visit more.
-    fn lands(&mut self, pc: u32) -> bool
-        requires { self.old.visits + 1 < 2 ^ 64 }
-        ensures is { result ≡ is_at (Some pc) self.old.process.state }
-        ensures visits { self.new.visits ≡ self.old.visits + (if is_at (Some pc) self.old.process.state then 1 else 0) }
+    /// Whether the program stands at `pc` for the `visit`th time. An earlier visit is counted.
+    fn is_there(&mut self, pc: u32, visit: u64) -> bool
+        requires few { self.old.visits + 1 < 2 ^ 64 }
+        requires before { self.old.visits < visit }
+        ensures is { result ≡ true → is_at (Some pc) self.old.process.state ≡ true }
+        ensures last { result ≡ true → self.new.visits + 1 ≡ visit }
+        ensures stays { result ≡ true → self.new.visits ≡ self.old.visits }
+        ensures counts { result ≡ false → self.new.visits ≡ self.old.visits + (if is_at (Some pc) self.old.process.state then 1 else 0) }
+        ensures before { self.new.visits < visit }
         ensures kept { self.new ≡ record self.old { visits = self.new.visits } }
     {
-        let is_there = self.process.state.pc() == pc;
-        if is_there {
-            self.visits += 1;
+        if self.process.state.pc() != pc {
+            return false;
         }
-        is_there
+        if self.visits + 1 == visit {
+            return true;
+        }
+        self.visits += 1;
+        false
     }
 }

@@ -40,13 +40,24 @@ const REPORTED: Row = Row {
     ..SAVED
 };
 
-static ROWS: [Row; 17] = [
+static ROWS: [Row; 19] = [
     SAVED,
     REPORTED,
     Row {
         line: "asc run image --pc 10008 --guess none --load saved --report --workers 2",
         report: "asc: executed 7 skipped 6 asked 4 hits 2 made 0 refused 0\n\
             asc: ran 0 left 0 stored 0 known 0 empty 0 dropped 0 stopped 0 full 0\n",
+        ..SAVED
+    },
+    // In rounds the numbers are those without workers. With strides each of four guesses makes an entry that is held.
+    Row {
+        line: "asc run image --pc 10008 --guess none --load saved --report --workers 2 --rounds",
+        report: "asc: executed 7 skipped 6 asked 4 hits 2 made 0 refused 0\n",
+        ..SAVED
+    },
+    Row {
+        line: "asc run image --pc 10008 --ahead 2 --load saved --report --workers 3 --rounds",
+        report: "asc: executed 7 skipped 6 asked 4 hits 2 made 4 refused 0\n",
         ..SAVED
     },
     Row {

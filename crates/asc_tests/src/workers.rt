@@ -242,13 +242,13 @@ static ALONE: [(&str, &str); 4] = [
     ("asc run image --pc 10008 --guess stride --ahead 2", ""),
 ];
 
-/// In rounds the report is that without workers, for each number of lanes.
+/// In rounds the report is that without workers, for each number of these.
 #[test]
 fn in_rounds(rt: HostRuntime) -> Result<(), Fail> {
     let alloc = rt.alloc();
     for (alone, report) in &ALONE {
-        for lanes in ["1", "2", "3", "64"] {
-            let line = format!(in alloc; "{alone} --workers {lanes} --rounds")?;
+        for workers in ["1", "2", "3", "64"] {
+            let line = format!(in alloc; "{alone} --workers {workers} --rounds")?;
             let file = wrap(alloc, COUNTS)?;
             let want = Want { report, ..QUIET };
             check(&rt, alloc, line.as_str(), file, &SOUND, &want)?;
@@ -267,8 +267,9 @@ fn traced_until(ticket: u64, other: u64) -> Hold {
     }
 }
 
-/// Lanes run beside one another, and each round's tickets go on from those before. Of the second visit the jobs are 0 to
-/// 3, of the third one 4 and 5. One thread alone would wait for all turns.
+/// Lanes run beside one another, one of them in the run's own thread, so three workers make four. Each round's tickets go
+/// on from those before. Of the second visit the jobs are 0 to 3, of the third one 4 and 5. One thread alone would wait for
+/// all turns.
 #[test]
 fn held_rounds(rt: HostRuntime) -> Result<(), Fail> {
     let alloc = rt.alloc();
@@ -285,12 +286,12 @@ fn held_rounds(rt: HostRuntime) -> Result<(), Fail> {
         traced_until(2, 3),
         traced_until(3, 0),
     ];
-    for (lanes, holds) in [("2", pairs), ("4", four)] {
-        let line = format!(in alloc; "{alone} --workers {lanes} --rounds")?;
+    for (workers, holds) in [("1", pairs), ("2", pairs), ("3", four)] {
+        let line = format!(in alloc; "{alone} --workers {workers} --rounds")?;
         let gate = HoldGate::new(alloc, &holds, TURNS).expect(&rt, "memory");
         let files = only_image(alloc, wrap(alloc, COUNTS)?)?;
         let got = run_gated(&rt, alloc, line.as_str(), files, &SOUND, &gate)?;
-        assert!(rt; gate.all_held(), "a lane ran alone, of {lanes}");
+        assert!(rt; gate.all_held(), "a lane ran alone, of {workers} workers");
         assert_eq!(rt;
             (got.answer, got.report.bytes()),
             (Answer::Exit(0), report.as_bytes())

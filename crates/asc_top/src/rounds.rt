@@ -1,5 +1,5 @@
 //! Runs in threads: with workers beside the walk, or in rounds.
-ghost use Rattle.std.specs.Prelude.{◌≡◌, ◌^◌, ◌<◌, ◌≤◌, map, IfOk, IsNone, None};
+ghost use Rattle.std.specs.Prelude.{◌≡◌, ◌+◌, ◌^◌, ◌<◌, ◌≤◌, map, IfOk, IsNone, None};
 ghost use Rattle.std.specs.Arc.{arc_value};
 ghost use Rattle.asc_calls.specs.World.{faults, outside};
 ghost use Rattle.asc_run.specs.Helped.{HasRoom};
@@ -24,6 +24,9 @@ use std::alloc::Global;
 use std::sync::ledger::Ledger;
 use std::sync::{Arc, Wait};
 use std::thread::Threads;
+
+/// The most lanes of a run in rounds.
+const MOST_LANES: usize = 64;
 
 /// Runs a walk that has not begun to its end, as a line asks: in rounds where there are lanes, and else with workers beside
 /// it. It has these entries before its first visit.
@@ -66,8 +69,8 @@ pub(crate) fn walk_in_threads<
     }
 }
 
-/// Runs a walk that has not begun to its end, as a line without workers asks. Lanes run the guesses of each visit in
-/// rounds. It has these entries before its first visit.
+/// Runs a walk that has not begun to its end, as a line without workers beside it asks. So many workers and the run's own
+/// thread follow the guesses of each visit in rounds. It has these entries before its first visit.
 ///
 /// What nobody sees is not run, as without lanes.
 fn walk_in_rounds<T: Threads + Sync, G: Gate + Sync, I: Source, O: Sink, E: Sink, L: Ledger>(
@@ -97,7 +100,13 @@ fn walk_in_rounds<T: Threads + Sync, G: Gate + Sync, I: Source, O: Sink, E: Sink
     if !keeps_entries(line) {
         return walk_alone(alloc, line, walk, first, input, out, err, steps);
     }
-    match rounds_with(alloc, walk.shape(), guessing_of(line), lanes, first) {
+    match rounds_with(
+        alloc,
+        walk.shape(),
+        guessing_of(line),
+        lanes_beside(lanes),
+        first,
+    ) {
         Ok(mut rounds) => go_in_rounds(
             rt,
             line.report,
@@ -146,6 +155,17 @@ fn go_in_rounds<T: Threads + Sync, G: Gate + Sync, I: Source, O: Sink, E: Sink, 
         rounds.made(),
         rounds.refused(),
     )
+}
+
+/// How many lanes there are with so many workers: one of each, and one of the run's own thread, which waits for them. There
+/// are 64 at most.
+fn lanes_beside(workers: usize) -> usize
+    requires some { 1 ≤ workers }
+    requires few { workers ≤ 64 }
+    ensures one { workers < 64 → result ≡ workers + 1 }
+    ensures most { workers ≡ 64 → result ≡ 64 }
+{
+    (workers + 1).min(MOST_LANES)
 }
 
 /// A helper in rounds that was not visited yet. It has these entries, and so many lanes.

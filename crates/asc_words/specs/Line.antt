@@ -57,7 +57,7 @@ guesses_of text =
 abbrev pub beside_in : List Row → ℕ
 beside_in rows = if flag_in (codes "rounds") rows then 0 else number_in (codes "workers") rows
 
--- how many lanes run the guesses of each visit, where it goes in rounds
+-- how many workers follow the guesses of each visit beside the run's own thread, where it goes in rounds
 abbrev pub lanes_in : List Row → ℕ
 lanes_in rows = if flag_in (codes "rounds") rows then number_in (codes "workers") rows else 0
 

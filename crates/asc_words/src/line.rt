@@ -75,7 +75,8 @@ pub struct RunLine {
     pub ahead: u32,
     /// How many workers go beside the run, at most 64. None do where it goes in rounds.
     pub workers: usize,
-    /// How many lanes run the guesses of each visit in rounds, at most 64, and 0 where it does not go in rounds.
+    /// How many workers follow the guesses of each visit in rounds, beside the run's own thread: at most 64, and 0 where it
+    /// does not go in rounds.
     pub lanes: usize,
     /// How many guesses wait for workers at most, from 1 to 1,024.
     pub queue: usize,
@@ -98,8 +99,8 @@ pub enum Line {
     Make {
         n: u64,
     },
-    /// `asc trial`: a run of the generated image of this number, with at most 64 workers beside it, or in rounds with at
-    /// most 64 lanes.
+    /// `asc trial`: a run of the generated image of this number, with at most 64 workers beside it, or at most 64 in
+    /// rounds (`lanes`).
     Trial {
         n: u64,
         workers: usize,

@@ -1,11 +1,11 @@
 -- What each lane has run, and where the result of a job stands.
-use Rattle.std.proofs.Common.{◌≡◌, ◌≢◌, ◌⊎◌, ◌↔◌, ℕ, zero, suc, ◌+◌, ◌*◌, ◌/◌, ◌%◌, ◌<◌, ◌≤◌, List, [], ◌∷◌, ◌++◌, true, Option, Some, None, Vec, length, get_or, set, take, drop, replicate, nat_lt, vec_capacity, All, refl, sym, ap, subst, ◌∙◌, ⊎_elim, inl, inr, arith, length-append}
+use Rattle.std.proofs.Common.{◌≡◌, ◌≢◌, ◌⊎◌, ◌↔◌, ℕ, zero, suc, ◌+◌, ◌-◌, ◌*◌, ◌/◌, ◌%◌, ◌<◌, ◌≤◌, List, [], ◌∷◌, ◌++◌, true, Option, Some, None, Vec, length, get_or, set, take, drop, replicate, nat_lt, vec_capacity, All, refl, sym, ap, subst, ◌∙◌, ⊎_elim, inl, inr, arith, length-append}
 use Rattle.std.specs.Int.{div_ceil}
 use Rattle.std.specs.Global.{Global}
 use Rattle.std.specs.Option.{is_some}
 use Rattle.std.proofs.Math.Nat.{div-lt_iff_lt-mul, div-mul-le_self, le_of_lt, lt_of_mul-lt-mul_right, mod-eq-sub-div-mul, mod-lt, mul-le-mul_right}
 use Rattle.std.proofs.Math.Seq.{map-set_same}
-use Rattle.std.proofs.lemmas.List.{ext_get_or, get_or-map, get_or_past, get_or-set_same, get_or-set_other, length-map, length-set, map-append, map-set, replicate-append-replicate}
+use Rattle.std.proofs.lemmas.List.{ext_get_or, get_or-append-add, get_or_append_left, get_or-map, get_or_past, get_or-set_same, get_or-set_other, length-map, length-set, map-append, map-set, replicate-append-replicate}
 use Rattle.std.proofs.lemmas.List.Elements.{All-push}
 use Rattle.std.proofs.lemmas.List.FromFn.{get_or-map-range_with_len, length-map-range_with_len}
 use Rattle.std.proofs.lemmas.Bool.{cases_lt, false≢true, le-ltb}
@@ -193,6 +193,24 @@ dealt_set lists jobs i left some is =
     ∙ sym (get_or-set_same (dealt lists jobs) i None None inside) ∙ ap (λ (x : ℕ). get_or (set (dealt lists jobs) i None) x None) (sym same))
     (λ (other : j ≢ i). set_elsewhere lists n i j left other is k ∙ sym (dealt_at lists jobs j m) ∙ sym (get_or-set_other (dealt lists jobs) i j None None other))
     (same_or_not j i))
+
+-- ---- lanes in two parts
+
+-- What holds of each of the first lanes, and of each behind them, by its place among all. `busy` is how many are first.
+pub over_parts : {X : Type 0} (P : ℕ → X → Type 0) (busy first rest size : ℕ) (front back : List X) → first ≡ busy → rest + busy ≡ size → length front ≡ first → length back ≡ rest
+    → ((k : ℕ) (d : X) → k < first → P (0 + k) (get_or front k d)) → ((k : ℕ) (d : X) → k < rest → P (busy + k) (get_or back k d))
+    → (k : ℕ) (d : X) → k < size → P k (get_or (front ++ back) k d)
+over_parts P busy first rest size front back first_is size_is front_size back_size before behind k d l = elim (cases_lt k (length front)) [
+  | inl x ↦ let at : 0 + k ≡ k = omega arith in
+      subst (λ lane. P k lane) (sym (get_or_append_left front back d k x))
+      (subst (λ n. P n (get_or front k d)) at (before k d (omega (arith, x, front_size))))
+  | inr x ↦ let i = k - length front in
+      let at : busy + i ≡ k = omega (arith, x, first_is, front_size) in
+      let place : length front + i ≡ k = omega (arith, x) in
+      let here : get_or back i d ≡ get_or (front ++ back) k d = sym (get_or-append-add front back i d) ∙ ap (λ n. get_or (front ++ back) n d) place in
+      subst (λ n. P n (get_or (front ++ back) k d)) at
+      (subst (λ lane. P (busy + i) lane) here (behind i d (omega (arith, x, l, size_is, first_is, front_size))))
+]
 
 -- ---- the fields of lanes
 

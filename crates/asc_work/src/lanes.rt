@@ -1,4 +1,4 @@
-ghost use Rattle.std.specs.Prelude.{◌≡◌, ℕ, ◌^◌, ◌<◌, ◌≤◌, [], Some, None, true, All, IfOk, length, replicate, set, slice_index_or};
+ghost use Rattle.std.specs.Prelude.{◌≡◌, ℕ, ◌+◌, ◌^◌, ◌<◌, ◌≤◌, [], Some, None, true, All, IfOk, length, replicate, set, slice_index_or};
 ghost use Rattle.std.specs.Option.{is_some};
 ghost use Rattle.asc_model.specs.Shape.{Shape};
 ghost use Rattle.asc_work.specs.declared.lane.Lane.{Lane};
@@ -17,8 +17,8 @@ use std::thread::{Threads, for_each_mut};
 /// At most how many jobs a round has.
 pub const MOST_JOBS: usize = 128;
 
-/// They run the jobs of a visit beside one another, each lane in a thread of its own where there are two jobs or more and
-/// a thread can be made. A round's threads end with it. The results are those of one lane that runs all jobs, but for want
+/// They run the jobs of a visit beside one another. A lane that has a job runs in a thread of its own, where one can be made,
+/// but for one, which the caller runs. A lane without a job starts none. A round's threads end with it. The results are those of one lane that runs all jobs, but for want
 /// of memory, and are taken in any order.
 ///
 /// Contracts see it as the `Lanes` of `specs/`.
@@ -153,18 +153,18 @@ fn new_lanes(alloc: Global, shape: Shape, lanes: usize) -> Result<Vec<Lane>, Mem
     Ok(made)
 }
 
-// In how many threads a round is run. A single job is run by the caller.
-fn threads_for(round: &Round<'_>) -> usize
+// How many lanes have a job of a round, and one where it has none.
+fn busy_lanes(round: &Round<'_>) -> usize
     requires { 1 ≤ round.now.lanes }
-    ensures { 1 ≤ result }
+    ensures some { 1 ≤ result }
+    ensures most { result ≤ round.now.lanes }
+    ensures others { (k : ℕ) → result ≤ k → k < round.now.lanes → length round.now.jobs.now ≤ k }
 {
-    match round.jobs.len() {
-        0 | 1 => 1,
-        _ => round.lanes,
-    }
+    round.jobs.len().clamp(1, round.lanes)
 }
 
-// Runs the jobs of a round, each lane in a thread of its own where there are two jobs or more, and one can be made.
+// Runs the jobs of a round, those of one lane in the caller's thread, and those of each other that has one in a thread of its
+// own, where one can be made.
 fn run_all<R: Threads + Sync, G: Gate + Sync>(
     rt: &R,
     lanes: &mut [Lane],
@@ -179,12 +179,35 @@ fn run_all<R: Threads + Sync, G: Gate + Sync>(
     ensures only { (k : ℕ) (d : Lane) → k < length lanes.old → HasRunOnly round.now k (slice_index_or lanes.new k d) }
     ensures count { length lanes.new ≡ length lanes.old }
 {
-    let threads = threads_for(round);
+    let busy = busy_lanes(round);
+    let (working, resting) = lanes.split_at_mut(busy);
+    run_from(rt, working, 0, busy, round, gate);
+    run_from(rt, resting, busy, 1, round, gate);
+}
+
+// Runs the jobs of some lanes of a round, from the `start`th on, in so many threads, where these can be made.
+fn run_from<R: Threads + Sync, G: Gate + Sync>(
+    rt: &R,
+    lanes: &mut [Lane],
+    start: usize,
+    threads: usize,
+    round: &Round<'_>,
+    gate: &G,
+)
+    requires threads { 1 ≤ threads }
+    requires within { start + length lanes.old ≤ round.now.lanes }
+    requires round { IsRound round.now.last.now.value.shape round.now }
+    requires each { All (IsLane round.now.last.now.value.shape round.now.lanes) lanes.old }
+    ensures each { All (IsLane round.now.last.now.value.shape round.now.lanes) lanes.new }
+    ensures done { (k : ℕ) (d : Lane) → k < length lanes.old → HasRunAll round.now (start + k) (slice_index_or lanes.new k d) }
+    ensures only { (k : ℕ) (d : Lane) → k < length lanes.old → HasRunOnly round.now (start + k) (slice_index_or lanes.new k d) }
+    ensures count { length lanes.new ≡ length lanes.old }
+{
     let run = |at: usize, lane: &mut Lane|
-        requires { IsRound round.now.last.now.value.shape round.now
+        requires { (start + at < 64) × IsRound round.now.last.now.value.shape round.now
             × IsLane round.now.last.now.value.shape round.now.lanes lane.now }
         ensures { IsLane round.entry.now.last.now.value.shape round.entry.now.lanes lane.exit.now
-            × HasRunAll round.entry.now at lane.exit.now × HasRunOnly round.entry.now at lane.exit.now }
-    { lane.run(at, round, gate) };
+            × HasRunAll round.entry.now (start + at) lane.exit.now × HasRunOnly round.entry.now (start + at) lane.exit.now }
+    { lane.run(start + at, round, gate) };
     for_each_mut(rt, lanes, threads, &run);
 }

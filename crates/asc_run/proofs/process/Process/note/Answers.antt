@@ -1,6 +1,7 @@
 -- One address more is noted, and the program comes one step or call further.
 use Rattle.std.proofs.Common.{◌+◌, length, refl, ap, ◌∙◌, arith}
 use Rattle.asc_run.proofs.Reach.{Reaches-turn}
+use Rattle.asc_run.proofs.Shapes.{plain-shape}
 use Rattle.asc_run.proofs.Profiled.{noted-none, noted-plain, noted-counts, numbered-none, numbered-more, long-more, ends-early}
 use Rattle.asc_run.proofs.process.Process.note.Goals as goal
 
@@ -13,6 +14,7 @@ loop-self-init g c =
       long = omega (arith, start.none, ap length c.requires.none_noted);
       numbered = numbered-none _ c.requires.none_noted;
       capacity = c.requires.room;
+      kept = refl;
       faults = refl;
     }
 
@@ -22,6 +24,10 @@ returns-in-Some-clause-ended g c = λ limit profile least a within_limit within_
     let below = c.loop-self-test.true in let here = c.if-self-noted.true in
     ends-early limit profile least _ _ _ _ c.go_on-stopped.new.self.count _ c.in-Some.ended a (omega (arith, within_limit, below, here)) (omega (arith, within_profile, below, here))
     (noted-plain c.loop-self.notes.items _ c.pc.result _ _ _ _ _ _ _ _ _ _ _ _ _ _ c.loop-self.self.count c.go_on-stopped.new.self.count c.push_reserved.ensures.items c.pc.ensures (ap (λ p. p.calls) s.kept) s.counter s.grows s.goes v.way) t.turn t.fails t.count
+
+pub returns-in-Some-clause-shape : goal.returns-in-Some-clause-shape
+returns-in-Some-clause-shape g c = λ none.
+    (c.in-Some.ensures.turn none).shape ∙ plain-shape _ _ _ c.go_on-stopped.ensures.goes ∙ c.loop-self.invariant.way.shape
 
 pub loop-self-preserved-in_default : goal.loop-self-preserved-in_default
 loop-self-preserved-in_default g c =
@@ -35,6 +41,7 @@ loop-self-preserved-in_default g c =
       long = long-more c.loop-self.notes.items _ (c.pc.result, c.loop-self.self.count) _ _ c.push_reserved.ensures.items v.long (omega (arith, one, here));
       numbered = numbered-more c.loop-self.notes.items _ c.pc.result c.loop-self.self.count c.push_reserved.ensures.items v.long v.numbered;
       capacity = (let x = v.capacity in omega (arith, x, c.push_reserved.ensures.capacity));
+      kept = c.push_reserved.ensures.capacity ∙ v.kept;
       faults = t.faults ∙ v.faults;
     }
 
@@ -48,5 +55,6 @@ loop-self-preserved g c =
       long = long-more c.loop-self.notes.items _ (c.pc.result, c.loop-self.self.count) _ _ c.push_reserved.ensures.items v.long (omega (arith, grows, most, moved));
       numbered = numbered-more c.loop-self.notes.items _ c.pc.result c.loop-self.self.count c.push_reserved.ensures.items v.long v.numbered;
       capacity = (let x = v.capacity in omega (arith, x, c.push_reserved.ensures.capacity));
+      kept = c.push_reserved.ensures.capacity ∙ v.kept;
       faults = v.faults;
     }

@@ -17,6 +17,7 @@ invariant-loop-self g l = record {
   long : length l.notes.items ≡ l.self.count;
   numbered : AreNumbered l.notes.items;
   capacity : l.stop ≤ vec_capacity l.notes;
+  kept : vec_capacity l.notes ≡ vec_capacity l.fn.notes;
   faults : faults (g.I.Source.faults l.input) (g.O.Sink.faults l.out) (g.E.Sink.faults l.err)
       ≡ faults (g.I.Source.faults l.fn.input) (g.O.Sink.faults l.fn.out) (g.E.Sink.faults l.fn.err);
 }

@@ -1,6 +1,7 @@
 -- The program comes as far as plain execution, landing by landing and turn by turn, and ends where it does.
 use Rattle.std.proofs.Common.{Some, None, refl, sym, ap, ◌∙◌, arith}
 use Rattle.asc_run.specs.Visits.{is_at}
+use Rattle.asc_run.proofs.Shapes.{jump-shape, plain-shape}
 use Rattle.asc_run.proofs.Landings.{asked-more, given-more, hits-more, landing-small}
 use Rattle.asc_run.proofs.Walking.{walk-first, walk-jump, walk-step, walk-plain, walk-still, walk-turn, walk-end, walk-limit, room-now, Plans-more}
 use Rattle.asc_run.proofs.Seeings.{SeesAll-none, SeesAll-more}
@@ -14,6 +15,7 @@ loop-self-init g c =
     let hits = ap (λ t. t.hits) told in
     record {
       walk = λ mark start way. walk-first c.args.limit mark c.args.pc c.args.self.now.process.count start _ _ _ _ given asked way;
+      shape = refl;
       grows = omega arith;
       within = c.requires.count;
       given = omega (arith, given);
@@ -54,6 +56,7 @@ loop-self-preserved-in-Some g c =
     record {
       walk = λ mark start way. walk-jump c.args.limit mark c.args.pc c.args.self.now.process.count start _ _ _ _ _ _ _ _ _ _ _ _ _ _ _ _ _ _ v.grows (omega (arith, within, not_limit)) (ap (λ p. p.process.calls) e.kept) count skipped c.in-Some.n e.jump e.passed
           (v.walk mark start way) e.number e.helped e.machine;
+      shape = jump-shape (Some c.in-Some.n) _ _ _ e.jump ∙ v.shape;
       grows = omega (arith, grows, count);
       within = omega (arith, count, most, within);
       given = (let x = v.given in omega (arith, x, given, skipped));
@@ -74,6 +77,11 @@ returns-in-Some-stop-clause-run g c = λ mark start way.
     let grows = v.grows in let within = v.within in let not_limit = c.if-self-limit.false in let count = ap (λ p. p.process.count) e.kept in let landed = c.if-self-landed.true in
     let mid = walk-still c.args.limit mark c.args.pc c.args.self.now.process.count start _ _ _ _ _ _ _ _ _ _ _ _ _ _ _ _ _ _ (ap (λ p. p.calls) s.kept) refl refl s.counter (c.if-self-landed.true ∙ sym (ap (λ p. p.process.count) e.kept)) s.goes (walk-step c.args.limit mark c.args.pc c.args.self.now.process.count start _ _ _ _ _ _ _ _ _ _ _ _ _ _ _ _ _ _ v.grows (omega (arith, within, not_limit)) (ap (λ p. p.process.calls) e.kept) (ap (λ p. p.process.count) e.kept) (ap (λ p. p.skipped) e.kept) e.jump (v.walk mark start way) e.number e.helped e.machine) in
     (walk-end c.args.limit mark c.args.pc c.args.self.now.process.count start _ _ _ _ _ _ _ _ c.in-Some-stop.ended (omega (arith, grows, count, landed)) mid (omega (arith, within, not_limit, count, landed)) t.turn t.fails t.count)
+
+pub returns-in-Some-stop-clause-shape : goal.returns-in-Some-stop-clause-shape
+returns-in-Some-stop-clause-shape g c = λ none.
+    let v = c.loop-self.invariant in let e = c.in_default.ensures in let s = c.go_on-stopped.ensures in let t = c.in-Some-stop.ensures in
+    (t.turn none).shape ∙ plain-shape _ _ _ s.goes ∙ jump-shape None 0 _ _ e.jump ∙ v.shape
 
 pub returns-in-Some-stop-clause-seen : goal.returns-in-Some-stop-clause-seen
 returns-in-Some-stop-clause-seen g c =
@@ -98,6 +106,7 @@ loop-self-preserved-in_default-stop g c =
       walk = λ mark start way.
           let mid = walk-still c.args.limit mark c.args.pc c.args.self.now.process.count start _ _ _ _ _ _ _ _ _ _ _ _ _ _ _ _ _ _ (ap (λ p. p.calls) s.kept) refl refl s.counter (c.if-self-landed.true ∙ sym (ap (λ p. p.process.count) e.kept)) s.goes (walk-step c.args.limit mark c.args.pc c.args.self.now.process.count start _ _ _ _ _ _ _ _ _ _ _ _ _ _ _ _ _ _ v.grows (omega (arith, within, not_limit)) (ap (λ p. p.process.calls) e.kept) (ap (λ p. p.process.count) e.kept) (ap (λ p. p.skipped) e.kept) e.jump (v.walk mark start way) e.number e.helped e.machine) in
           (walk-turn c.args.limit mark c.args.pc c.args.self.now.process.count start _ _ _ _ _ _ _ _ _ mid turn (omega (arith, one)));
+      shape = turn.shape ∙ plain-shape _ _ _ s.goes ∙ jump-shape None 0 _ _ e.jump ∙ v.shape;
       grows = omega (arith, grows, one, count, landed);
       within = omega (arith, within, not_limit, one, count, landed);
       given = (let x = v.given in omega (arith, x, given, same_given));
@@ -127,6 +136,7 @@ loop-self-preserved g c =
     record {
       walk = λ mark start way. walk-plain c.args.limit mark c.args.pc c.args.self.now.process.count start _ _ _ _ _ _ _ _ _ _ _ _ _ _ _ _ _ _ (omega (arith, grows, count)) (omega (arith, within, count, most)) (ap (λ p. p.calls) s.kept) refl refl s.counter (omega (arith, more, moved)) s.goes s.passes
           (walk-step c.args.limit mark c.args.pc c.args.self.now.process.count start _ _ _ _ _ _ _ _ _ _ _ _ _ _ _ _ _ _ v.grows (omega (arith, within, not_limit)) (ap (λ p. p.process.calls) e.kept) (ap (λ p. p.process.count) e.kept) (ap (λ p. p.skipped) e.kept) e.jump (v.walk mark start way) e.number e.helped e.machine);
+      shape = plain-shape _ _ _ s.goes ∙ jump-shape None 0 _ _ e.jump ∙ v.shape;
       grows = omega (arith, grows, count, more);
       within = omega (arith, within, count, most);
       given = (let x = v.given in omega (arith, x, given, same_given));

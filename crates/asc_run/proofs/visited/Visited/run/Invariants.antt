@@ -19,6 +19,7 @@ invariant-loop-self g l = record {
       l.self.process.count l.self.process.count l.self.skipped l.self.asked
       (aid (g.H.Finder.tally l.fn.helper) (g.H.Finder.replies l.fn.helper) (g.H.Finder.plan l.fn.helper) (g.H.Finder.machine l.fn.helper))
       (aid (g.H.Finder.tally l.helper) (g.H.Finder.replies l.helper) (g.H.Finder.plan l.helper) (g.H.Finder.machine l.helper));
+  shape : l.self.process.state.shape ≡ l.fn.self.process.state.shape;
   grows : l.fn.self.process.count ≤ l.self.process.count;
   within : l.self.process.count ≤ l.limit;
   given : (g.H.Finder.tally l.helper).given ≡ (g.H.Finder.tally l.fn.helper).given + l.self.skipped;

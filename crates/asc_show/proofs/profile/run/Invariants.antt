@@ -1,0 +1,31 @@
+-- The program has come as far as plain execution, and its counts so far are noted.
+use Rattle.std.proofs.Common.{◌≡◌, ℕ, ◌-◌, ◌<◌, ◌≤◌, min, length, slice_index_or, vec_capacity}
+use Rattle.asc_calls.specs.World.{world, faults}
+use Rattle.asc_run.specs.Way.{Reaches}
+use Rattle.asc_run.proofs.Profiled.{AreNumbered}
+use Rattle.asc_show.specs.Profile.{no_meetings}
+use Rattle.asc_show.proofs.Profiling.{IsWatched}
+use Rattle.asc_show.proofs.profile.run.Given as goal
+
+abbrev pub invariant-loop-process : goal.invariant-loop-process
+invariant-loop-process g l = record {
+  way : Reaches (IsWatched l.fn.notes.base l.fn.notes.profile l.notes.table.items l.notes.list.items l.back l.process.count)
+      l.fn.process.calls.low l.fn.process.calls.high l.fn.process.state
+      (world l.fn.process.state l.fn.process.calls (g.I.Source.left l.fn.input) (g.O.Sink.given l.fn.out) (g.E.Sink.given l.fn.err) l.fn.steps
+      (faults (g.I.Source.faults l.fn.input) (g.O.Sink.faults l.fn.out) (g.E.Sink.faults l.fn.err)))
+      (world l.process.state l.process.calls (g.I.Source.left l.input) (g.O.Sink.given l.out) (g.E.Sink.given l.err) l.steps
+      (faults (g.I.Source.faults l.input) (g.O.Sink.faults l.out) (g.E.Sink.faults l.err))) l.process.count 0;
+  within : l.process.count ≤ l.limit;
+  base : l.notes.base ≡ l.fn.notes.base;
+  profile : l.notes.profile ≡ l.fn.notes.profile;
+  words : length l.notes.table.items ≡ length l.fn.notes.table.items;
+  few : (k : ℕ) → k < length l.notes.table.items → (slice_index_or l.notes.table.items k no_meetings).times ≤ l.process.count;
+  long : length l.notes.list.items ≡ min l.fn.notes.profile l.process.count;
+  numbered : AreNumbered l.notes.list.items;
+  room : l.fn.notes.profile ≤ vec_capacity l.notes.list;
+  faults : faults (g.I.Source.faults l.input) (g.O.Sink.faults l.out) (g.E.Sink.faults l.err)
+      ≡ faults (g.I.Source.faults l.fn.input) (g.O.Sink.faults l.fn.out) (g.E.Sink.faults l.fn.err);
+}
+
+abbrev pub decreases-loop-process : goal.decreases-loop-process
+decreases-loop-process g l = l.limit - l.process.count
