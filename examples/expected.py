@@ -115,6 +115,15 @@ def sieve(data):
     return b"%d primes below %d, the greatest %d\n" % (len(primes), limit, max(primes))
 
 
+def primes(data):
+    """The same, and of each limit how many of them are smaller."""
+    limits = list(map(int, data.split()))
+    most = max(limits)
+    multiples = (range(number * number, most, number) for number in range(2, math.isqrt(most) + 1))
+    found = set(range(2, most)).difference(*multiples)
+    return b"".join(b"%d\n" % sum(number < limit for number in found) for limit in limits)
+
+
 def queens(data):
     """Places of the rows in all orders, where no two stand on a diagonal."""
     rows = range(int(data))
@@ -179,7 +188,7 @@ def startup(_):
 
 PROGRAMS = {function.__name__: function
             for function in (hello, echo, word_count, quicksort, sha256, matrix, collatz, collatz_chunks, ising,
-                             mandel, sieve, queens, adder, life, copies, statistics, frequencies, startup)}
+                             mandel, sieve, primes, queens, adder, life, copies, statistics, frequencies, startup)}
 
 
 def folder_of(name):

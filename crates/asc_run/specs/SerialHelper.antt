@@ -31,9 +31,11 @@ abbrev pub first_helper : Shape → Guessing → SerialHelper
 first_helper shape guessing =
     record { machine = serial_of shape guessing []; jobs = []; tally = tally 0 0 0; made = 0; refused = 0 }
 
--- one that was not visited yet in a run: its entries and counts are those that the runs before left
+-- one that was not visited yet in a run, which has the entries that the runs before left
 abbrev pub begun : SerialHelper → SerialHelper
-begun h = record h { machine = serial_of h.machine.shape h.machine.guessing h.machine.content; jobs = [] }
+begun h = record (first_helper h.machine.shape h.machine.guessing) {
+  machine = serial_of h.machine.shape h.machine.guessing h.machine.content;
+}
 
 -- what was made for it, as a finder tells it
 abbrev pub plan_of : SerialHelper → Plan

@@ -99,12 +99,17 @@ impl Serial {
         self.shard.insert(entry)
     }
 
-    /// Before the first visit of a further run, which begins with the entries that the runs before left. What was counted
-    /// stays. It takes no memory.
+    /// Before the first visit of a further run, which begins with the entries that the runs before left. It counts from 0
+    /// on. It takes no memory.
     pub fn begin(&mut self)
         ensures { self.new ≡ begun self.old }
     {
         self.visits.begin();
+        self.asked = 0;
+        self.given = 0;
+        self.hits = 0;
+        self.made = 0;
+        self.refused = 0;
     }
 
     /// Plans the guesses of a visit, which is the walk's `number`th, and answers how many jobs they are. A copy of the

@@ -320,7 +320,7 @@ fn check_again<R: Abort, L: Ledger>(rt: &R, alloc: Global, blank: Blank) -> Resu
         hits: 2,
     };
     check_run(rt, alloc, &mut walk, &mut serial, 2, &mut steps, second);
-    assert!(rt; serial.refused() > 0 || serial.made() == 6);
+    assert!(rt; serial.refused() > 0 || serial.made() == 2);
     Ok(())
 }
 
