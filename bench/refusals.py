@@ -6,12 +6,12 @@
 PROGRAM is the built asc, crates/asc_cli/out/asc_cli where it is not given. `cc` compiles bench/refusing.c, an allocator
 that is preloaded and refuses. It wants Linux with glibc.
 
-Ten commands are run. Five are of a loop of 13 steps, with guesses: `asc run` with --report, alone, with two workers, in
+Twelve commands are run. Five are of a loop of 13 steps, with guesses: `asc run` with --report, alone, with two workers, in
 rounds with two, and with saved entries, and `asc save`. Three are so with --join: the save, and the run alone and with one
-worker. The others are `asc trial 0` and `asc make 0`. In one row of runs the first allocation alone is refused, then the
-second alone, and so on. In another row all are refused from the first on, from the second on, and so on. A row ends where a
-run made fewer allocations than that. With workers that number is not the same each time, and a row ends where N runs did
-so one after another (5).
+worker. Two are a batch of it over two inputs, alone and with a worker. The others are `asc trial 0` and `asc make 0`. In
+one row of runs the first allocation alone is refused, then the second alone, and so on. In another row all are refused from
+the first on, from the second on, and so on. A row ends where a run made fewer allocations than that. With workers that
+number is not the same each time, and a row ends where N runs did so one after another (5).
 
 Each run has to end in one of two ways: with status 71, the line `asc: out of memory` and nothing put out; or as with
 memory. Then the status is 0, output is the same, and steps executed and skipped are 13, or of the trial as many as it
@@ -65,6 +65,13 @@ def run_is_right(output, report, workers):
     return right, refused
 
 
+def batch_is_right(output, report, workers):
+    """The same of a batch of two runs, each of which has numbers of its own."""
+    head, *runs = re.split(rb"asc: run \d: exit 0 after 13\n", report)
+    told = [run_is_right(output, run, workers) for run in runs]
+    return not head and len(told) == 2 and all(right for right, _ in told), sum(refused for _, refused in told)
+
+
 def trial_is_right(output, report, first):
     """The same of a trial, whose first line does not change. What its helper was refused is not told."""
     found = TRIAL.fullmatch(output)
@@ -86,6 +93,8 @@ class Command:
     def is_right(self, output, report):
         if self.words[0] == "run":
             return run_is_right(output, report, self.workers)
+        if self.words[0] == "batch":
+            return batch_is_right(output, report, self.workers)
         return (trial_is_right if self.words[0] == "trial" else make_is_right)(output, report, self.first)
 
 
@@ -166,7 +175,7 @@ def tried(refusing, command, misses):
         reported, wrong = reported + ends.reported, wrong + ends.wrong
         print(f"{command.name:22} {'from it on' if on else 'one alone':11} {count:11} {ends.memory:8} {ends.right:10} "
               f"{ends.reported:9} {ends.wrong:6}", flush=True)
-    if command.words[0] == "run" and not command.workers and not reported:
+    if command.words[0] in ("run", "batch") and not command.workers and not reported:
         print(f"{command.name}: no run reported that memory was wanting")
         return False
     return not wrong
@@ -184,11 +193,13 @@ def main():
         counting.write_bytes(image(COUNTS))
         guesses = [str(counting), "--pc", "10008", "--guess", "both", "--ahead", "2"]
         run, save, kept = ["run", *guesses, "--report"], ["save", *guesses], Path(folder, "kept")
+        batch = ["batch", str(counting), "/dev/null", "/dev/null", *guesses[1:], "--report"]
         commands = [Command("run, no workers", run), Command("run, two workers", [*run, "--workers", "2"], 2),
                     Command("run, in rounds", [*run, "--workers", "2", "--rounds"]),
                     Command("run, saved entries", [*run, "--load", str(kept)]), Command("save", save),
                     Command("run, joins", [*run, "--join"]), Command("save, joins", [*save, "--join"]),
                     Command("run, joins, a worker", [*run, "--join", "--workers", "1"], 1),
+                    Command("batch", batch), Command("batch, a worker", [*batch, "--workers", "1"], 1),
                     Command("trial 0", ["trial", "0"]), Command("make 0", ["make", "0"])]
         refusing = Refusing(asked.program, folder)
         kept.write_bytes(refusing.run(save, 0, False)[0][1])

@@ -5,7 +5,8 @@
     python3 docs/definitions.py --check    says whether the list is what this script would write
 
 The crates are in the order of crates.txt, and the files of one in that of its specs/Lib.antt. Of a file are told the first
-sentence of its first comment, and the names that contracts in the code cite, without words of private contracts.
+sentence of its first comment, without a standard in brackets, and the names that contracts in the code cite, without words
+of private contracts.
 """
 
 import re
@@ -19,6 +20,8 @@ MARKED = re.compile(r"(?<=<!-- list: docs/definitions\.py writes it -->\n).*?(?=
 # A definition, or one of a module without a name: there a line with pub alone is a field.
 DEFINITION = re.compile(r"^(?:(?:abbrev |unfoldable )?pub (?!mod |use )(?:record |data )?"
                         r"| +(?:abbrev |unfoldable )pub | +pub (?:record |data ))(\S+)", re.MULTILINE)
+# A standard in brackets: the table of the document has it.
+STANDARD = re.compile(r" \([^()]*(?:manual|ABI|ASPLOS)[^()]*\)")
 PRIVATE = re.compile(r"[Ww]ords of private contracts")
 CITED = re.compile(r"ghost use Rattle\.(\w+)\.specs\.(\w+)(?:\.\{(.*?)\}| as (\w+));", re.DOTALL)
 
@@ -37,13 +40,13 @@ def modules(folder):
 
 
 def head(text):
-    """The first sentence of a file's first comment."""
+    """The first sentence of a file's first comment, without the standard behind it."""
     lines = []
     for line in text.splitlines():
         if not line.startswith("-- "):
             break
         lines.append(line[3:].strip())
-    return re.split(r"(?<=\.) (?=[A-Z])", " ".join(lines))[0]
+    return STANDARD.sub("", re.split(r"(?<=\.) (?=[A-Z])", " ".join(lines))[0])
 
 
 def cited():

@@ -3,7 +3,7 @@
 
 _asc() {
     local word=${COMP_WORDS[COMP_CWORD]} before=${COMP_WORDS[COMP_CWORD - 1]} offered=
-    local tool=${COMP_WORDS[0]##*/} command=${COMP_WORDS[1]} commands="run save make trial" at=1 own=
+    local tool=${COMP_WORDS[0]##*/} command=${COMP_WORDS[1]} commands="run save make trial batch" at=1 own=
     COMPREPLY=()
     # An option and its value behind a = are three words here.
     if [ "$word" = = ]; then
@@ -47,7 +47,7 @@ _asc() {
     if [ "$COMP_CWORD" -eq "$at" ] && [ -n "$commands" ]; then
         offered=$commands
         [[ $word != -* ]] || offered=$own
-    elif [[ $command != @(run|save|show|steps|--asc|--show) && $before != --workers ]]; then
+    elif [[ $command != @(run|save|batch|show|steps|--asc|--show) && $before != --workers ]]; then
         [ "$command" = trial ] && offered="--workers --rounds"
     else
         case $before in
@@ -71,10 +71,11 @@ _asc() {
                 case $command$word in
                     steps-*) ;;
                     show-*) offered="$own --memory --steps --machine --laps --span" ;;
-                    run-* | save-*)
+                    run-* | save-* | batch-*)
                         offered="$own --memory --steps --machine --guess --pc --profile --min --laps --span --ahead"
                         offered+=" --queue --join"
-                        [ "$command" = save ] || offered+=" --workers --rounds --load --report"
+                        [ "$command" != run ] || offered+=" --workers --rounds --load --report"
+                        [ "$command" != batch ] || offered+=" --workers --report"
                         ;;
                     *)
                         mapfile -t COMPREPLY < <(compgen -f -- "$word")

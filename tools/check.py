@@ -102,6 +102,7 @@ def check_options(why):
     known, shared = options()
     same("options that asc-why knows", why.OPTIONS, {name: taken for name, (taken, _) in known.items()})
     same("options of asc save that it knows", list(why.COMMANDS["save"][1]), list(known)[:shared])
+    same("options of asc batch that it knows", list(why.COMMANDS["batch"][1]), [*list(known)[:shared], "--workers", "--report"])
     same("options without a value that the tools know", sorted(why.asc_tools.FLAGS),
          sorted(name for name, (taken, _) in known.items() if taken == "nothing"))
     same("asc-why's defaults", (why.DEFAULT_MEMORY, why.DEFAULT_MACHINE), (known["--memory"][1], known["--machine"][1]))
@@ -141,21 +142,25 @@ def meaning(command, behind, values, known):
         value = values.get(name, defaults[name])
         if value != defaults[name]:
             told.append({"--guess": value, "--join": "join", "--report": "report"}.get(name, f"{name[2:]} {value}"))
-    return " ".join([*(["save"] if command == "save" else []), behind, *told])
+    if command == "batch":
+        inputs = values["inputs"]
+        told += ["of", str(len(inputs)), *(name for name in inputs if name != "x")]
+    return " ".join([*([command] if command != "run" else []), behind, *told])
 
 
 def check_words(why, known):
     """asc-why finds what is wrong in just the command lines that asc refuses, as its own tests list them."""
     text = (ROOT / "crates/asc_words/src/tests.rt").read_text()
     tables = re.findall(r"static \w*LINES: .*?; (\d+)\] = \[\n(.*?)\n\];", text, re.S)
-    lines = [re.findall(r"\(\s*\"(.*?)\",\s*\"(.*?)\",?\s*\)", table) for _, table in tables]
+    lines = [re.findall(r"\(\s*\"(.*?)\",\s*(?:(\d+),\s*)?\"(.*?)\",?\s*\)", table) for _, table in tables]
     same("rows of command lines", [len(rows) for rows in lines], [int(count) for count, _ in tables])
-    for line, wanted in [row for rows in lines for row in rows]:
+    for line, more, wanted in [row for rows in lines for row in rows]:
         try:
-            found = meaning(*why.line_of(line.split(" ")[1:]), known)
+            found = meaning(*why.line_of(line.split(" ")[1:] + ["x"] * int(more or 0)), known)
         except why.Wrong:
             found = "refused"
-        same(f"what asc-why makes of `{line}`", found, "refused" if wanted == "no address" else wanted)
+        same(f"what asc-why makes of `{line}` and {more or 0}", found,
+             "refused" if wanted in ("no address", "too many inputs") else wanted)
 
 
 # ---- images
@@ -902,16 +907,17 @@ def check_completion(known):
         script = 'source "$1"; shift; COMP_WORDS=("$@"); COMP_CWORD=$(($# - 1)); _asc; printf "%s\\n" "${COMPREPLY[@]}"'
         return outcome(["bash", "-c", script, "bash", TOOLS / "asc.bash", *words], cwd=ROOT)[0].decode().split()
 
-    same("the first word", offered("asc", ""), ["run", "save", "make", "trial"])
+    same("the first word", offered("asc", ""), ["run", "save", "make", "trial", "batch"])
     same("options of trial", offered("asc", "trial", "7", "--"), ["--workers", "--rounds"])
     same("numbers of trial's workers", offered("asc", "trial", "--workers", ""), ["0", "64"])
     same("options of make", offered("asc", "make", ""), [])
     same("options", offered("asc", "run", "--"), list(known))
     same("options of save", offered("asc", "save", "--"),
          [name for name in known if name not in ("--workers", "--rounds", "--load", "--report")])
+    same("options of batch", offered("asc", "batch", "--"), [name for name in known if name not in ("--rounds", "--load")])
     same("numbers of save", offered("asc", "save", "--queue", ""), ["1", "256", "1024"])
     same("a part of one", offered("asc", "run", "--st"), ["--steps"])
-    for words in (["run"], ["save"], ["run", "--load"], ["run", "--load", "="]):
+    for words in (["run"], ["save"], ["batch"], ["batch", "image"], ["run", "--load"], ["run", "--load", "="]):
         same(f"files behind {' '.join(words)}", offered("asc", *words, "examples/images/h"), ["examples/images/hello"])
     for tool, first, own, others in (
             ("asc-pc", [], "--asc --show --no-try --best --lap --seconds", list(known)),

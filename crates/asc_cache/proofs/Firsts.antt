@@ -7,8 +7,8 @@ use Rattle.std.specs.Option.{option_or}
 use Rattle.asc_model.specs.State.{State}
 use Rattle.asc_model.specs.Entry.{Entry, IsTrueEntry}
 use Rattle.asc_traj.specs.Content.{longest, longer_of, matches}
-use Rattle.asc_cache.specs.Cache.{ShardReader, IsLater, AreLater, found_by, first_found}
-use Rattle.asc_cache.proofs.Fronts.{prefix_self, prefix_trans}
+use Rattle.asc_cache.specs.Cache.{ShardReader, IsLater, found_by, first_found}
+use Rattle.asc_cache.proofs.Fronts.{prefix_self}
 use Rattle.asc_cache.proofs.Rows.{pick, any_default}
 
 pub no-first : (s : State) (left : ℕ) (xs : List ShardReader) → ((k : ℕ) (d : ShardReader) → k < length xs → found_by s left (get_or xs k d) ≡ None) → first_found s left xs ≡ None

@@ -7,7 +7,7 @@ use Rattle.asc_cache.specs.History.{stored_in, tried_in}
 use Rattle.asc_cache.specs.ShardRule.{Front, IsAlike, IsLogged, IsWritten}
 use Rattle.asc_cache.specs.declared.instance.Instance.{Instance}
 use Rattle.asc_cache.specs.declared.instance.Operation.{Operation}
-use Rattle.asc_cache.specs.Cache.{Cache, ShardWriter, ShardReader, ShardReaders, AreLater, AreOpened, IsOpened, IsOwnReader}
+use Rattle.asc_cache.specs.Cache.{Cache, ShardWriter, ShardReader, ShardReaders, AreOpened, IsOpened, IsOwnReader}
 
 -- a list with one element more, at its old places and at the new one
 old-place : {X : Type 0} (xs : List X) (x d : X) (k : ℕ) → k < length xs → get_or (xs ++ x ∷ []) k d ≡ get_or xs k d

@@ -12,6 +12,7 @@ use Rattle.asc_shard.specs.Shard.{Shard}
 use Rattle.asc_shard.specs.Content.{content_of}
 use Rattle.asc_shard.specs.declared.shard.Inserted.{Inserted}
 use Rattle.asc_shard.specs.declared.shard.Inserted.TheVariants.{Known, Stored}
+use Rattle.asc_cache.specs.Insert.{ShardId}
 use Rattle.asc_cache.specs.declared.writer.Refused.{Refused}
 use Rattle.asc_cache.specs.declared.writer.Refused.TheVariants.{Append, Publication}
 
@@ -50,6 +51,10 @@ pub record ShardReaders : Type 0 where
 pub record Cache : Type 0 where
   pub writers : List ShardWriter
   pub readers : ShardReaders
+
+-- which shard of a cache a writer's is
+abbrev pub id_of : ShardWriter → ShardId
+id_of w = record { shard = w.shard; index = w.index; capacity = w.capacity }
 
 -- the shard that a writer's insertions leave
 abbrev pub shard_of : ShardWriter → Shard

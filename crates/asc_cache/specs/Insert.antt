@@ -1,9 +1,16 @@
--- What an insertion does to a shard's content.
-use Rattle.std.specs.Prelude.{◌≡◌, Result, Ok, Err}
+-- Which shard entries are inserted into, and what an insertion does to its content.
+use Rattle.std.specs.Prelude.{◌≡◌, ℕ, Result, Ok, Err}
+use Rattle.logbook.specs.Pages.{Book}
 use Rattle.asc_model.specs.Entry.{Entry}
 use Rattle.asc_shard.specs.Shard.{Shard}
 use Rattle.asc_shard.specs.Content.{add, outcome_of}
 use Rattle.asc_shard.specs.declared.shard.Inserted.{Inserted}
+
+-- a shard of a cache: its book, its number in the cache, and how many entries it may hold
+pub record ShardId : Type 0 where
+  pub shard : Book
+  pub index : ℕ
+  pub capacity : ℕ
 
 -- a shard after an insertion of an entry
 abbrev pub shard_after : Shard → Entry → Shard

@@ -1,7 +1,7 @@
-ghost use Rattle.std.specs.Prelude.{◌≡◌, IsOk};
+ghost use Rattle.std.specs.Prelude.{◌≡◌, Option, IsOk};
 ghost use Rattle.std.specs.Arc.{arc_value};
 ghost use Rattle.asc_shard.specs.Shard.{Shard};
-ghost use Rattle.asc_cache.specs.Insert.{IsInserted};
+ghost use Rattle.asc_cache.specs.Insert.{IsInserted, ShardId};
 
 use crate::writer::ShardWriter;
 use asc_outside::Memory;
@@ -15,15 +15,22 @@ pub trait Insert {
     /// The shard that its insertions have left.
     ghost content: { Self → Shard };
 
+    /// The shard of a cache whose writer it is, where it is one.
+    ghost identity: { Self → Option ShardId };
+
     /// Inserts an entry, unless one that is the same is held. Where memory is wanting the content stays.
     fn insert(&mut self, entry: Arc<Entry, Global>) -> Result<Inserted, Memory>
-        ensures inserted { IsInserted result (arc_value entry) (content self.old) (content self.new) };
+        ensures inserted { IsInserted result (arc_value entry) (content self.old) (content self.new) }
+        ensures identity { identity self.new ≡ identity self.old };
 }
 
 impl<R: Wait + Drop> Insert for ShardWriter<R> {
-    ghost use Rattle.asc_cache.specs.Cache.{shard_of};
+    ghost use Rattle.std.specs.Prelude.{Some};
+    ghost use Rattle.asc_cache.specs.Cache.{id_of, shard_of};
 
     ghost content = { shard_of };
+
+    ghost identity = { λ w. Some (id_of w) };
 
     fn insert(&mut self, entry: Arc<Entry, Global>) -> Result<Inserted, Memory> {
         self.insert(entry)
@@ -47,7 +54,11 @@ impl<'a> ListWriter<'a> {
 }
 
 impl Insert for ListWriter<'_> {
+    ghost use Rattle.std.specs.Prelude.{None};
+
     ghost content = { λ w. w.shard.now };
+
+    ghost identity = { λ _. None };
 
     fn insert(&mut self, entry: Arc<Entry, Global>) -> Result<Inserted, Memory>
         ensures same_reference { self.new.shard.ghost_name ≡ self.old.shard.ghost_name }

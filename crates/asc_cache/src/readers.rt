@@ -109,6 +109,15 @@ impl<R: Wait + Drop> ShardReaders<R> {
         }
     }
 
+    /// Before the first look-up of a further run: it counts from 0 on. What the readers have seen stays.
+    pub fn begin(&mut self)
+        ensures { self.new ≡ record self.old { tally = record { asked = 0; given = 0; hits = 0 } } }
+    {
+        self.asked = 0;
+        self.given = 0;
+        self.hits = 0;
+    }
+
     /// How many shards there are.
     pub fn shards(&self) -> usize
         ensures { result ≡ length self.now.readers }

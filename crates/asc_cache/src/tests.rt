@@ -232,7 +232,24 @@ fn play_rows<R: Wait + Drop, Q: Abort>(
     for row in &ROWS {
         play_row(rt, alloc, writer, readers, row, first)?;
     }
-    Ok((readers.asked(), readers.given(), readers.hits()))
+    let counts = (readers.asked(), readers.given(), readers.hits());
+    begin_again(rt, alloc, readers)?;
+    Ok(counts)
+}
+
+/// In a further run the readers count from 0 on, and find what they have seen.
+fn begin_again<R: Wait + Drop, Q: Abort>(
+    rt: &Q,
+    alloc: Global,
+    readers: &mut ShardReaders<R>,
+) -> Result<(), Memory> {
+    readers.begin();
+    find_row(rt, alloc, readers, 0, true)?;
+    assert_eq!(rt;
+        (readers.asked(), readers.given(), readers.hits()),
+        (1, 2, 1)
+    );
+    Ok(())
 }
 
 #[test]

@@ -6,10 +6,12 @@ use Rattle.std.specs.declared.vec.IntoIter.{IntoIter}
 use Rattle.asc_calls.specs.World.{outside, faults}
 use Rattle.asc_streams.specs.Told.{untold}
 use Rattle.asc_top.specs.Answer.{code_of, outcome_of}
-use Rattle.asc_top.specs.Answered.{Devices, IsAnswerTo, devices}
+use Rattle.asc_top.specs.Answered.{Devices, devices}
 use Rattle.asc_top.specs.Reported.{Report, IsReported, report_with}
+use Rattle.asc_top.specs.Shown.{IsShownFor}
 use Rattle.asc_words.specs.Answer.{refusal_of}
 use Rattle.asc_words.specs.Given.{HoldsOf}
+use Rattle.asc_words.specs.Line.{line_of}
 use Rattle.asc_words.specs.declared.answer.Answer.{Answer}
 use Rattle.asc_words.specs.declared.answer.Outcome.{Outcome}
 
@@ -19,11 +21,11 @@ pub record IsStatusOf (before after : Report) (outcome : Outcome) (status : ℕ)
   pub reported : IsReported before after outcome shown
   pub code : status ≡ code_of shown
 
--- The status is that of an outcome of these words, of which all holds that the program promises.
+-- The status is the code of the answer that is shown to these words, of which all holds that the program promises.
 pub record IsStatus (words : List (List ℕ)) (old new : Devices) (before after : Report) (status : ℕ) : Type 0 where
-  pub outcome : Outcome
-  pub is : IsAnswerTo words old new outcome
-  pub reported : IsStatusOf before after outcome status
+  pub shown : Answer
+  pub is : IsShownFor (line_of words) old new before after shown
+  pub code : status ≡ code_of shown
 
 -- ---- over the system
 
@@ -35,13 +37,13 @@ of_system = devices None None 0 (outside None untold untold 0 (faults 0 0 0))
 abbrev pub report_of_system : Report
 report_of_system = report_with untold 0
 
--- the status is that of an outcome of these words over the system
+-- the status is that of these words over the system
 pub record IsStatusOver (words : List (List ℕ)) (status : ℕ) : Type 0 where
   pub new : Devices
   pub after : Report
   pub is : IsStatus words of_system new report_of_system after status
 
--- The status is that of an outcome of the words that the system gave, or of their refusal.
+-- The status is that of the words that the system gave, or of their refusal.
 abbrev pub IsStatusFor : {A : Type 0} → Result (IntoIter (String A) A) Error → ℕ → Type 0
 IsStatusFor given status = HoldsOf given (λ words. IsStatusOver words status)
     (λ fault. (after : Report) × IsStatusOf report_of_system after (outcome_of (refusal_of fault)) status)

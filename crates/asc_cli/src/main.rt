@@ -101,7 +101,7 @@ fn status<
     gate: &G,
     steps: &mut Steps<L>,
 ) -> ExitCode
-    // All that the program promises holds of an outcome, whose answer, or ReportFault, has the status as its code.
+    // All that the program promises holds of an answer, which has the status as its code.
     ensures { IsStatus (map string_bytes words.now)
         (devices (F.files store.old) (F.asked store.old) (F.faults store.old)
         (outside (I.left input.old) (O.given out.old) (E.given err.old) steps.old

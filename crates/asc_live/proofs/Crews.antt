@@ -1,5 +1,5 @@
 -- What a walk beside workers comes to.
-use Rattle.std.proofs.Common.{◌≡◌, ℕ, Bool, ◌+◌, ◌<◌, [], Option, Some, None, refl, sym, ap, ◌∙◌, arith, length}
+use Rattle.std.proofs.Common.{◌≡◌, ℕ, Bool, ◌+◌, [], Option, Some, None, refl, sym, ap, ◌∙◌, arith, length}
 use Rattle.asc_find.specs.declared.guessing.Guessing.{Guessing}
 use Rattle.asc_find.specs.Finder.{Plan, Queue}
 use Rattle.asc_jobs.specs.Jobs.{Giver}
@@ -61,6 +61,7 @@ went {many} {knows} guessing was now old new readers giver l k worked is none to
       raised = walks.raised;
       limit = walks.limit;
       faults = walks.faults;
+      shape = walks.shape;
       made = made;
       refused = refused;
       full = full;

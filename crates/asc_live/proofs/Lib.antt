@@ -5,6 +5,8 @@ pub mod Seeing
 pub mod LawsHold
 pub mod Crews
 pub mod Opening
+pub mod Meeting
+pub mod Runs
 pub mod Shares
 pub mod Pages
 pub mod InRounds

@@ -1,5 +1,5 @@
 -- What entries leave in the first shard of a cache, and what its readers then have seen.
-use Rattle.std.proofs.Common.{◌≡◌, ℕ, ◌<◌, Bool, true, false, List, [], ◌∷◌, ◌++◌, All, fold, map, take, length, get_or, set, refl, sym, ap, subst, ◌∙◌, arith}
+use Rattle.std.proofs.Common.{◌≡◌, ℕ, ◌<◌, Bool, true, false, List, [], ◌∷◌, ◌++◌, All, fold, get_or, set, refl, sym, ap, subst, ◌∙◌, arith}
 use Rattle.std.specs.Prelude.{if◌then◌else◌}
 use Rattle.std.specs.List.{list_any}
 use Rattle.std.proofs.lemmas.List.Elements.{All-set}
@@ -29,14 +29,14 @@ module _ (capacity : ℕ) (stored : List Entry) (e : Entry) where
 -- ---- writers, and readers that have learnt
 
 -- a writer stays that of its reader, once the readers have learnt
-pub stays_writer : (old new : List ShardReader) → AreLater old new → (w : ShardWriter) → IsWriterOf old w → IsWriterOf new w
-stays_writer old new later w is = record {
-  own = record {
-    there = omega (arith, is.own.there, later.count);
-    shard = λ d. (later.each w.index d is.own.there).shard ∙ is.own.shard d;
-  };
-  capacity = is.capacity;
+pub stays_own : (old new : List ShardReader) → AreLater old new → (w : ShardWriter) → IsOwnReader w old → IsOwnReader w new
+stays_own old new later w own = record {
+  there = omega (arith, own.there, later.count);
+  shard = λ d. (later.each w.index d own.there).shard ∙ own.shard d;
 }
+
+pub stays_writer : (old new : List ShardReader) → AreLater old new → (w : ShardWriter) → IsWriterOf old w → IsWriterOf new w
+stays_writer old new later w is = record { own = stays_own old new later w is.own; capacity = is.capacity }
 
 -- ---- shards that were opened, and the first writer once it has stored
 

@@ -1,22 +1,21 @@
-ghost use Rattle.std.specs.Prelude.{◌≡◌, ◌≤◌, ◌^◌, List, length, All, IfOk, OnErr, IsNone, map, nat_lt, true, false};
-ghost use Rattle.std.specs.Arc.{arc_value};
+ghost use Rattle.std.specs.Prelude.{◌≡◌, ◌≤◌, ◌^◌, length, IfOk, OnErr, IsNone, None, Some, true, false};
 ghost use Rattle.asc_calls.specs.World.{faults, outside};
-ghost use Rattle.asc_cache.specs.Cache.{ShardReader};
-ghost use Rattle.asc_jobs.specs.Tally.{no_jobs};
+ghost use Rattle.asc_cache.specs.Cache.{AreLater};
 ghost use Rattle.asc_run.specs.Helped.{aid, HasRoom};
-ghost use Rattle.asc_live.specs.Crew.{HasBoundsOf, HasLearnt, IsAskedFor, IsReady, IsWriterOf, Walks, WentBeside};
+ghost use Rattle.asc_run.specs.Walk.{tally};
 ghost use Rattle.atomic_table.specs.Seated.{TableId};
+ghost use Rattle.asc_live.specs.Crew.{AreSameWorkers, IsForRun, Walks, WentBeside};
 
 use crate::Live;
-use crate::shards::open_shards;
+use crate::lent::{Lending, Lent};
+use crate::open_crew::{OpenCrew, RunParts};
 use asc_cache::{ShardReaders, ShardWriter};
 use asc_find::Guessing;
-use asc_jobs::{Giver, Jobs};
 use asc_outside::{Gate, Memory, Point, Sink, Source};
-use asc_run::{Ended, Helper, LastVisits, Walk};
-use asc_shape::{Shape, Steps};
+use asc_run::{Ended, Helper, Walk};
+use asc_shape::Steps;
 use asc_traj::Entry;
-use asc_work::{Flag, Halter, TakenIn, Team, Worker};
+use asc_work::{Flag, Halter, TakenIn, Team};
 use crossbeam_utils::sync::Unparker;
 use std::alloc::Global;
 use std::sync::ledger::Ledger;
@@ -47,22 +46,6 @@ pub struct Worked {
     pub taken: TakenIn,
     /// How many workers were beside it.
     pub workers: usize,
-}
-
-// A crew before its walk begins, and what it was asked for by. It may know entries. Some of its wakers are for visits, and
-// the others for the walk's end.
-#[derive(Drop)]
-struct Ready<R: Wait + Drop> {
-    shape: Shape,
-    crew: Crew,
-    knows: bool,
-    visits: LastVisits,
-    halter: Halter,
-    giver: Giver,
-    readers: ShardReaders<R>,
-    team: Team<ShardWriter<R>, Flag>,
-    visit_wakers: Vec<Unparker>,
-    end_wakers: Vec<Unparker>,
 }
 
 /// Runs a walk to its end beside workers, and takes these in. The gate is passed at `Ended` once the walk has ended,
@@ -111,85 +94,15 @@ pub fn go_beside<
     ensures memory { OnErr result ((walk.new ≡ walk.old) × (input.new ≡ input.old) × (out.new ≡ out.old)
         × (err.new ≡ err.old) × (steps.new ≡ steps.old)) }
 {
-    let ready = open_crew(alloc, *rt, walk.shape(), guessing, crew, first)?;
-    Ok(go_with(rt, alloc, walk, ready, gate, input, out, err, steps))
+    let mut open = OpenCrew::open(alloc, *rt, walk.shape(), guessing, crew, first, 1)?;
+    Ok(open.go(rt, alloc, walk, gate, input, out, err, steps))
 }
 
-// Opens all that a crew needs. Its readers know these entries.
-fn open_crew<R: Wait + Copy + Drop>(
-    alloc: Global,
-    rt: R,
-    shape: Shape,
-    guessing: Guessing,
-    crew: Crew,
-    first: &[Arc<Entry>],
-) -> Result<Ready<R>, Memory>
-    requires workers { (1 ≤ crew.workers) × (crew.workers ≤ 64) }
-    requires queue { (1 ≤ crew.queue) × (crew.queue ≤ 1024) }
-    requires ahead { guessing.ahead ≤ 64 }
-    requires laps { 1 ≤ guessing.laps }
-    requires span { 1 ≤ guessing.span }
-    ensures ready { IfOk result (λ ready. IsReady ready) }
-    ensures asked { IfOk result (λ ready. IsAskedFor shape guessing crew ready) }
-    ensures knows { IfOk result (λ ready. ready.knows ≡ nat_lt 0 (length first.now)) }
-    ensures learnt { IfOk result (λ ready. HasLearnt (map arc_value first.now) ready.readers.readers) }
-{
-    let (halter, flags) = Halter::open(alloc, crew.workers)?;
-    let (giver, takers) = Jobs::open(alloc, crew.queue, crew.workers)?;
-    let (writers, readers) = open_shards(alloc, rt, crew.workers, first)?;
-    let workers = workers_of(alloc, shape, guessing, writers, flags)?;
-    let (team, visit_wakers) = Team::new(alloc, &giver, workers, takers)?;
-    let end_wakers = wakers_again(alloc, &visit_wakers)?;
-    let visits = LastVisits::new(alloc, guessing)?;
-    Ok(Ready {
-        shape,
-        crew,
-        knows: 0 < first.len(),
-        visits,
-        halter,
-        giver,
-        readers,
-        team,
-        visit_wakers,
-        end_wakers,
-    })
-}
-
-// A worker for each writer.
-fn workers_of<R: Wait + Drop>(
-    alloc: Global,
-    shape: Shape,
-    guessing: Guessing,
-    mut writers: Vec<ShardWriter<R>>,
-    mut flags: Vec<Flag>,
-) -> Result<Vec<Worker<ShardWriter<R>, Flag>>, Memory>
-    requires flags { length writers.items ≡ length flags.items }
-    requires laps { 1 ≤ guessing.laps }
-    requires span { 1 ≤ guessing.span }
-    ensures number { IfOk result (λ w. length w.items ≡ length writers.items) }
-    ensures each { IfOk result (λ w. All (λ w. w.tally ≡ no_jobs) w.items) }
-    ensures bounds { IfOk result (λ w. All (HasBoundsOf shape guessing) w.items) }
-    ensures flags { IfOk result (λ w. (word : TableId) → All (λ f. f.word ≡ word) flags.items
-        → All (λ w. w.halt.word ≡ word) w.items) }
-    ensures writers { IfOk result (λ w. (readers : List ShardReader) → All (IsWriterOf readers) writers.items
-        → All (λ w. IsWriterOf readers w.writer) w.items) }
-{
-    let mut workers = Vec::with_capacity(alloc, writers.len())?;
-    while let Some(writer) = writers.pop() {
-        let Some(flag) = flags.pop() else {
-            unreachable!()
-        };
-        let (laps, span, join) = (guessing.laps, guessing.span, guessing.join);
-        match Worker::new(alloc, shape, laps, span, writer, flag, join) {
-            Ok(worker) => workers.push(worker)?,
-            Err((memory, _writer, _flag)) => return Err(memory),
-        }
-    }
-    Ok(workers)
-}
-
-// Runs a walk to its end beside a crew, and takes that in.
-fn go_with<
+/// Runs a walk to its end beside a team that has no queue yet, with the parts of one run, and takes the team in. The
+/// readers are lent to the walk, and handed back.
+pub(crate) fn go_lent<
+    'a,
+    N: Lending,
     R: Threads + Wait + Sync + Copy + Drop + Send,
     G: Gate + Sync,
     I: Source,
@@ -197,67 +110,77 @@ fn go_with<
     E: Sink,
     L: Ledger,
 >(
-    rt: &R,
+    rt: &'a R,
     alloc: Global,
+    crew: Crew,
+    team: &mut Team<ShardWriter<R>, Flag>,
+    readers: ShardReaders<R>,
+    parts: RunParts,
+    wakers: &'a Vec<Unparker>,
+    knows: bool,
     walk: &mut Walk,
-    ready: Ready<R>,
-    gate: &G,
+    gate: &'a G,
     input: &mut I,
     out: &mut O,
     err: &mut E,
     steps: &mut Steps<L>,
-) -> Worked
+) -> (Worked, ShardReaders<R>)
     requires new { IsNone walk.old.ended }
-    requires ahead { (1 ≤ ready.visits.guessing.ahead) × (ready.visits.guessing.ahead ≤ 64) }
-    requires ready { IsReady ready }
-    ensures { WentBeside ready.visits.guessing ready.crew walk.old walk.new
+    requires ahead { (1 ≤ parts.visits.guessing.ahead) × (parts.visits.guessing.ahead ≤ 64) }
+    requires parts { IsForRun parts.visits.guessing crew parts }
+    requires workers { length team.old.posts ≡ crew.workers }
+    requires idle { team.old.queue ≡ None }
+    requires lent { N.lent ≡ readers.readers }
+    requires none_asked { readers.tally ≡ tally 0 0 0 }
+    ensures went { WentBeside parts.visits.guessing crew walk.old walk.new
         (outside (I.left input.old) (O.given out.old) (E.given err.old) steps.old
         (faults (I.faults input.old) (O.faults out.old) (E.faults err.old)))
         (outside (I.left input.new) (O.given out.new) (E.given err.new) steps.new
-        (faults (I.faults input.new) (O.faults out.new) (E.faults err.new))) result }
+        (faults (I.faults input.new) (O.faults out.new) (E.faults err.new))) result.0 }
+    ensures idle { team.new.queue ≡ None }
+    ensures team { AreSameWorkers team.old.posts team.new.posts }
+    ensures readers { AreLater readers.readers result.1.readers }
 {
-    let Ready {
-        shape: _,
-        crew: _,
-        knows,
+    let RunParts {
         visits,
         mut halter,
+        flags,
         giver,
-        readers,
-        mut team,
-        visit_wakers,
-        end_wakers,
-    } = ready;
+        takers,
+    } = parts;
     let workers = team.len();
-    let mut live = Live::new(alloc, rt, gate, readers, giver, visit_wakers, visits, knows);
-    let ended = go_served(
+    team.begin(&giver, takers, flags);
+    let lent = Lent::<N, R>::new(readers);
+    // The helper is made anew for each run: its numbers are the run's own, its budget is new, and no count ever falls.
+    let mut live = Live::new(alloc, rt, gate, lent, giver, wakers, visits, knows);
+    let (ended, (made, refused, full)) = go_served(
         rt,
-        &mut team,
+        team,
         walk,
         &mut live,
         &mut halter,
-        &end_wakers,
+        wakers,
         gate,
         input,
         out,
         err,
         steps,
     );
-    live.truth();
-    let (made, refused, full) = (live.made(), live.refused(), live.full());
-    let (_readers, giver) = live.into_parts();
+    let (lent, giver) = live.into_parts();
     let taken = team.take_in(rt, giver);
-    Worked {
+    let worked = Worked {
         ended,
         made,
         refused,
         full,
         taken,
         workers,
-    }
+    };
+    (worked, lent.back())
 }
 
-// Runs a walk to its end beside workers.
+// Runs a walk to its end beside workers. It answers also what the helper has counted: how many guesses were made, how often
+// memory was wanting, and how many guesses were not pushed.
 fn go_served<
     R: Threads + Wait + Sync + Drop + Send,
     H: Helper,
@@ -278,9 +201,10 @@ fn go_served<
     out: &mut O,
     err: &mut E,
     steps: &mut Steps<L>,
-) -> Ended
+) -> (Ended, (u64, u64, u64))
     requires new { IsNone walk.old.ended }
     requires running { halter.old.halted ≡ false }
+    requires queue { (queue : TableId) × (team.old.queue ≡ Some queue) }
     requires room { HasRoom (2 ^ 61)
         (aid (H.tally helper.old) (H.replies helper.old) (H.plan helper.old) (H.machine helper.old)) }
     ensures walks { Walks walk.old walk.new
@@ -289,16 +213,20 @@ fn go_served<
         (outside (I.left input.new) (O.given out.new) (E.given err.new) steps.new
         (faults (I.faults input.new) (O.faults out.new) (E.faults err.new)))
         (aid (H.tally helper.old) (H.replies helper.old) (H.plan helper.old) (H.machine helper.old))
-        (aid (H.tally helper.new) (H.replies helper.new) (H.plan helper.new) (H.machine helper.new)) result }
-    ensures count { length team.new.posts ≡ length team.old.posts }
+        (aid (H.tally helper.new) (H.replies helper.new) (H.plan helper.new) (H.machine helper.new)) result.0 }
+    ensures made { result.1.0 ≡ (H.plan helper.new).made }
+    ensures refused { result.1.1 ≡ (H.plan helper.new).refused }
+    ensures full { result.1.2 ≡ (H.plan helper.new).full }
     ensures queue { team.new.queue ≡ team.old.queue }
+    ensures team { AreSameWorkers team.old.posts team.new.posts }
     ensures halted { halter.new.halted ≡ true }
 {
-    team.beside(
+    let ended = team.beside(
         rt,
         gate,
         &mut || { go_and_halt(walk, helper, halter, wakers, gate, input, out, err, steps) },
-    )
+    );
+    (ended, (helper.made(), helper.refused(), helper.full()))
 }
 
 // Runs a walk to its end while the workers may go on, and then stops them.
@@ -365,15 +293,4 @@ fn wake(wakers: &[Unparker]) {
     for waker in wakers {
         waker.unpark();
     }
-}
-
-// What wakes the same workers.
-fn wakers_again(alloc: Global, wakers: &[Unparker]) -> Result<Vec<Unparker>, Memory>
-    ensures { IfOk result (λ again. length again.items ≡ length wakers.now) }
-{
-    let mut again = Vec::with_capacity(alloc, wakers.len())?;
-    for waker in wakers {
-        again.push(waker.clone()?)?;
-    }
-    Ok(again)
 }

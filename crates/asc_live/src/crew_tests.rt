@@ -1,6 +1,6 @@
-ghost use Rattle.std.specs.Prelude.{◌≡◌, ◌<◌, ◌≤◌};
+ghost use Rattle.std.specs.Prelude.{◌≡◌, ◌+◌, ◌<◌, ◌≤◌};
 
-use crate::{Crew, Worked, go_beside};
+use crate::{Crew, OpenCrew, Worked, go_beside};
 use asc_depvec::Tracer;
 use asc_elf::{Image, read};
 use asc_find::Guessing;
@@ -26,6 +26,16 @@ const COUNTING: [u8; 112] = [
     0x04, 0x00, 0x00, 0x00, 0x93, 0x02, 0x00, 0x00, 0x13, 0x03, 0x40, 0x00, 0x93, 0x82, 0x12, 0x00,
     0xE3, 0x9E, 0x62, 0xFE, 0x93, 0x08, 0xD0, 0x05, 0x13, 0x05, 0x00, 0x00, 0x73, 0x00, 0x00, 0x00,
 ];
+
+/// Guesses by the stride, of two visits ahead.
+const GUESSING: Guessing = Guessing {
+    last: false,
+    stride: true,
+    laps: 1,
+    span: 100,
+    ahead: 2,
+    join: false,
+};
 
 /// The entry of the image's lap that begins at such an x5.
 fn lap_from(alloc: Global, image: &Image<'_>, x5: u32) -> Result<Arc<Entry>, Memory> {
@@ -67,14 +77,6 @@ fn count_beside<L: Ledger, R: Abort + Threads + Wait + Sync + Copy + Drop + Send
         recognised: Recognised::At(0x10008),
     };
     let mut walk = Walk::new(alloc, &image, settings).expect(rt, "memory");
-    let guessing = Guessing {
-        last: false,
-        stride: true,
-        laps: 1,
-        span: 100,
-        ahead: 2,
-        join: false,
-    };
     let mut first = Vec::new(alloc);
     for &x5 in known {
         let entry = lap_from(alloc, &image, x5).expect(rt, "memory");
@@ -84,7 +86,7 @@ fn count_beside<L: Ledger, R: Abort + Threads + Wait + Sync + Copy + Drop + Send
         rt,
         alloc,
         &mut walk,
-        guessing,
+        GUESSING,
         Crew { workers, queue: 4 },
         &first,
         gate,
@@ -127,25 +129,27 @@ fn counts(rt: HostRuntime) {
     }
 }
 
+/// The only worker waits in its first job for the walk's end.
+static HOLDS: [Hold; 2] = [
+    Hold {
+        at: Point::Taken,
+        ticket: 0,
+        until: Point::Ended,
+        other: 0,
+    },
+    Hold {
+        at: Point::Ended,
+        ticket: 0,
+        until: Point::Taken,
+        other: 0,
+    },
+];
+
 /// The only worker waits in its first job for the walk's end. So the walk finds what was known: laps 2 and 3, two steps
 /// each.
 #[test]
 fn entries_are_known(rt: HostRuntime) {
-    let holds = [
-        Hold {
-            at: Point::Taken,
-            ticket: 0,
-            until: Point::Ended,
-            other: 0,
-        },
-        Hold {
-            at: Point::Ended,
-            ticket: 0,
-            until: Point::Taken,
-            other: 0,
-        },
-    ];
-    let gate = HoldGate::new(rt.alloc(), &holds, 1_000_000).expect(&rt, "memory");
+    let gate = HoldGate::new(rt.alloc(), &HOLDS, 1_000_000).expect(&rt, "memory");
     let (worked, counts) = count_beside::<Brand, _, _>(
         &rt,
         rt.alloc(),
@@ -158,4 +162,74 @@ fn entries_are_known(rt: HostRuntime) {
     assert_eq!(rt; worked.ended, Ended::Exit(0));
     assert_eq!(rt; (counts.executed, counts.skipped), (9, 4));
     assert_eq!(rt; (counts.asked, counts.hits), (4, 2));
+}
+
+/// How that program goes beside an open crew of one worker, with these points held up, and its numbers. They are the run's
+/// own.
+fn count_again<L: Ledger, R: Abort + Threads + Wait + Sync + Copy + Drop + Send>(
+    rt: &R,
+    alloc: Global,
+    blank: Blank,
+    opened: &mut OpenCrew<R>,
+    holds: &[Hold],
+) -> (Worked, Counts)
+    requires name { blank.name ≡ L.name }
+    requires parts { blank.parts ≡ L.parts }
+    requires some { 0 < L.parts }
+    requires runs { 1 ≤ opened.old.runs }
+    ensures { opened.new.runs + 1 ≡ opened.old.runs }
+{
+    let image = read(&COUNTING, 65_536, Version::One).expect(rt, "an image");
+    let settings = Settings {
+        limit: MOST_STEPS,
+        recognised: Recognised::At(0x10008),
+    };
+    let mut walk = Walk::new(alloc, &image, settings).expect(rt, "memory");
+    let gate = HoldGate::new(alloc, holds, 1_000_000).expect(rt, "memory");
+    let worked = opened.go(
+        rt,
+        alloc,
+        &mut walk,
+        &gate,
+        &mut SureSource::new(Vec::new(alloc)),
+        &mut CountSink::new(),
+        &mut CountSink::new(),
+        &mut Steps::<L>::new(blank),
+    );
+    assert!(rt; worked.refused > 0 || gate.all_held());
+    let counts = walk.counts();
+    assert_eq!(rt;
+        (worked.ended, counts.count, counts.asked),
+        (Ended::Exit(0), 13, 4)
+    );
+    let tally = worked.taken.tally;
+    assert!(rt; worked.made < 5 && worked.full < 5 && tally.ran < 5 && worked.taken.left < 5);
+    assert_eq!(rt; tally.ran + worked.taken.left, worked.made);
+    assert!(rt; worked.refused > 0 || worked.made + worked.full == 4);
+    (worked, counts)
+}
+
+/// In the first run the walk waits at its second visit until the worker is done with its first job. In the last one the
+/// worker waits in its first job for the walk's end. So the walk finds there what an earlier run has stored.
+#[test]
+fn three_runs(rt: HostRuntime) {
+    let alloc = rt.alloc();
+    let image = read(&COUNTING, 65_536, Version::One).expect(&rt, "an image");
+    let crew = Crew {
+        workers: 1,
+        queue: 4,
+    };
+    let mut opened = OpenCrew::open(alloc, rt, image.shape(), GUESSING, crew, &[], 3).expect(
+        &rt, "memory",
+    );
+    let waits = [Hold {
+        at: Point::Visit,
+        ticket: 2,
+        until: Point::Done,
+        other: 0,
+    }];
+    let (first, _) = count_again::<Brand, _>(&rt, alloc, Blank::new(1), &mut opened, &waits);
+    count_again::<Brand, _>(&rt, alloc, Blank::new(1), &mut opened, &[]);
+    let (_, last) = count_again::<Brand, _>(&rt, alloc, Blank::new(1), &mut opened, &HOLDS);
+    assert!(rt; first.refused > 0 || first.taken.tally.stored == 0 || last.hits > 0);
 }

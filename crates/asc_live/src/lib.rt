@@ -6,7 +6,9 @@ mod crew;
 #[cfg(test)]
 mod crew_tests;
 mod laws;
+mod lent;
 mod live;
+mod open_crew;
 mod pusher;
 mod rounds;
 mod shards;
@@ -17,4 +19,5 @@ mod tests;
 pub use crew::{Crew, Worked, go_beside};
 pub use laws::{guesses_are_counted, shares_rise};
 pub use live::Live;
+pub use open_crew::OpenCrew;
 pub use rounds::Rounds;

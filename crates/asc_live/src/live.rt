@@ -49,7 +49,7 @@ pub struct Live<'a, F, G, R> {
     finder: F,
     pusher: Pusher<'a, R>,
     budget: Budget,
-    workers: Vec<Unparker>,
+    workers: &'a Vec<Unparker>,
     visits: LastVisits,
     // Up to which visit all were guessed, where memory never was wanting.
     seen: Option<u64>,
@@ -61,9 +61,9 @@ impl<'a, F, G, R> Model for Live<'a, F, G, R> {
 
     ghost Value = { model.Live F };
 
-    ghost view = { λ s. model.live s.finder s.visits s.pusher s.seen (length s.workers.items) s.budget };
+    ghost view = { λ s. model.live s.finder s.visits s.pusher s.seen (length s.workers.now.items) s.budget };
 
-    ghost invariant = { λ s. model.IsLive (model.live s.finder s.visits s.pusher s.seen (length s.workers.items) s.budget) };
+    ghost invariant = { λ s. model.IsLive (model.live s.finder s.visits s.pusher s.seen (length s.workers.now.items) s.budget) };
 }
 
 impl<'a, F, G, R> Live<'a, F, G, R> {
@@ -75,7 +75,7 @@ impl<'a, F, G, R> Live<'a, F, G, R> {
         gate: &'a G,
         finder: F,
         giver: Giver,
-        workers: Vec<Unparker>,
+        workers: &'a Vec<Unparker>,
         visits: LastVisits,
         knows: bool,
     ) -> Live<'a, F, G, R>
@@ -83,7 +83,7 @@ impl<'a, F, G, R> Live<'a, F, G, R> {
         requires new { visits ≡ no_visits visits.guessing }
         requires least { 1 ≤ visits.guessing.ahead }
         requires most { visits.guessing.ahead ≤ 64 }
-        ensures live { result ≡ new_live finder giver visits.guessing (length workers.items) knows }
+        ensures live { result ≡ new_live finder giver visits.guessing (length workers.now.items) knows }
         ensures plan { plan_of result ≡ new_plan visits.guessing (Some (queue_of giver)) }
     {
         Live {
@@ -98,13 +98,6 @@ impl<'a, F, G, R> Live<'a, F, G, R> {
         }
     }
 
-    /// It does nothing. A caller's proof learns from it what holds of every such helper.
-    pub(crate) fn truth(&self)
-        ensures { IsLive self.now }
-    {
-        let _ = &self.visits;
-    }
-
     /// The finder that it asks.
     pub fn finder(&self) -> &F
         ensures { result.now ≡ self.now.finder }
@@ -112,10 +105,11 @@ impl<'a, F, G, R> Live<'a, F, G, R> {
         &self.finder
     }
 
-    /// The finder that it asks, and the giver of its queue.
+    /// The finder that it asks, and the giver of its queue. A caller's proof learns what holds of every such helper.
     pub fn into_parts(self) -> (F, Giver)
         ensures finder { result.0 ≡ self.entry.finder }
         ensures giver { result.1 ≡ self.entry.pusher.giver }
+        ensures live { IsLive self.entry }
     {
         let Live {
             alloc: _,
@@ -123,7 +117,7 @@ impl<'a, F, G, R> Live<'a, F, G, R> {
             finder,
             pusher,
             budget: _budget,
-            workers: _workers,
+            workers: _,
             visits: _visits,
             seen: _,
         } = self;

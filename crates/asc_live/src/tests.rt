@@ -8,7 +8,7 @@ use asc_jobs::{Jobs, Taker};
 use asc_outside::{Gate, Point};
 use asc_run::{Helper, LastVisits};
 use asc_shape::{Shape, State};
-use crossbeam_utils::sync::Parker;
+use crossbeam_utils::sync::{Parker, Unparker};
 use std::alloc::Global;
 use std::process::Abort;
 use std::slice::Iter;
@@ -101,22 +101,18 @@ fn guessing(on: bool) -> Guessing
     }
 }
 
-/// A helper whose queue holds 3 jobs, and who takes these. It wakes one worker, where there is one.
+/// A helper whose queue holds 3 jobs, and who takes these. It wakes these workers.
 fn live_of<'a, R: Wait>(
     rt: &'a R,
     alloc: Global,
     gate: &'a Noting,
-    worker: Option<&Parker>,
+    workers: &'a Vec<Unparker>,
     guessing: Guessing,
 ) -> Result<(Live<'a, Nothing, Noting, R>, Vec<Taker>), Fail>
     requires least { 1 ≤ guessing.ahead }
     requires most { guessing.ahead ≤ 64 }
 {
     let (giver, takers) = Jobs::open(alloc, 3, 1)?;
-    let mut workers = Vec::new(alloc);
-    if let Some(parker) = worker {
-        workers.push(parker.unparker().clone()?)?;
-    }
     let visits = LastVisits::new(alloc, guessing)?;
     let live = Live::new(
         alloc,
@@ -204,7 +200,9 @@ fn visits(rt: HostRuntime) -> Result<(), Fail> {
     let mut state = State::new(alloc, shape)?;
     let parker = Parker::new(alloc)?;
     let gate = Noting::new();
-    let (mut live, mut takers) = live_of(&rt, alloc, &gate, Some(&parker), guessing(true))?;
+    let mut workers = Vec::new(alloc);
+    workers.push(parker.unparker().clone()?)?;
+    let (mut live, mut takers) = live_of(&rt, alloc, &gate, &workers, guessing(true))?;
     let mut taker = takers.pop().expect(&rt, "a taker");
     is_sent(&live);
     let mut rows = JOBS.iter();
@@ -256,7 +254,9 @@ fn pages_are_charged(rt: HostRuntime) -> Result<(), Fail> {
     let mut state = State::new(alloc, shape)?;
     let parker = Parker::new(alloc)?;
     let gate = Noting::new();
-    let (mut live, mut takers) = live_of(&rt, alloc, &gate, Some(&parker), guessing(true))?;
+    let mut workers = Vec::new(alloc);
+    workers.push(parker.unparker().clone()?)?;
+    let (mut live, mut takers) = live_of(&rt, alloc, &gate, &workers, guessing(true))?;
     let mut taker = takers.pop().expect(&rt, "a taker");
     for &(number, left, made) in &WRITTEN {
         let _job = taker.pop(&rt);
@@ -299,11 +299,13 @@ fn states_are_left(rt: HostRuntime) -> Result<(), Fail> {
     let mut state = State::new(alloc, shape)?;
     let parker = Parker::new(alloc)?;
     let gate = Noting::new();
+    let mut workers = Vec::new(alloc);
+    workers.push(parker.unparker().clone()?)?;
     let last = Guessing {
         stride: false,
         ..guessing(true)
     };
-    let (mut live, mut takers) = live_of(&rt, alloc, &gate, Some(&parker), last)?;
+    let (mut live, mut takers) = live_of(&rt, alloc, &gate, &workers, last)?;
     let mut taker = takers.pop().expect(&rt, "a taker");
     let mut rows = LEFT_JOBS.iter();
     for &(number, taken) in &LEFT {
@@ -323,7 +325,9 @@ fn jobs_of_an_unpaid_visit(rt: HostRuntime) -> Result<(), Fail> {
     let mut state = State::new(alloc, shape)?;
     let parker = Parker::new(alloc)?;
     let gate = Noting::new();
-    let (mut live, _takers) = live_of(&rt, alloc, &gate, Some(&parker), guessing(true))?;
+    let mut workers = Vec::new(alloc);
+    workers.push(parker.unparker().clone()?)?;
+    let (mut live, _takers) = live_of(&rt, alloc, &gate, &workers, guessing(true))?;
     write(&mut state);
     for number in 1..3 {
         visit(&rt, &mut live, &gate, &mut state, number, 500_000);
@@ -342,7 +346,8 @@ fn no_kinds(rt: HostRuntime) -> Result<(), Fail> {
     let shape = Shape::new(65_536, 65_536).expect(&rt, "a good shape");
     let mut state = State::new(alloc, shape)?;
     let gate = Noting::new();
-    let (mut live, _takers) = live_of(&rt, alloc, &gate, None, guessing(false))?;
+    let workers = Vec::new(alloc);
+    let (mut live, _takers) = live_of(&rt, alloc, &gate, &workers, guessing(false))?;
     for number in 1..70 {
         visit(&rt, &mut live, &gate, &mut state, number, 500_000 - number);
     }

@@ -57,7 +57,7 @@ pub(crate) struct Got {
     pub(crate) answer: Answer,
     store: ListStore,
     pub(crate) out: ListSink,
-    err: ListSink,
+    pub(crate) err: ListSink,
     pub(crate) report: ListSink,
 }
 
@@ -213,7 +213,7 @@ fn run_over<L: Ledger, R: Abort + Threads + Wait + Sync + Copy + Drop + Send, G:
     let mut input = ListSource::new(bytes, most, vec![in alloc; input_fails; 1]?);
     let mut out = sink(rt, alloc, devices.room, most, out_fails)?;
     let mut err = sink(rt, alloc, devices.room, most, err_fails)?;
-    let mut report = sink(rt, alloc, 512, most, report_fails)?;
+    let mut report = sink(rt, alloc, 4096, most, report_fails)?;
     let answer = top(
         rt,
         alloc,

@@ -13,13 +13,13 @@ use Rattle.asc_words.specs.declared.line.RunLine.{RunLine}
 use Rattle.asc_words.specs.declared.answer.Outcome.{Outcome}
 use Rattle.asc_top.specs.Program.{Files}
 use Rattle.asc_top.specs.Numbers.{counts_of, course_of_image, guessing_of, keeps_entries, numbers_of, recognised_by, settings_of}
-use Rattle.asc_top.specs.Ran.{AreOpened, Ran, Walked}
+use Rattle.asc_top.specs.Ran.{AreOpened, IsNew, Ran, Walked}
 use Rattle.asc_top.proofs.Ends.{no_workers-told}
 use Rattle.asc_top.proofs.Walks.{ran}
-use Rattle.asc_top.proofs.Serials.{IsNew, no_kinds, unloaded, serial_of_machine, serial_of_none, plain_of_none}
+use Rattle.asc_top.proofs.Serials.{no_kinds, unloaded, serial_of_machine, serial_of_none, plain_of_none}
 
 -- where a line has neither saved entries nor numbers to be reported, nothing is kept
-keeps_none : (line : RunLine) → line.load ≡ None → line.report ≡ false → keeps_entries line ≡ false
+pub keeps_none : (line : RunLine) → line.load ≡ None → line.report ≡ false → keeps_entries line ≡ false
 keeps_none line unnamed unasked = λ i. is_some (unnamed i) || (unasked i && (line.last || line.stride))
 
 module _ (line : RunLine) (files : Files) (was : Walk) (entries : List Entry) (opened : AreOpened line files was entries) (now : Walk) (old new : Outside) (first last : Aid) (outcome : Outcome)
@@ -32,7 +32,7 @@ module _ (line : RunLine) (files : Files) (was : Walk) (entries : List Entry) (o
       (λ _ same asked left count says refused. subst
       (λ (content : List Entry). IsSerialRun line.limit (is_mark (recognised_by line) (course_of_image opened.own.image left)) (course_of_image opened.own.image left) opened.own.image.start.shape (guessing_of line) content
       (numbers_of (counts_of w.counts last.plan.made last.plan.refused))) empty
-      (serial_of_none line opened.own.image (settings_of line).recognised line.report was now opened.own.walk_is old new first last None outcome w fresh (no_kinds line none asked) no_hit no_guess same left count says))
+      (serial_of_none line opened.own.image (settings_of line).recognised line.report was now opened.own.walk_is old new first last None outcome w fresh (no_kinds line none asked) no_hit no_guess same left count says).run)
       (λ _ _ _. plain_of_none line opened.own.image (settings_of line).recognised line.report was now opened.own.walk_is old new first last None outcome w fresh no_step)
 
   -- with the machine of a serial run

@@ -15,10 +15,9 @@ use Rattle.asc_words.specs.Answer.{outcome_of}
 use Rattle.asc_top.specs.Program.{Files, answer_at}
 use Rattle.asc_top.specs.Numbers.{AreWorkerNumbers, WorkersAreTold, counts_of, guessing_of, reported_at}
 use Rattle.asc_top.specs.Workers.{crew_of, workers_of}
-use Rattle.asc_top.specs.Ran.{AreOpened, Ran, RanBeside, WalkedBeside}
+use Rattle.asc_top.specs.Ran.{AreOpened, IsNew, Ran, RanBeside, WalkedBeside}
 use Rattle.asc_top.proofs.Ends.{workers-told}
 use Rattle.asc_top.proofs.Refused.{ran_memory}
-use Rattle.asc_top.proofs.Serials.{IsNew}
 use Rattle.asc_top.proofs.Walks.{ran}
 
 module _ (line : RunLine) (was now : Walk) (old new : Outside) (worked : Worked) (counts : WalkCounts) (went : WentBeside (guessing_of line) (crew_of line) was now old new worked)
@@ -51,6 +50,8 @@ module _ (line : RunLine) (was now : Walk) (old new : Outside) (worked : Worked)
       goes = went.goes.goes;
       raised = went.raised;
       limit = went.limit;
+      settings = went.goes.settings;
+      shape = went.shape;
       faults = went.faults;
       counts = counts;
       count = count;

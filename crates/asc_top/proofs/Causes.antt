@@ -65,6 +65,7 @@ end_in answers.ErrFault = Some ends.ErrFault
 end_in (answers.Usage bad) = None
 end_in (answers.Image fault) = None
 end_in answers.TooLong = None
+end_in (answers.InputTooLong input) = None
 end_in (answers.Saved fault) = None
 end_in answers.StoreFault = None
 end_in answers.Memory = None

@@ -21,10 +21,10 @@ use Rattle.asc_words.specs.declared.answer.WorkerCounts.{WorkerCounts}
 use Rattle.asc_words.specs.Line.{IsRunWithin}
 use Rattle.asc_top.specs.Program.{run_of_image}
 use Rattle.asc_top.specs.Numbers.{counts_of, entries_of_save, guessing_of, numbers_of, recognised_by, visited_settings}
-use Rattle.asc_top.specs.Ran.{IsWalkOf, Walked}
+use Rattle.asc_top.specs.Ran.{IsNew, IsWalkOf, Walked}
 use Rattle.asc_top.specs.Saves.{RunsToSave}
 use Rattle.asc_top.specs.Answered.{RisesWithin}
-use Rattle.asc_top.proofs.Serials.{IsByMachine, IsNew, goes, serial_of_machine}
+use Rattle.asc_top.proofs.Serials.{IsByMachine, goes, serial_of_machine}
 use Rattle.asc_top.proofs.Trials.{no_device}
 use Rattle.asc_top.proofs.Walks.{rest_of}
 

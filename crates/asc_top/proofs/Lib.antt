@@ -13,3 +13,9 @@ pub mod ReadFiles
 pub mod Saving
 pub mod Alone
 pub mod Leaving
+pub mod BatchLists
+pub mod BatchRuns
+pub mod BatchAnswers
+pub mod BatchReads
+pub mod Shown
+pub mod BatchLoops

@@ -67,6 +67,7 @@ behind_memory line answered before after is may = subst (λ (a : Answer). AsksBe
 behind_run : (line : RunLine) (answered : Answer) (before after : Option (List (List ℕ))) → (answered ≡ answers.TooLong → ⊥) → ((fault : ElfFault) → answered ≡ answers.Image fault → ⊥) → AsksForSecond line.load before after → AsksBehind line answered before after
 behind_run line answers.TooLong before after short image asks = absurd (short refl)
 behind_run line (answers.Image fault) before after short image asks = absurd (image fault refl)
+behind_run line (answers.InputTooLong input) before after short image asks = asks
 behind_run line answers.StoreFault before after short image asks = inr asks
 behind_run line answers.Memory before after short image asks = inr asks
 behind_run line (answers.Exit code) before after short image asks = asks

@@ -20,15 +20,8 @@ use Rattle.asc_words.specs.declared.answer.Outcome.{Outcome}
 use Rattle.asc_words.specs.declared.answer.WorkerCounts.{WorkerCounts}
 use Rattle.asc_top.specs.Program.{run_of_image}
 use Rattle.asc_top.specs.Numbers.{AreOfVisits, counts_of, course_of_image, guessing_of, keeps_entries, numbers_of, recognised_by}
-use Rattle.asc_top.specs.Ran.{Walked}
+use Rattle.asc_top.specs.Ran.{IsNew, Walked}
 use Rattle.asc_top.proofs.Unguessed.{idles, none_given}
-
--- a helper that has done nothing
-pub record IsNew (first : Aid) : Type 0 where
-  pub tally : first.tally ≡ tally 0 0 0
-  pub made : first.plan.made ≡ 0
-  pub refused : first.plan.refused ≡ 0
-  pub full : first.plan.full ≡ 0
 
 -- where no entries are to be kept none are saved, and of numbers that are asked for no kind of guess is on
 no_kind : (some report last stride : Bool) → (some || (report && (last || stride))) ≡ false → report ≡ true → (last ≡ false) × (stride ≡ false)
@@ -117,10 +110,14 @@ module _ (line : RunLine) (image : loader.Image) (recognised : Recognised) (is_a
         machine = k.2;
       }
 
+  -- The numbers are those of a serial run that keeps no entry.
+  pub record IsByNone (left : List ℕ) : Type 0 where
+    pub run : IsSerialRun line.limit (is_mark (recognised_by line) (course_of_image image left)) (course_of_image image left) image.start.shape (guessing_of line) [] (numbers_of told)
+    pub empty : run.now.content ≡ []
+
   -- with a helper that gives no jump, where no kind of guess is on
   pub serial_of_none : kinds_of (guessing_of line) ≡ [] → last.tally.hits ≡ 0 → last.plan.made ≡ 0 → recognised ≡ recognised_by line → (left : List ℕ)
-      → (run_of_image line image left).count ≡ now.count → SaysVisits left
-      → IsSerialRun line.limit (is_mark (recognised_by line) (course_of_image image left)) (course_of_image image left) image.start.shape (guessing_of line) [] (numbers_of told)
+      → (run_of_image line image left).count ≡ now.count → SaysVisits left → IsByNone left
   unfolding exec
   serial_of_none none no_hit no_guess same left count has =
       let g = goes in
@@ -128,12 +125,15 @@ module _ (line : RunLine) (image : loader.Image) (recognised : Recognised) (is_a
       let idle = idles line.limit (course_of_image image left) recognised (serial_of image.start.shape (guessing_of line) []) (record { kinds = none; content = refl })
       g.visits line.limit has.are (none_given g.visits first.tally unhit) in
       record {
-        visits = g.visits;
-        are = marked_by_line same left has.are;
-        now = idle.now;
-        serial = subst (λ (m : ℕ). IsSerial line.limit (course_of_image image left) (serial_of image.start.shape (guessing_of line) []) g.visits idle.now m) (sym no_guess) idle.serial;
-        tally = counted;
-        executed = w.executed ∙ sym count;
+        run = record {
+          visits = g.visits;
+          are = marked_by_line same left has.are;
+          now = idle.now;
+          serial = subst (λ (m : ℕ). IsSerial line.limit (course_of_image image left) (serial_of image.start.shape (guessing_of line) []) g.visits idle.now m) (sym no_guess) idle.serial;
+          tally = counted;
+          executed = w.executed ∙ sym count;
+        };
+        empty = idle.idle.content;
       }
 
   -- a helper that gives no jump runs it plainly

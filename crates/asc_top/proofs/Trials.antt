@@ -59,6 +59,7 @@ other_result n workers counts run (answers.Fault fault count) other = refl
 other_result n workers counts run (answers.Usage bad) other = refl
 other_result n workers counts run (answers.Image fault) other = refl
 other_result n workers counts run answers.TooLong other = refl
+other_result n workers counts run (answers.InputTooLong input) other = refl
 other_result n workers counts run (answers.Saved fault) other = refl
 other_result n workers counts run answers.StoreFault other = refl
 other_result n workers counts run answers.Memory other = refl
@@ -91,6 +92,7 @@ exits (answers.Fault fault count) counts status own is = absurd (cc)
 exits (answers.Usage bad) counts status own is = absurd (cc)
 exits (answers.Image fault) counts status own is = absurd (cc)
 exits answers.TooLong counts status own is = absurd (cc)
+exits (answers.InputTooLong input) counts status own is = absurd (cc)
 exits (answers.Saved fault) counts status own is = absurd (cc)
 exits answers.StoreFault counts status own is = absurd (cc)
 exits answers.Memory counts status own is = absurd (cc)
@@ -262,7 +264,7 @@ module _ (n workers lanes : ℕ) (remains : Option (List ℕ)) (put complained b
           let few : length (run_of_image (trial_run workers) image []).io.out ≤ 1000000 * (image.start.shape.base + image.start.shape.size) =
           out-exec 1000000 image.low (loader.high_of image) image.start [] in
           let out : length run.io.out ≡ length (run_of_image (trial_run workers) image []).io.out = ap (λ (x : ProgramResult). length x.io.out) same in
-          (ap (λ (x : ProgramResult). x.count) same ∙ sym own_numbers.total, omega (arith, few, out, shape.base.within))
+          (ap (λ (x : ProgramResult). x.count) same ∙ sym own_numbers.of.total, omega (arith, few, out, shape.base.within))
       sized (Err fault) is own numbers status exit =
           let image : run.answer ≡ answers.Image fault = ap (λ (x : ProgramResult). x.answer) (means_load n workers (Err fault) is) in
           absurd (cc)

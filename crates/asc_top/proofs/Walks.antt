@@ -25,10 +25,10 @@ use Rattle.asc_words.specs.declared.answer.WorkerCounts.{WorkerCounts}
 use Rattle.asc_words.specs.declared.answer.Outcome.{Outcome}
 use Rattle.asc_top.specs.Program.{Files, load_of, answer_at, ProgramResult, result_of_entries, result_of_run, result_of_load, run_of_image, meaning, Gives, IsStopped}
 use Rattle.asc_top.specs.Numbers.{AreNumbers, AreNumbersOf, AreTold, Means, counts_of, course_of_image, guessing_of, has_workers, numbers_of, recognised_by, reported_at, settings_of, taken_of, WorkersAreTold}
-use Rattle.asc_top.specs.Ran.{AreOpened, Ran, Walked}
+use Rattle.asc_top.specs.Ran.{AreOpened, IsNew, Ran, Walked}
 use Rattle.asc_top.proofs.Causes.{meaning-within}
 use Rattle.asc_top.proofs.Ends.{device_of_answer-answer_at, run-not_refused, counts-told, told_have, all_told}
-use Rattle.asc_top.proofs.Serials.{IsNew, few, goes as goes_so, seen}
+use Rattle.asc_top.proofs.Serials.{few, goes as goes_so, seen}
 
 -- an input that may come after a run: it agrees with what is told then
 pub record Rest (w : World) : Type 0 where
@@ -105,9 +105,11 @@ module _ (line : RunLine) (files : Files) (was : Walk) (entries : List Entry) (o
   numbers serial left count_is says asked =
       let same = same_address asked in
       let are : AreNumbersOf line image entries left told = record {
-        total = w.executed ∙ sym count_is;
-        visits = seen line image recognised line.report was now opened.own.walk_is old new first last workers outcome w fresh same left says;
-        few = few line image recognised line.report was now opened.own.walk_is old new first last workers outcome w fresh;
+        of = record {
+          total = w.executed ∙ sym count_is;
+          visits = seen line image recognised line.report was now opened.own.walk_is old new first last workers outcome w fresh same left says;
+          few = few line image recognised line.report was now opened.own.walk_is old new first last workers outcome w fresh;
+        };
         serial = λ alone refused. serial alone same asked left count_is says refused;
       } in
       subst (λ (taken : Result (List Entry) SavedFault). AreNumbersOf line image (taken_of taken) left told) (sym opened.taken) are

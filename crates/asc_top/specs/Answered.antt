@@ -24,6 +24,7 @@ use Rattle.asc_words.specs.declared.answer.Bad.{Bad}
 use Rattle.asc_words.specs.Line.{file_limit}
 use Rattle.asc_top.specs.Program.{Files, meaning, Gives, GivesPart, Runs, IsNoImage, IsNoSaved, IsStopped, image_alone, load_of, make_result, trial_run}
 use Rattle.asc_top.specs.Numbers.{Means, Saves, SavesPart, Tries, TriesPart, WorkersAreTold}
+use Rattle.asc_top.specs.Batch.{AreBatchFiles, BatchFiles, batch_meaning}
 use Rattle.asc_top.specs.Kinds.{Finished, kind_of, Completes, IsRefusal, device_of_answer}
 
 -- ---- what is told
@@ -74,7 +75,7 @@ Asked = Result Line Bad
 
 -- What is done where no device fails and no memory is wanting. A run whose files and input are told gives what the files
 -- mean. A save whose image is told gives the file of the entries that its run leaves. A make gives its image, and a trial
--- its text. Wrong words are answered, and nothing is done.
+-- its text. A batch whose files are told gives what they mean. Wrong words are answered, and nothing is done.
 abbrev pub Done : Asked → (old new : Devices) → Answer → Type 0
 Done (Ok (lines.Run line)) old new answered =
     (files : Files) (left : List ℕ) → AreFilesOf (IsHeld old.files) line files → old.guest.left ≡ Some left
@@ -83,6 +84,9 @@ Done (Ok (lines.Save line)) old new answered =
     (content : List ℕ) → IsHeld old.files line.image content → Saves line content old.guest new.guest answered
 Done (Ok (lines.Make n)) old new answered = Gives old.guest new.guest 0 answered (make_result n)
 Done (Ok (lines.Trial n workers lanes)) old new answered = Tries n workers old.guest new.guest answered
+Done (Ok (lines.Batch line)) old new answered =
+    (files : BatchFiles) → AreBatchFiles (IsHeld old.files) line files
+    → (executed : ℕ) × Gives old.guest new.guest executed answered (batch_meaning line files)
 Done (Err bad) old new answered = (answered ≡ answers.Usage bad) × (new.guest ≡ old.guest)
 
 -- The headline. Where no device failed and no memory was wanting, the answer, what was taken and put, and the rise of
@@ -91,6 +95,9 @@ abbrev pub Headline : Asked → (old new : Devices) → Answer → Type 0
 Headline asked old new answered = Completes answered → Done asked old new answered
 
 -- ---- what holds of an answer
+
+-- That to a batch has a record of its own, `IsBatchAnswer`. Here a batch comes to nothing but want of memory, before the
+-- store was asked for a file.
 
 -- the same where a file or input is not told: it gives what some files mean that the store may hold
 abbrev pub DoneUntold : Asked → (old new : Devices) → Outcome → Type 0
@@ -110,6 +117,7 @@ Stops (Ok (lines.Save line)) old new device = (device ≡ Out)
     × ((content : List ℕ) × MayHold old.files line.image content × SavesPart line content old.guest new.guest)
 Stops (Ok (lines.Make n)) old new device = (device ≡ Out) × GivesPart old.guest new.guest 0 (make_result n)
 Stops (Ok (lines.Trial n workers lanes)) old new device = (device ≡ Out) × TriesPart n workers old.guest new.guest
+Stops (Ok (lines.Batch line)) old new device = ⊥
 Stops (Err bad) old new device = ⊥
 
 -- The words ask for a run, and the store may hold files of its names whose contents have P. Or they ask for a save, and
@@ -120,6 +128,7 @@ HasFile (Ok (lines.Save line)) old P =
     (content : List ℕ) × MayHold old.files line.image content × P line (image_alone content)
 HasFile (Ok (lines.Make n)) old P = ⊥
 HasFile (Ok (lines.Trial n workers lanes)) old P = ⊥
+HasFile (Ok (lines.Batch line)) old P = ⊥
 HasFile (Err bad) old P = ⊥
 
 -- the same, or they ask for a trial, whose image has P
@@ -130,6 +139,7 @@ HasImage (Ok (lines.Save line)) old P =
     (content : List ℕ) × MayHold old.files line.image content × P (Some []) line (image_alone content)
 HasImage (Ok (lines.Make n)) old P = ⊥
 HasImage (Ok (lines.Trial n workers lanes)) old P = P (Some []) (trial_run workers) (image_alone (image_of n))
+HasImage (Ok (lines.Batch line)) old P = ⊥
 HasImage (Err bad) old P = ⊥
 
 -- a file of entries was put to a sink, or an image, or the text of a trial
@@ -140,6 +150,7 @@ IsWritten (Ok (lines.Save line)) before after =
 IsWritten (Ok (lines.Make n)) before after = after ≡ given_after before (image_of n)
 IsWritten (Ok (lines.Trial n workers lanes)) before after =
     (trial : TrialOutcome) × (trial.n ≡ n) × (after ≡ given_after before (trial_text trial))
+IsWritten (Ok (lines.Batch line)) before after = ⊥
 IsWritten (Err bad) before after = ⊥
 
 -- the numbers are told of the workers of a run, and of none else
@@ -148,6 +159,7 @@ HasWorkersOf (Ok (lines.Run line)) outcome = WorkersAreTold line outcome.counts 
 HasWorkersOf (Ok (lines.Save line)) outcome = outcome.workers ≡ None
 HasWorkersOf (Ok (lines.Make n)) outcome = outcome.workers ≡ None
 HasWorkersOf (Ok (lines.Trial n workers lanes)) outcome = outcome.workers ≡ None
+HasWorkersOf (Ok (lines.Batch line)) outcome = outcome.workers ≡ None
 HasWorkersOf (Err bad) outcome = outcome.workers ≡ None
 
 -- these words ask for the numbers of a run
@@ -156,6 +168,7 @@ AskForCounts (Ok (lines.Run line)) = IsTrue line.report
 AskForCounts (Ok (lines.Save line)) = ⊥
 AskForCounts (Ok (lines.Make n)) = ⊥
 AskForCounts (Ok (lines.Trial n workers lanes)) = ⊥
+AskForCounts (Ok (lines.Batch line)) = ⊥
 AskForCounts (Err bad) = ⊥
 
 -- behind an image the store was asked, once, for the file of saved entries, where there is a name of one
@@ -186,6 +199,7 @@ AsksForFiles (Ok (lines.Save line)) answered before after =
     AsksFor line.image before after ⊎ AsksForNone answered before after
 AsksForFiles (Ok (lines.Make n)) answered before after = after ≡ before
 AsksForFiles (Ok (lines.Trial n workers lanes)) answered before after = after ≡ before
+AsksForFiles (Ok (lines.Batch line)) answered before after = AsksForNone answered before after
 AsksForFiles (Err bad) answered before after = after ≡ before
 
 -- a counter rose, by at most so many

@@ -30,6 +30,7 @@ kind_of answers.WriteFault = Stopped Out
 kind_of answers.ErrFault = Stopped Err
 kind_of (answers.Image fault) = BadFile
 kind_of answers.TooLong = BadFile
+kind_of (answers.InputTooLong input) = BadFile
 kind_of (answers.Saved fault) = BadFile
 kind_of (answers.Usage bad) = BadWords
 kind_of answers.StoreFault = Unread

@@ -6,6 +6,11 @@ pub mod Numbers
 pub mod Kinds
 pub mod Workers
 pub mod Ran
+pub mod Batch
 pub mod Answered
 pub mod Reported
+pub mod BatchAnswer
+pub mod Shown
+pub mod BatchRead
+pub mod Runner
 pub mod Saves

@@ -1,5 +1,5 @@
 -- The numbers of a run, and what a trial tells of its own.
-use Rattle.std.specs.Prelude.{◌≡◌, ℕ, zero, suc, Bool, MatchBool, false, ◌+◌, ◌*◌, ◌<◌, ◌≤◌, ◌&&◌, ◌||◌, nat_lt, List, [], length, Option, Some, None, Result, Ok, Err, if◌then◌else◌}
+use Rattle.std.specs.Prelude.{◌≡◌, ℕ, zero, suc, Bool, MatchBool, true, false, ◌+◌, ◌*◌, ◌<◌, ◌≤◌, ◌&&◌, ◌||◌, nat_lt, List, [], length, Option, Some, None, Result, Ok, Err, if◌then◌else◌}
 use Rattle.std.specs.Option.{is_some}
 use Rattle.asc_model.specs.Entry.{Entry}
 use Rattle.asc_model.specs.EntryFile.{entry_file}
@@ -59,6 +59,12 @@ asks_for_threads (lines.Run line) = nat_lt 0 line.workers || nat_lt 0 line.lanes
 asks_for_threads (lines.Save line) = false
 asks_for_threads (lines.Make n) = false
 asks_for_threads (lines.Trial n workers lanes) = nat_lt 0 workers || nat_lt 0 lanes
+asks_for_threads (lines.Batch line) = nat_lt 0 line.run.workers
+
+-- a line is a batch's
+abbrev pub is_batch : Line → Bool
+is_batch (lines.Batch line) = true
+is_batch _ = false
 
 -- What nobody sees is not run: a run's visits matter where its numbers are reported, and where it has workers or saved
 -- entries.
@@ -137,9 +143,8 @@ abbrev pub taken_of : Result (List Entry) SavedFault → List Entry
 taken_of (Ok entries) = entries
 taken_of (Err fault) = []
 
--- these are the numbers of a run of an image over an input, which has these entries at first, the oldest before the others
-pub record AreNumbersOf (line : RunLine) (image : loader.Image) (entries : List Entry) (left : List ℕ) (counts : Counts)
-    : Type 0 where
+-- these numbers are those of the run of an image over an input, by its steps and its visits
+pub record AreCountsOf (line : RunLine) (image : loader.Image) (left : List ℕ) (counts : Counts) : Type 0 where
   -- the steps executed and the steps jumped over are all its steps
   pub total : counts.executed + counts.skipped ≡ (run_of_image line image left).count
   -- they are those of its visits
@@ -147,6 +152,11 @@ pub record AreNumbersOf (line : RunLine) (image : loader.Image) (entries : List 
       (course_of_image image left) counts
   -- with memory or without, at most 128 guesses were made at each visit
   pub few : counts.made ≤ 128 * counts.asked
+
+-- these are the numbers of a run of an image over an input, which has these entries at first, the oldest before the others
+pub record AreNumbersOf (line : RunLine) (image : loader.Image) (entries : List Entry) (left : List ℕ) (counts : Counts)
+    : Type 0 where
+  pub of : AreCountsOf line image left counts
   -- where there are no workers beside it, as in rounds, and memory was never wanting, they are those of a serial run, by
   -- its definition
   pub serial : line.workers ≡ 0 → counts.refused ≡ 0

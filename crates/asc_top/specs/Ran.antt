@@ -17,7 +17,7 @@ use Rattle.asc_run.specs.Execution.{device_of}
 use Rattle.asc_run.specs.Helped.{Aid}
 use Rattle.asc_run.specs.SerialHelper.{SerialHelper, first_helper}
 use Rattle.asc_run.specs.SerialRun.{serial_of}
-use Rattle.asc_run.specs.Walk.{Walk, GoesHelped, IsRaisedBy, new_walk, world_of}
+use Rattle.asc_run.specs.Walk.{Walk, GoesHelped, IsRaisedBy, new_walk, tally, world_of}
 use Rattle.asc_run.specs.Visits.{is_mark}
 use Rattle.asc_live.specs.Crew.{IsNewAid}
 use Rattle.asc_words.specs.declared.line.RunLine.{RunLine}
@@ -126,6 +126,13 @@ abbrev pub loaded_helper : Shape → Guessing → (entries : List Entry) → Ser
 loaded_helper shape guessing entries =
     record (first_helper shape guessing) { machine = serial_of shape guessing (content_of run_capacity entries) }
 
+-- a helper that has done nothing
+pub record IsNew (first : Aid) : Type 0 where
+  pub tally : first.tally ≡ tally 0 0 0
+  pub made : first.plan.made ≡ 0
+  pub refused : first.plan.refused ≡ 0
+  pub full : first.plan.full ≡ 0
+
 -- A walk that had not begun went to its end with a helper, which came from first to last, and the outcome tells how, with
 -- the numbers of its workers that are told.
 pub record Walked (is_asked : Bool) (was now : Walk) (old new : Outside) (first last : Aid) (told : Option WorkerCounts)
@@ -135,6 +142,9 @@ pub record Walked (is_asked : Bool) (was now : Walk) (old new : Outside) (first 
       now.count now.tally.given ended
   pub raised : IsRaisedBy now.tally first.tally last.tally
   pub limit : now.count ≤ was.settings.limit
+  pub settings : now.settings ≡ was.settings
+  -- where no device failed, its state has the shape that it had
+  pub shape : device_of ended ≡ None → now.state.shape ≡ was.state.shape
   pub faults : BlamesOnly (device_of ended) old.faults new.faults
   pub counts : WalkCounts
   pub count : counts.count ≡ now.count

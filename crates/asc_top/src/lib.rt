@@ -1,12 +1,15 @@
 //! The program as one call: the words of a command line and the outside are handed in, and an answer is given.
 #![tactic(auto)]
 
+mod batch;
+mod batch_files;
 mod make;
 mod numbers;
 mod opened;
 mod program;
 mod rounds;
 mod run;
+mod runner;
 mod save;
 mod settings;
 mod trial;

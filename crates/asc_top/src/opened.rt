@@ -136,7 +136,7 @@ fn entries_of(alloc: Global, shape: Shape, file: &[u8]) -> Result<Vec<Arc<Entry>
 }
 
 /// The content of a file, or the answer where it is not read. One that is too long has this answer.
-fn file_of<F: Store>(
+pub(crate) fn file_of<F: Store>(
     alloc: Global,
     name: &FileName,
     too_long: Answer,

@@ -1,11 +1,13 @@
-ghost use Rattle.std.specs.Prelude.{◌≡◌, ◌≢◌, map, true, false, Ok, IfOk, IfErr};
+ghost use Rattle.std.specs.Prelude.{◌≡◌, ◌≢◌, ◌||◌, map, true, false, Ok, IfOk, IfErr};
 ghost use Rattle.std.specs.String.{string_bytes};
 ghost use Rattle.asc_calls.specs.World.{faults, outside};
 ghost use Rattle.asc_words.specs.Line.{line_of, IsWithin};
-ghost use Rattle.asc_top.specs.Numbers.{asks_for_threads};
+ghost use Rattle.asc_top.specs.Numbers.{asks_for_threads, is_batch};
 ghost use Rattle.asc_top.specs.Answered.{Headline, IsAnswerFor, IsAnswerTo, devices};
 ghost use Rattle.asc_top.specs.Reported.{IsReported, report_with};
+ghost use Rattle.asc_top.specs.Shown.{IsShownFor};
 
+use crate::batch::batch;
 use crate::make::make;
 use crate::run::{run_alone, run_beside};
 use crate::save::save;
@@ -26,7 +28,8 @@ use std::thread::Threads;
 /// - `run` runs an image of the store;
 /// - `save` runs one, and puts the entries that its run leaves to out;
 /// - `make` puts a generated image to out;
-/// - `trial` runs one, and puts a text on it to out.
+/// - `trial` runs one, and puts a text on it to out;
+/// - `batch` runs an image of the store over several inputs of the store, and puts lines on each run to report.
 ///
 /// Where a line has workers, they run in threads of their own beside the run, and their end is waited for. In rounds there
 /// are threads at a visit alone, and the visit waits for them. The gate is passed at the points of all these, and at those
@@ -72,21 +75,64 @@ pub fn top<
         (faults (I.faults input.new) (O.faults out.new) (E.faults err.new)))) result }
 
     // There is an outcome of which all holds that an answer to these words promises, and its text was put to report:
-    // its answer is the result. Or report failed, and the result is ReportFault.
-    ensures answer { (outcome : Outcome) × IsAnswerTo (map string_bytes words.now)
+    // its answer is the result. Or report failed, and the result is ReportFault. A batch puts the lines of its runs before.
+    ensures answer { IsShownFor (line_of (map string_bytes words.now))
         (devices (F.files store.old) (F.asked store.old) (F.faults store.old)
         (outside (I.left input.old) (O.given out.old) (E.given err.old) steps.old
         (faults (I.faults input.old) (O.faults out.old) (E.faults err.old))))
         (devices (F.files store.new) (F.asked store.new) (F.faults store.new)
         (outside (I.left input.new) (O.given out.new) (E.given err.new) steps.new
-        (faults (I.faults input.new) (O.faults out.new) (E.faults err.new)))) outcome
-        × IsReported (report_with (R.given report.old) (R.faults report.old))
-        (report_with (R.given report.new) (R.faults report.new)) outcome result }
+        (faults (I.faults input.new) (O.faults out.new) (E.faults err.new))))
+        (report_with (R.given report.old) (R.faults report.old))
+        (report_with (R.given report.new) (R.faults report.new)) result }
 {
-    reported(
-        outcome(rt, alloc, words, store, input, out, err, gate, steps),
-        report,
-    )
+    match outcome_alone(alloc, words, store, input, out, err, steps) {
+        Ok(outcome) => reported(outcome, report),
+        Err(line) => answer_of_line(rt, alloc, line, store, input, out, err, report, gate, steps),
+    }
+}
+
+/// Does what a line asks for that is a batch's or asks for threads, and puts its lines to report.
+fn answer_of_line<
+    T: Threads + Wait + Sync + Copy + Drop + Send,
+    F: Store,
+    I: Source,
+    O: Sink,
+    E: Sink,
+    R: Sink,
+    G: Gate + Sync,
+    L: Ledger,
+>(
+    rt: &T,
+    alloc: Global,
+    line: Line,
+    store: &mut F,
+    input: &mut I,
+    out: &mut O,
+    err: &mut E,
+    report: &mut R,
+    gate: &G,
+    steps: &mut Steps<L>,
+) -> Answer
+    requires within { IsWithin line }
+    requires some { (asks_for_threads line || is_batch line) ≡ true }
+    ensures { IsShownFor (Ok line)
+        (devices (F.files store.old) (F.asked store.old) (F.faults store.old)
+        (outside (I.left input.old) (O.given out.old) (E.given err.old) steps.old
+        (faults (I.faults input.old) (O.faults out.old) (E.faults err.old))))
+        (devices (F.files store.new) (F.asked store.new) (F.faults store.new)
+        (outside (I.left input.new) (O.given out.new) (E.given err.new) steps.new
+        (faults (I.faults input.new) (O.faults out.new) (E.faults err.new))))
+        (report_with (R.given report.old) (R.faults report.old))
+        (report_with (R.given report.new) (R.faults report.new)) result }
+{
+    match line {
+        Line::Batch(line) => batch(rt, alloc, &line, store, out, err, report, gate, steps),
+        line => reported(
+            outcome_of_beside(rt, alloc, line, store, input, out, err, gate, steps),
+            report,
+        ),
+    }
 }
 
 /// Puts an outcome's text to report, and gives its answer, or ReportFault where report fails. Where there is no text
@@ -107,7 +153,7 @@ pub fn reported<R: Sink>(outcome: Outcome, report: &mut R) -> Answer
 /// What the words of a command line come to that ask for no thread, before it is reported. They ask for a run or a trial
 /// without workers, saved entries or a generated image, or they are wrong. It starts no thread and waits for none.
 ///
-/// Where the words ask for workers, beside the run or in rounds, it answers the line, and nothing was done.
+/// Where the words ask for workers, beside the run or in rounds, or for a batch, it answers the line, and nothing was done.
 pub fn outcome_alone<F: Store, I: Source, O: Sink, E: Sink, L: Ledger>(
     alloc: Global,
     words: &[String],
@@ -126,16 +172,17 @@ pub fn outcome_alone<F: Store, I: Source, O: Sink, E: Sink, L: Ledger>(
         (outside (I.left input.new) (O.given out.new) (E.given err.new) steps.new
         (faults (I.faults input.new) (O.faults out.new) (E.faults err.new))))) }
 
-    // Or the words are a line that asks for threads, its numbers are within their bounds, and nothing was done.
+    // Or the words are a line that asks for threads, or a batch's, its numbers are within their bounds, and nothing was
+    // done.
     ensures beside { IfErr result (λ line. (line_of (map string_bytes words.now) ≡ Ok line)
-        × (asks_for_threads line ≡ true)) }
+        × ((asks_for_threads line || is_batch line) ≡ true)) }
     ensures within { IfErr result IsWithin }
     ensures nothing { IfErr result (λ _. (store.new ≡ store.old) × (input.new ≡ input.old) × (out.new ≡ out.old)
         × (err.new ≡ err.old) × (steps.new ≡ steps.old)) }
 {
     match parse(alloc, words) {
         Err(fault) => Ok(Outcome::of(Answer::from(fault))),
-        Ok(line) if asks_for_threads(&line) => Err(line),
+        Ok(line) if asks_for_threads(&line) || is_batch(&line) => Err(line),
         Ok(line) => Ok(outcome_of_alone(alloc, line, store, input, out, err, steps)),
     }
 }
@@ -148,7 +195,15 @@ fn asks_for_threads(line: &Line) -> bool
         Line::Run(run) => run.workers > 0 || run.lanes > 0,
         Line::Save(_) | Line::Make { .. } => false,
         Line::Trial { workers, lanes, .. } => *workers > 0 || *lanes > 0,
+        Line::Batch(line) => line.run.workers > 0,
     }
+}
+
+/// Whether a line is a batch's.
+fn is_batch(line: &Line) -> bool
+    ensures { result ≡ is_batch line.now }
+{
+    matches!(line, Line::Batch(_))
 }
 
 /// What a line comes to that asks for no thread, before it is reported.
@@ -163,6 +218,7 @@ fn outcome_of_alone<F: Store, I: Source, O: Sink, E: Sink, L: Ledger>(
 ) -> Outcome
     requires within { IsWithin line }
     requires none { asks_for_threads line ≡ false }
+    requires one { is_batch line ≡ false }
     ensures { IsAnswerFor (Ok line)
         (devices (F.files store.old) (F.asked store.old) (F.faults store.old)
         (outside (I.left input.old) (O.given out.old) (E.given err.old) steps.old
@@ -176,40 +232,7 @@ fn outcome_of_alone<F: Store, I: Source, O: Sink, E: Sink, L: Ledger>(
         Line::Save(line) => save(alloc, &line, store, out, steps),
         Line::Make { n } => make(alloc, n, out),
         Line::Trial { n, .. } => trial_alone(alloc, n, out, steps),
-    }
-}
-
-/// What the words come to, before it is reported.
-fn outcome<
-    T: Threads + Wait + Sync + Copy + Drop + Send,
-    F: Store,
-    I: Source,
-    O: Sink,
-    E: Sink,
-    G: Gate + Sync,
-    L: Ledger,
->(
-    rt: &T,
-    alloc: Global,
-    words: &[String],
-    store: &mut F,
-    input: &mut I,
-    out: &mut O,
-    err: &mut E,
-    gate: &G,
-    steps: &mut Steps<L>,
-) -> Outcome
-    ensures { IsAnswerTo (map string_bytes words.now)
-        (devices (F.files store.old) (F.asked store.old) (F.faults store.old)
-        (outside (I.left input.old) (O.given out.old) (E.given err.old) steps.old
-        (faults (I.faults input.old) (O.faults out.old) (E.faults err.old))))
-        (devices (F.files store.new) (F.asked store.new) (F.faults store.new)
-        (outside (I.left input.new) (O.given out.new) (E.given err.new) steps.new
-        (faults (I.faults input.new) (O.faults out.new) (E.faults err.new)))) result }
-{
-    match outcome_alone(alloc, words, store, input, out, err, steps) {
-        Ok(outcome) => outcome,
-        Err(line) => outcome_of_beside(rt, alloc, line, store, input, out, err, gate, steps),
+        Line::Batch(_) => unreachable!(),
     }
 }
 
@@ -235,6 +258,7 @@ fn outcome_of_beside<
 ) -> Outcome
     requires within { IsWithin line }
     requires some { asks_for_threads line ≡ true }
+    requires one { is_batch line ≡ false }
     ensures { IsAnswerFor (Ok line)
         (devices (F.files store.old) (F.asked store.old) (F.faults store.old)
         (outside (I.left input.old) (O.given out.old) (E.given err.old) steps.old
@@ -245,7 +269,7 @@ fn outcome_of_beside<
 {
     match line {
         Line::Run(line) => run_beside(rt, alloc, &line, store, input, out, err, gate, steps),
-        Line::Save(_) | Line::Make { .. } => unreachable!(),
+        Line::Save(_) | Line::Make { .. } | Line::Batch(_) => unreachable!(),
         Line::Trial { n, workers, lanes } => {
             trial_beside(rt, alloc, n, workers, lanes, out, gate, steps)
         }

@@ -10,13 +10,14 @@ ghost use Rattle.asc_top.specs.Program.{answer_at};
 ghost use Rattle.asc_top.specs.Numbers.{asks_for_threads, counts_of, reported_at};
 ghost use Rattle.asc_top.specs.Ran.{AreOpened, IsThreaded, Ran, RanBeside, Walked, loaded_helper};
 ghost use Rattle.asc_top.specs.Answered.{IsAnswerFor, devices};
+ghost use Rattle.asc_top.specs.Workers.{workers_of};
 
 use crate::numbers::{answer_at, counts_of, reported_at, workers_of};
 use crate::opened::{open, walk_of};
 use crate::rounds::walk_in_threads;
 use crate::settings::{crew_of, guessing_of, keeps_entries, settings_of};
 use asc_find::{Guessing, Nothing};
-use asc_live::go_beside;
+use asc_live::{Worked, go_beside};
 use asc_outside::{Gate, Memory, Sink, Source, Store};
 use asc_run::{Bare, Counts as WalkCounts, Ended, Helper, Serial, Walk};
 use asc_shape::{Shape, Steps};
@@ -331,12 +332,22 @@ pub(crate) fn walk_beside<
     ) else {
         return Outcome::of(Answer::Memory);
     };
-    let walked = walk.counts();
+    worked_outcome(line.report, walk.counts(), &worked)
+}
+
+/// What a walk with workers beside it comes to that went so, with the numbers where they are asked for.
+pub(crate) fn worked_outcome(is_asked: bool, walked: WalkCounts, worked: &Worked) -> Outcome
+    ensures { result ≡ record {
+      answer = answer_at worked.now.ended walked.count;
+      counts = reported_at is_asked worked.now.ended (counts_of walked worked.now.made worked.now.refused);
+      workers = reported_at is_asked worked.now.ended (workers_of worked.now);
+    } }
+{
     let ended = worked.ended;
     let counts = counts_of(walked, worked.made, worked.refused);
     Outcome {
         answer: answer_at(ended, walked.count),
-        counts: reported_at(line.report, ended, counts),
-        workers: reported_at(line.report, ended, workers_of(&worked)),
+        counts: reported_at(is_asked, ended, counts),
+        workers: reported_at(is_asked, ended, workers_of(worked)),
     }
 }

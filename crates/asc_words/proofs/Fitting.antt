@@ -9,7 +9,7 @@ use Rattle.clap.specs.Lexer.{long_of, short_of}
 use Rattle.clap.specs.Values.{refused_kind}
 use Rattle.clap.specs.ValueTests.{accepts}
 use Rattle.clap.specs.Facts.{explicit_source, parser_of_value, unwrap_or_range}
-use Rattle.clap.specs.Walk.{Held, Names, Outcome, Row, Rule, Step, Text, Waiting, Walk, action_of, after_flag, after_step, flag_met, option_word, plain_word, arg_by_id, arg_by_index, arg_by_long, arg_by_short, at_row, attached_value, bundle_met, bundle_step, default_rows, done, has_row, idle, is_empty, is_pending, long_met, long_or_other, most_values, more_values, next, option, option_met, plain, positional, positional_held, reacted, reading_by, refused, settled, settled_rows, short_met, short_or_plain, subcommand, subcommand_met, subcommand_or_other, takes_several, takes_values, to_positional, trailing, used, used_as, used_by_id, value, values_or_missing, waits, walked, walked_from, with_default, with_values, without, word_met}
+use Rattle.clap.specs.Walk.{Held, Names, Outcome, Row, Rule, Step, Text, Waiting, Walk, action_of, after_flag, after_step, flag_met, option_word, plain_word, arg_by_id, arg_by_index, arg_by_long, arg_by_short, at_row, attached_value, bundle_met, bundle_step, default_rows, done, has_row, idle, is_empty, is_pending, long_met, long_or_other, most_values, more_values, next, option, option_met, plain, positional, positional_held, reacted, reading_by, refused, settled, settled_rows, short_met, short_or_plain, stronger, subcommand, subcommand_met, subcommand_or_other, takes_several, takes_values, to_positional, trailing, used, used_as, used_by_id, value, values_or_missing, waits, walked, walked_from, with_default, with_values, without, word_met}
 use Rattle.clap.specs.Simple.{Shape}
 use Rattle.clap.specs.Takes.{is_given}
 use Rattle.clap.specs.Kinds.{Kinds, or_else, range_kinds, request_kinds, value_kinds}
@@ -47,7 +47,7 @@ IsGiven (first ∷ rest) = Unit {0}
 -- An argument of which a later use does not replace an earlier one. Each use has a value: it takes some, or it is a flag,
 -- for which one stands.
 pub record IsOption (a : Rule) : Type 0 where
-  pub sets : (action_of a ≡ Set) ⊎ (action_of a ≡ SetTrue)
+  pub sets : (action_of a ≡ Set) ⊎ (action_of a ≡ SetTrue) ⊎ (action_of a ≡ Append)
   pub some : (0 < (unwrap_or_range a.range).start_inclusive) ⊎ IsGiven a.missing
 
 -- the row is this argument's, and its first value passed the argument's parser
@@ -76,6 +76,7 @@ AreOptions (a ∷ rules) = IsOption a × AreOptions rules
 abbrev sets_values : ArgAction → Bool
 sets_values Set = true
 sets_values SetTrue = true
+sets_values Append = true
 sets_values action = false
 
 abbrev pub is_option : Rule → Bool
@@ -85,11 +86,11 @@ both_hold : (a b : Bool) → (a && b) ≡ true → (a ≡ true) × (b ≡ true)
 both_hold true b is = (refl, is)
 both_hold false b is = cc
 
-sets_as : (action : ArgAction) → sets_values action ≡ true → (action ≡ Set) ⊎ (action ≡ SetTrue)
+sets_as : (action : ArgAction) → sets_values action ≡ true → (action ≡ Set) ⊎ (action ≡ SetTrue) ⊎ (action ≡ Append)
 sets_as Set is = inl refl
-sets_as SetTrue is = inr refl
+sets_as SetTrue is = inr (inl refl)
 sets_as SetFalse is = cc
-sets_as Append is = cc
+sets_as Append is = inr (inr refl)
 sets_as Count is = cc
 sets_as Help is = cc
 sets_as HelpShort is = cc
@@ -153,6 +154,33 @@ with_new_row rules a source first rest rows one absent accepted all =
       read = refl;
     })))
 
+-- more values behind those of a row
+more_fits : (rules : List Rule) (row : Row) (source : ValueSource) (values : List Text) → FitsOne rules row
+    → FitsOne rules (record row { values = row.values ++ values; source = Some (stronger row.source source) })
+more_fits [] row source values one = absurd one
+more_fits (a ∷ rules) row source values (inl fit) = inl (record {
+  same = fit.same;
+  first = fit.first;
+  rest = fit.rest ++ values;
+  values = ap (λ (kept : List Text). kept ++ values) fit.values;
+  passes = fit.passes;
+  read = fit.read;
+})
+more_fits (a ∷ rules) row source values (inr behind) = inr (more_fits rules row source values behind)
+
+-- values for an argument, behind those that it has
+with_more : (rules : List Rule) (a : Rule) (source : ValueSource) (first : Text) (rest : List Text) (rows : List Row) → IsOf rules a
+    → accepts a.ignore_case (parser_of_value a.parser) first ≡ true → AllFit rules rows
+    → AllFit rules (with_values a.id (reading_by a) source (first ∷ rest) rows)
+with_more rules a source first rest [] one accepted all = with_new_row rules a source first rest [] one refl accepted all
+with_more rules a source first rest (row ∷ rows) one accepted all =
+    go (bytes_eq row.id a.id) (with_more rules a source first rest rows one accepted all.1)
+  where
+    go : (b : Bool) → AllFit rules (with_values a.id (reading_by a) source (first ∷ rest) rows)
+        → AllFit rules (cond b (more_values source (first ∷ rest) row ++ rows) (row ∷ with_values a.id (reading_by a) source (first ∷ rest) rows))
+    go true more = (more_fits rules row source (first ∷ rest) all.0, all.1)
+    go false more = (all.0, more)
+
 first_accepted : (a : Rule) (first : Text) (rest : List Text) → values_fault a (first ∷ rest) ≡ [] → accepts a.ignore_case (parser_of_value a.parser) first ≡ true
 first_accepted a first rest none =
     passed (accepts a.ignore_case (parser_of_value a.parser) first) (refused_kind (parser_of_value a.parser))
@@ -195,15 +223,23 @@ module _ (rules : List Rule) (again : Bool) (once : again ≡ false) (options : 
       (sym (at_absent a.id (λ _. []) [] rows absent ∙ append-nil rows))
       (with_new_row rules a CommandLine first rest rows one absent (first_accepted a first rest parts.1) all)
 
+  append_fits : (a : Rule) (values : List Text) (rows : List Row) → IsOf rules a → IsGiven values → values_fault a values ≡ []
+      → AllFit rules rows → AllFit rules (with_values a.id (reading_by a) CommandLine values rows)
+  append_fits a [] rows one given none all = absurd given
+  append_fits a (first ∷ rest) rows one given none all = with_more rules a CommandLine first rest rows one (first_accepted a first rest none) all
+
   -- an option and a flag set their values alike
-  use_fits_as : (a : Rule) (values : List Text) (rows : List Row) → IsOf rules a → (action_of a ≡ Set) ⊎ (action_of a ≡ SetTrue) → IsGiven values
+  use_fits_as : (a : Rule) (values : List Text) (rows : List Row) → IsOf rules a → (action_of a ≡ Set) ⊎ (action_of a ≡ SetTrue) ⊎ (action_of a ≡ Append) → IsGiven values
       → action_fault (action_of a) again a values rows ≡ [] → AllFit rules rows → AllFit rules (used_as (action_of a) a.id (reading_by a) values rows)
   use_fits_as a values rows one (inl is) given none all =
       subst (λ (action : ArgAction). AllFit rules (used_as action a.id (reading_by a) values rows)) (sym is)
       (set_fits a values rows one given (rw is at none) all)
-  use_fits_as a values rows one (inr is) given none all =
+  use_fits_as a values rows one (inr (inl is)) given none all =
       subst (λ (action : ArgAction). AllFit rules (used_as action a.id (reading_by a) values rows)) (sym is)
       (set_fits a values rows one given (rw is at none) all)
+  use_fits_as a values rows one (inr (inr is)) given none all =
+      subst (λ (action : ArgAction). AllFit rules (used_as action a.id (reading_by a) values rows)) (sym is)
+      (append_fits a values rows one given (rw is at none) all)
 
   use_fits : (a : Rule) (values : List Text) (rows : List Row) → IsOf rules a → use_fault again a values rows ≡ []
       → AllFit rules rows → AllFit rules (used a values rows)

@@ -1,9 +1,11 @@
 -- The line of words that clap takes, and of words that it refuses.
-use Rattle.std.proofs.Common.{◌≡◌, ◌≢◌, ◌∙◌, ◌^◌, ◌-◌, ◌<◌, ◌≤◌, ◌⊎◌, ℕ, Bool, arith, codes, inl, inr, true, false, refl, sym, ap, subst, List, [], ◌∷◌, Option, Some, None, Result, Ok, Err, IsErrAnd, Bor}
-use Rattle.std.specs.Prelude.{option_map, if◌then◌else◌, Box}
+use Rattle.std.proofs.Common.{◌≡◌, ◌≢◌, ◌∙◌, ◌^◌, ◌-◌, ◌<◌, ◌≤◌, ◌⊎◌, ℕ, Bool, arith, codes, cond, is_some, length, nat_le, inl, inr, true, false, refl, sym, ap, subst, List, [], ◌∷◌, Option, Some, None, Result, Ok, Err, IsErrAnd, Bor}
+use Rattle.std.specs.Prelude.{option_and_then, option_map, slice_get, unwrap_or, if◌then◌else◌, Box}
 use Rattle.std.specs.Box.{box_value}
 use Rattle.std.specs.Result.{result_map_both}
 use Rattle.std.specs.Str.{bytes_eq}
+use Rattle.std.specs.List.{find}
+use Rattle.std.proofs.lemmas.Bool.Decides.{nat_tests}
 use Rattle.std.proofs.lemmas.Slice.Eq.{bytes_eq-Decides}
 use Rattle.clap.specs.Matches.{found_of, subcommand_name_of}
 use Rattle.clap.specs.Simple.{App, HasMatchesOf, is_simple, subcommand_of, subcommand_rows, subcommand_rows_of}
@@ -20,11 +22,11 @@ use Rattle.clap.specs.declared.parser.matches.SubCommand.{SubCommand}
 use Rattle.asc_words.specs.Command.{asc_command}
 use Rattle.asc_words.specs.Laws.{HaveLine, HaveLineOf, LinesAreWithin}
 use Rattle.asc_words.specs.declared.answer.Bad.{Bad}
-use Rattle.asc_words.specs.declared.answer.Bad.TheVariants.{Words}
+use Rattle.asc_words.specs.declared.answer.Bad.TheVariants.{Inputs, Words}
 use Rattle.asc_words.specs.declared.line.Line.{Line}
-use Rattle.asc_words.specs.declared.line.Line.TheVariants.{Run, Save, Make, Trial}
-use Rattle.asc_words.specs.Line.{IsSaveWithin, IsWithin, address_of, beside_in, flag_in, guesses_of, lanes_in, line_of, line_found, make_of, number_in, run_of, run_with, save_of, shared_at, shared_of, shared_with, text_in, trial_of}
-use Rattle.asc_words.specs.Rows.{HasNumber, HasShared, IsMake, IsRun, IsSave, IsTrial, line_fault}
+use Rattle.asc_words.specs.declared.line.Line.TheVariants.{Run, Save, Make, Trial, Batch}
+use Rattle.asc_words.specs.Line.{IsSaveWithin, IsWithin, address_of, batch_at, batch_of, batch_with, beside_in, flag_in, guesses_of, inputs_in, lanes_in, line_of, line_found, make_of, most_inputs, number_in, run_of, run_with, save_of, shared_at, shared_of, shared_with, text_in, trial_of}
+use Rattle.asc_words.specs.Rows.{HasNumber, HasShared, HasText, IsBatch, IsMake, IsRun, IsSave, IsTrial, line_fault}
 use Rattle.asc_words.specs.declared.line.Guesses.{Guesses}
 use Rattle.asc_words.specs.declared.line.RunLine.{RunLine}
 use Rattle.asc_words.specs.declared.line.LineFault.TheVariants as faults
@@ -98,7 +100,8 @@ have_line words none = go (taken words none)
     go (inl run) = inl (have_line_of words (codes "run") IsRun run_of (λ rows. refl) none run)
     go (inr (inl save)) = inr (inl (have_line_of words (codes "save") IsSave save_of (λ rows. refl) none save))
     go (inr (inr (inl make))) = inr (inr (inl (have_line_of words (codes "make") IsMake make_of (λ rows. refl) none make)))
-    go (inr (inr (inr trial))) = inr (inr (inr (have_line_of words (codes "trial") IsTrial trial_of (λ rows. refl) none trial)))
+    go (inr (inr (inr (inl trial)))) = inr (inr (inr (inl (have_line_of words (codes "trial") IsTrial trial_of (λ rows. refl) none trial))))
+    go (inr (inr (inr (inr batch)))) = inr (inr (inr (inr (have_line_of words (codes "batch") IsBatch batch_of (λ rows. refl) none batch))))
 
 -- the lines are within their ranges
 shared_within : (rows : List Row) → HasShared rows → (guesses : Guesses) (pc : Option ℕ) → IsSaveWithin (shared_with rows guesses pc)
@@ -187,6 +190,52 @@ trial_within rows is = (
   (workers_within rows is.workers).2,
 )
 
+-- an argument that has a text has at least one
+some_texts : (row : Option Row) → is_some (option_and_then (λ r. slice_get r.values 0) row) ≡ true
+    → 1 ≤ length (unwrap_or (option_map (λ (r : Row). r.values) row) [])
+some_texts None some = cc
+some_texts (Some row) some = go row.values some
+  where
+    go : (values : List Text) → is_some (slice_get values 0) ≡ true → 1 ≤ length values
+    go [] some = cc
+    go (v ∷ vs) some = omega arith
+
+some_inputs : (rows : List Row) → HasText (codes "inputs") rows → 1 ≤ length (inputs_in rows)
+some_inputs rows is = some_texts (find (λ r. bytes_eq r.id (codes "inputs")) rows) is
+
+pub batch_within : (rows : List Row) → IsBatch rows → (line : Line) → batch_of rows ≡ Ok line → IsWithin line
+batch_within rows is line e = go (shared_of rows) refl e
+  where
+    by : (l : RunLine) → IsSaveWithin l → (few : Bool) → nat_le (length (inputs_in rows)) most_inputs ≡ few
+        → cond few (Ok (Batch (batch_with rows l))) (Err Inputs) ≡ Ok line → IsWithin line
+    by l all true few e =
+        let same : Batch (batch_with rows l) ≡ line = cc in
+        let within = all.within in
+        subst IsWithin same (record {
+          within = record {
+            memory = within.memory;
+            limit = within.limit;
+            profile = within.profile;
+            least = within.least;
+            laps = within.laps;
+            span = within.span;
+            ahead = within.ahead;
+            workers = (number_within (codes "workers") 0 64 rows is.workers).1;
+            lanes = within.lanes;
+            rounds = λ some. absurd (let x : ⊥ = omega (arith, some, all.no_lanes) in x);
+            queue = within.queue;
+          };
+          no_lanes = all.no_lanes;
+          loads_none = all.loads_none;
+          some = some_inputs rows is.inputs;
+          few = grind (arith, nat_tests);
+        })
+    by l all false few e = absurd (cc)
+
+    go : (r : Result RunLine Bad) → shared_of rows ≡ r → batch_at rows r ≡ Ok line → IsWithin line
+    go (Err bad) shared e = absurd (cc)
+    go (Ok l) shared e = by l (shared_of_within rows is.shared l shared) (nat_le (length (inputs_in rows)) most_inputs) refl e
+
 ok_is : (r : Result Line Bad) (a b : Line) → r ≡ Ok a → r ≡ Ok b → a ≡ b
 ok_is r a b is same = cc
 
@@ -199,7 +248,8 @@ lines_within words line is = go (fault_of asc_command words) refl
     within (inr (inr (inl make))) =
         let same : Make (number_in (codes "number") make.rows) ≡ line = ok_is _ _ line make.line is in
         subst (λ (l : Line). IsWithin l) same (make_within make.rows make.values)
-    within (inr (inr (inr trial))) =
+    within (inr (inr (inr (inr batch)))) = batch_within batch.rows batch.values line (sym batch.line ∙ is)
+    within (inr (inr (inr (inl trial)))) =
         let same : Trial (number_in (codes "number") trial.rows) (beside_in trial.rows) (lanes_in trial.rows) ≡ line = ok_is _ _ line trial.line is in
         subst (λ (l : Line). IsWithin l) same (trial_within trial.rows trial.values)
 
@@ -219,13 +269,14 @@ pub record IsFoundAs (words : List Text) (m : ArgMatches) (name : Text) (AreValu
   pub names : subcommand_name_of m ≡ Some name
   pub found : option_map (λ p. p.1) (subcommand_rows_of m) ≡ Some rows
 
--- it is one of the four
+-- it is one of the five
 abbrev pub IsFound : List Text → ArgMatches → Type 0
 IsFound words m =
     IsFoundAs words m (codes "run") IsRun run_of
     ⊎ IsFoundAs words m (codes "save") IsSave save_of
     ⊎ IsFoundAs words m (codes "make") IsMake make_of
     ⊎ IsFoundAs words m (codes "trial") IsTrial trial_of
+    ⊎ IsFoundAs words m (codes "batch") IsBatch batch_of
 
 name_of_rows : {Z : Type 0} (met : Option (Box SubCommand Z)) (name : Text) (rows : List Row) → subcommand_rows met ≡ Some (name, rows)
     → option_map (λ b. (out-SubCommand (box_value b)).name.now) met ≡ Some name
@@ -247,7 +298,8 @@ module _ (words : List Text) (m : ArgMatches) (same : subcommand_rows_of m ≡ s
   found_of_lines (inl run) = inl (found_as (codes "run") IsRun run_of run)
   found_of_lines (inr (inl save)) = inr (inl (found_as (codes "save") IsSave save_of save))
   found_of_lines (inr (inr (inl make))) = inr (inr (inl (found_as (codes "make") IsMake make_of make)))
-  found_of_lines (inr (inr (inr trial))) = inr (inr (inr (found_as (codes "trial") IsTrial trial_of trial)))
+  found_of_lines (inr (inr (inr (inl trial)))) = inr (inr (inr (inl (found_as (codes "trial") IsTrial trial_of trial))))
+  found_of_lines (inr (inr (inr (inr batch)))) = inr (inr (inr (inr (found_as (codes "batch") IsBatch batch_of batch))))
 
 pub found : (app : App) (words : List Text) (m : ArgMatches) → app ≡ asc_command → (is_simple_and_free app ≡ true → fault_of app words ≡ [])
     → HasMatchesOf app words m → IsFound words m
@@ -262,6 +314,10 @@ passed_up (Err e) x y is same = cc
 
 differ : (a b : Text) → bytes_eq a b ≡ false → a ≢ b
 differ a b other is = let same : bytes_eq a b ≡ true = (bytes_eq-Decides a b).1 is in cc
+
+-- the name is that of one of the five
+abbrev pub IsName : Text → Type 0
+IsName name = (name ≡ codes "run") ⊎ (name ≡ codes "save") ⊎ (name ≡ codes "make") ⊎ (name ≡ codes "trial") ⊎ (name ≡ codes "batch")
 
 -- the subcommand that the code holds, and what the line is made of
 pub record IsMetAs (words : List Text) (p : Bor Text × Bor ArgMatches) (name : Text) (AreValues : List Row → Type 0) (made : List Row → Result Line Bad) : Type 0 where
@@ -284,24 +340,27 @@ module _ (words : List Text) (m : ArgMatches) (met : Option (Bor Text × Bor Arg
           values = subst AreValues (sym same_rows) of.values;
         }
 
-    -- what holds of the name and of what was found, whichever of the four it is
+    -- what holds of the name and of what was found, whichever of the five it is
     met_any : (P : Text → Type 0) → IsFound words m
         → (IsMetAs words p (codes "run") IsRun run_of → P (codes "run"))
         → (IsMetAs words p (codes "save") IsSave save_of → P (codes "save"))
         → (IsMetAs words p (codes "make") IsMake make_of → P (codes "make"))
-        → (IsMetAs words p (codes "trial") IsTrial trial_of → P (codes "trial")) → P p.0.now
-    met_any P (inl run) of_run of_save of_make of_trial = let met = met_as (codes "run") IsRun run_of run in subst P (sym met.is) (of_run met)
-    met_any P (inr (inl save)) of_run of_save of_make of_trial = let met = met_as (codes "save") IsSave save_of save in subst P (sym met.is) (of_save met)
-    met_any P (inr (inr (inl make))) of_run of_save of_make of_trial = let met = met_as (codes "make") IsMake make_of make in subst P (sym met.is) (of_make met)
-    met_any P (inr (inr (inr trial))) of_run of_save of_make of_trial = let met = met_as (codes "trial") IsTrial trial_of trial in subst P (sym met.is) (of_trial met)
+        → (IsMetAs words p (codes "trial") IsTrial trial_of → P (codes "trial"))
+        → (IsMetAs words p (codes "batch") IsBatch batch_of → P (codes "batch")) → P p.0.now
+    met_any P (inl run) of_run of_save of_make of_trial of_batch = let met = met_as (codes "run") IsRun run_of run in subst P (sym met.is) (of_run met)
+    met_any P (inr (inl save)) of_run of_save of_make of_trial of_batch = let met = met_as (codes "save") IsSave save_of save in subst P (sym met.is) (of_save met)
+    met_any P (inr (inr (inl make))) of_run of_save of_make of_trial of_batch = let met = met_as (codes "make") IsMake make_of make in subst P (sym met.is) (of_make met)
+    met_any P (inr (inr (inr (inl trial)))) of_run of_save of_make of_trial of_batch = let met = met_as (codes "trial") IsTrial trial_of trial in subst P (sym met.is) (of_trial met)
+    met_any P (inr (inr (inr (inr batch)))) of_run of_save of_make of_trial of_batch = let met = met_as (codes "batch") IsBatch batch_of batch in subst P (sym met.is) (of_batch met)
 
-    -- which of the four it is
+    -- which of the five it is
     pub met_run : IsFound words m → p.0.now ≡ codes "run" → IsMetAs words p (codes "run") IsRun run_of
     met_run of = met_any (λ name. name ≡ codes "run" → IsMetAs words p (codes "run") IsRun run_of) of
         (λ met is. met)
         (λ met is. absurd (differ (codes "save") (codes "run") refl is))
         (λ met is. absurd (differ (codes "make") (codes "run") refl is))
         (λ met is. absurd (differ (codes "trial") (codes "run") refl is))
+        (λ met is. absurd (differ (codes "batch") (codes "run") refl is))
 
     pub met_save : IsFound words m → p.0.now ≡ codes "save" → IsMetAs words p (codes "save") IsSave save_of
     met_save of = met_any (λ name. name ≡ codes "save" → IsMetAs words p (codes "save") IsSave save_of) of
@@ -309,6 +368,7 @@ module _ (words : List Text) (m : ArgMatches) (met : Option (Bor Text × Bor Arg
         (λ met is. met)
         (λ met is. absurd (differ (codes "make") (codes "save") refl is))
         (λ met is. absurd (differ (codes "trial") (codes "save") refl is))
+        (λ met is. absurd (differ (codes "batch") (codes "save") refl is))
 
     pub met_make : IsFound words m → p.0.now ≡ codes "make" → IsMetAs words p (codes "make") IsMake make_of
     met_make of = met_any (λ name. name ≡ codes "make" → IsMetAs words p (codes "make") IsMake make_of) of
@@ -316,6 +376,7 @@ module _ (words : List Text) (m : ArgMatches) (met : Option (Bor Text × Bor Arg
         (λ met is. absurd (differ (codes "save") (codes "make") refl is))
         (λ met is. met)
         (λ met is. absurd (differ (codes "trial") (codes "make") refl is))
+        (λ met is. absurd (differ (codes "batch") (codes "make") refl is))
 
     pub met_trial : IsFound words m → p.0.now ≡ codes "trial" → IsMetAs words p (codes "trial") IsTrial trial_of
     met_trial of = met_any (λ name. name ≡ codes "trial" → IsMetAs words p (codes "trial") IsTrial trial_of) of
@@ -323,7 +384,16 @@ module _ (words : List Text) (m : ArgMatches) (met : Option (Bor Text × Bor Arg
         (λ met is. absurd (differ (codes "save") (codes "trial") refl is))
         (λ met is. absurd (differ (codes "make") (codes "trial") refl is))
         (λ met is. met)
+        (λ met is. absurd (differ (codes "batch") (codes "trial") refl is))
 
-    pub met_one : IsFound words m → (p.0.now ≡ codes "run") ⊎ (p.0.now ≡ codes "save") ⊎ (p.0.now ≡ codes "make") ⊎ (p.0.now ≡ codes "trial")
-    met_one of = met_any (λ name. (name ≡ codes "run") ⊎ (name ≡ codes "save") ⊎ (name ≡ codes "make") ⊎ (name ≡ codes "trial")) of
-        (λ met. inl refl) (λ met. inr (inl refl)) (λ met. inr (inr (inl refl))) (λ met. inr (inr (inr refl)))
+    pub met_batch : IsFound words m → p.0.now ≡ codes "batch" → IsMetAs words p (codes "batch") IsBatch batch_of
+    met_batch of = met_any (λ name. name ≡ codes "batch" → IsMetAs words p (codes "batch") IsBatch batch_of) of
+        (λ met is. absurd (differ (codes "run") (codes "batch") refl is))
+        (λ met is. absurd (differ (codes "save") (codes "batch") refl is))
+        (λ met is. absurd (differ (codes "make") (codes "batch") refl is))
+        (λ met is. absurd (differ (codes "trial") (codes "batch") refl is))
+        (λ met is. met)
+
+    pub met_one : IsFound words m → IsName p.0.now
+    met_one of = met_any IsName of
+        (λ met. inl refl) (λ met. inr (inl refl)) (λ met. inr (inr (inl refl))) (λ met. inr (inr (inr (inl refl)))) (λ met. inr (inr (inr (inr refl))))

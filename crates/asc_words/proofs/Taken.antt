@@ -17,8 +17,8 @@ use Rattle.clap.specs.Takes.{is_given}
 use Rattle.clap.specs.Kinds.{Kinds, or_else}
 use Rattle.clap.specs.Faults.{check_fault, defaults_fault, entered_fault, fault_of, level_fault, settle_fault, walk_fault}
 use Rattle.clap.specs.declared.error.kind.ErrorKind.TheVariants as kind
-use Rattle.asc_words.specs.Command.{asc_command, flag, number_argument, number_option, required, rounds_flag, run_command, text_option, text_with_default, workers_option}
-use Rattle.asc_words.specs.Rows.{HasFlag, HasNumber, HasShared, HasText, IsMake, IsRun, IsSave, IsTrial}
+use Rattle.asc_words.specs.Command.{asc_command, flag, inputs_argument, number_argument, number_option, required, rounds_flag, run_command, text_option, text_with_default, workers_option}
+use Rattle.asc_words.specs.Rows.{HasFlag, HasNumber, HasShared, HasText, IsBatch, IsMake, IsRun, IsSave, IsTrial}
 use Rattle.asc_words.proofs.Fitting.{AllFit, AreDistinct, AreOptions, Found, distinct_of, options_of, defaults_fit, found_for, given_row, made_by_defaults, neither, not_chosen, settle_fits, walk_fits}
 
 -- ---- a level of a command
@@ -132,6 +132,9 @@ built_make = shape_at 2 (built asc_command).subs
 abbrev built_trial : Shape
 built_trial = shape_at 3 (built asc_command).subs
 
+abbrev built_batch : Shape
+built_batch = shape_at 4 (built asc_command).subs
+
 abbrev image : Rule
 image = with_index 1 (filled (required (codes "image")))
 
@@ -150,7 +153,10 @@ report = filled (flag (codes "report"))
 abbrev number : Rule
 number = with_index 1 (filled number_argument)
 
--- what `asc save` and `asc run` both take, where the rules of others may stand behind these
+abbrev pub inputs : Rule
+inputs = with_index 2 (filled inputs_argument)
+
+-- what `asc save`, `asc run` and `asc batch` all take, where the rules of others may stand behind these
 module _ (s : Shape) (more : List Rule) (shared : s.rules ≡ built_save.rules ++ more) (once : s.args_override_self ≡ false)
     (options : AreOptions s.rules) (distinct : AreDistinct s.rules) (words : List Text) (level : Passes s [] words false [])
     (given : is_given (codes "image") (rows_found s words) ≡ true) where
@@ -251,6 +257,37 @@ module _ (words : List Text) (level : Passes built_trial [] words false []) wher
     rounds = has_flag rounds (rows_found built_trial words) refl (of_default built_trial refl trial_options trial_distinct words level rounds refl refl);
   }
 
+batch_options : AreOptions built_batch.rules
+batch_options = options_of built_batch.rules refl
+
+batch_distinct : AreDistinct built_batch.rules
+batch_distinct = distinct_of built_batch.rules refl
+
+-- the rules that `asc batch` has besides
+abbrev batch_rules : List Rule
+batch_rules = filled workers_option ∷ report ∷ inputs ∷ []
+
+-- of the arguments only these two must be there, and they are
+are_there : (first second : Bool) → (not first || (not second || false)) ≡ false → (first ≡ true) × (second ≡ true)
+are_there true true is = (refl, refl)
+are_there true false is = cc
+are_there false second is = cc
+
+module _ (words : List Text) (level : Passes built_batch [] words false []) where
+  batch_given : (is_given (codes "image") (rows_found built_batch words) ≡ true) × (is_given (codes "inputs") (rows_found built_batch words) ≡ true)
+  unfolding end_of rows_found
+  batch_given =
+      are_there (is_given (codes "image") (rows_found built_batch words)) (is_given (codes "inputs") (rows_found built_batch words))
+      (not_chosen _ kind.MissingRequiredArgument level.of_check)
+
+  batch_values : IsBatch (rows_found built_batch words)
+  batch_values = record {
+    shared = shared_values built_batch batch_rules refl refl batch_options batch_distinct words level batch_given.0;
+    workers = number_of built_batch refl batch_options batch_distinct words level (codes "workers") 0 64 (codes "0") refl;
+    report = has_flag report (rows_found built_batch words) refl (of_default built_batch refl batch_options batch_distinct words level report refl refl);
+    inputs = has_text inputs (rows_found built_batch words) (of_given built_batch refl batch_options batch_distinct words level inputs refl batch_given.1);
+  }
+
 -- ---- asc
 
 -- the subcommand that was met has this name, and its arguments have their values
@@ -259,17 +296,18 @@ pub record IsTakenAs (met : Option (Text × List Row)) (name : Text) (AreValues 
   pub names : met ≡ Some (name, rows)
   pub values : AreValues rows
 
--- it is one of the four
+-- it is one of the five
 abbrev pub IsTaken : Option (Text × List Row) → Type 0
 IsTaken met =
     IsTakenAs met (codes "run") IsRun
     ⊎ IsTakenAs met (codes "save") IsSave
     ⊎ IsTakenAs met (codes "make") IsMake
     ⊎ IsTakenAs met (codes "trial") IsTrial
+    ⊎ IsTakenAs met (codes "batch") IsBatch
 
-abbrev met_by : (is_run is_save is_make is_trial : Bool) → Option Shape
-met_by is_run is_save is_make is_trial =
-    cond is_run (Some built_run) (cond is_save (Some built_save) (cond is_make (Some built_make) (cond is_trial (Some built_trial) None)))
+abbrev met_by : (is_run is_save is_make is_trial is_batch : Bool) → Option Shape
+met_by is_run is_save is_make is_trial is_batch =
+    cond is_run (Some built_run) (cond is_save (Some built_save) (cond is_make (Some built_make) (cond is_trial (Some built_trial) (cond is_batch (Some built_batch) None))))
 
 module _ (words below : List Text) where
   -- what the words may be refused for, where this subcommand is met at the words below
@@ -281,25 +319,28 @@ module _ (words below : List Text) where
   met_passes : (s : Shape) → Faults (Some s) ≡ [] → Passes s [] below false []
   met_passes s none = passes s [] below false [] (passes _ _ words true (level_fault s [] nothing_held below false []) none).of_below
 
-  taken_by : (is_run is_save is_make is_trial : Bool) → Faults (met_by is_run is_save is_make is_trial) ≡ []
-      → IsTaken (option_map (λ s. rows_at s below) (met_by is_run is_save is_make is_trial))
+  taken_by : (is_run is_save is_make is_trial is_batch : Bool) → Faults (met_by is_run is_save is_make is_trial is_batch) ≡ []
+      → IsTaken (option_map (λ s. rows_at s below) (met_by is_run is_save is_make is_trial is_batch))
   unfolding end_of rows_found
-  taken_by true is_save is_make is_trial none =
+  taken_by true is_save is_make is_trial is_batch none =
       inl (record { rows = rows_found built_run below; names = refl; values = run_values below (met_passes built_run none) })
-  taken_by false true is_make is_trial none =
+  taken_by false true is_make is_trial is_batch none =
       inr (inl (record { rows = rows_found built_save below; names = refl; values = save_values below (met_passes built_save none) }))
-  taken_by false false true is_trial none =
+  taken_by false false true is_trial is_batch none =
       inr (inr (inl (record { rows = rows_found built_make below; names = refl; values = make_values below (met_passes built_make none) })))
-  taken_by false false false true none =
-      inr (inr (inr (record { rows = rows_found built_trial below; names = refl; values = trial_values below (met_passes built_trial none) })))
-  taken_by false false false false none = let level = passes _ _ words false [] none in let missing = level.of_check in cc
+  taken_by false false false true is_batch none =
+      inr (inr (inr (inl (record { rows = rows_found built_trial below; names = refl; values = trial_values below (met_passes built_trial none) }))))
+  taken_by false false false false true none =
+      inr (inr (inr (inr (record { rows = rows_found built_batch below; names = refl; values = batch_values below (met_passes built_batch none) }))))
+  taken_by false false false false false none = let level = passes _ _ words false [] none in let missing = level.of_check in cc
 
 taken_at : (words : List Text) (stop : Option (Text × List Text))
     → level_fault (built asc_command).top (names_of (built asc_command)) nothing_held words (is_some (entered (built asc_command) stop)) (entered_fault (built asc_command) stop) ≡ []
     → IsTaken (entered (built asc_command) stop)
 taken_at words None none = let level = passes _ _ words false [] none in let missing = level.of_check in cc
 taken_at words (Some p) none =
-    taken_by words p.1 (answers_to p.0 (label_of built_run)) (answers_to p.0 (label_of built_save)) (answers_to p.0 (label_of built_make)) (answers_to p.0 (label_of built_trial)) none
+    taken_by words p.1 (answers_to p.0 (label_of built_run)) (answers_to p.0 (label_of built_save)) (answers_to p.0 (label_of built_make)) (answers_to p.0 (label_of built_trial))
+    (answers_to p.0 (label_of built_batch)) none
 
 -- where clap refuses nothing, the words name a subcommand, and what it takes has its values
 pub taken : (words : List Text) → fault_of asc_command words ≡ [] → IsTaken (subcommand_of asc_command words)

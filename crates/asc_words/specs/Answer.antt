@@ -4,7 +4,7 @@ use Rattle.asc_words.specs.declared.answer.Outcome.{Outcome}
 use Rattle.asc_words.specs.declared.line.LineFault.{LineFault}
 use Rattle.asc_words.specs.declared.line.LineFault.TheVariants as LineFaults
 use Rattle.asc_words.specs.declared.answer.Answer.{Answer}
-use Rattle.asc_words.specs.declared.answer.Answer.TheVariants.{Exit, Done, Usage, Image, TooLong, Saved, StoreFault, Memory, ReadFault, WriteFault, ErrFault, ReportFault, Limit, Fault}
+use Rattle.asc_words.specs.declared.answer.Answer.TheVariants.{Exit, Done, Usage, Image, TooLong, InputTooLong, Saved, StoreFault, Memory, ReadFault, WriteFault, ErrFault, ReportFault, Limit, Fault}
 
 -- The guest's own code, and else as in BSD's sysexits where it has one: EX_USAGE, EX_DATAERR, EX_NOINPUT, EX_OSERR,
 -- EX_IOERR, EX_TEMPFAIL, EX_PROTOCOL.
@@ -14,6 +14,7 @@ code_of (Done refused) = 0
 code_of (Usage bad) = 64
 code_of (Image fault) = 65
 code_of TooLong = 65
+code_of (InputTooLong input) = 65
 code_of (Saved fault) = 65
 code_of StoreFault = 66
 code_of Memory = 71

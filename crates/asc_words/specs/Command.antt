@@ -2,7 +2,7 @@
 use Rattle.std.specs.Prelude.{ℕ, ◌^◌, ◌-◌, codes, true, false, List, [], ◌∷◌, ◌++◌, Some}
 use Rattle.clap.specs.Walk.{Rule, Text}
 use Rattle.clap.specs.Simple.{App, Shape, new_rule, new_shape}
-use Rattle.clap.specs.declared.builder.action.ArgAction.TheVariants.{SetTrue}
+use Rattle.clap.specs.declared.builder.action.ArgAction.TheVariants.{Append, SetTrue}
 use Rattle.clap.specs.declared.builder.value_parser.ValueParser.TheVariants as parsers
 
 -- an argument without a name, which must be there
@@ -41,7 +41,7 @@ workers_option = number_option (codes "workers") 0 64 (codes "0")
 abbrev pub rounds_flag : Rule
 rounds_flag = flag (codes "rounds")
 
--- what `asc run` and `asc save` both take: a row for each argument
+-- what `asc run`, `asc save` and `asc batch` all take: a row for each argument
 abbrev pub shared_arguments : List Rule
 shared_arguments =
     required (codes "image")
@@ -80,6 +80,14 @@ make_arguments = number_argument ∷ []
 abbrev pub trial_arguments : List Rule
 trial_arguments = number_argument ∷ workers_option ∷ rounds_flag ∷ []
 
+-- the names of the inputs of a batch: an argument without a name, which must be there, and takes a word at each use
+abbrev pub inputs_argument : Rule
+inputs_argument = record (required (codes "inputs")) { action = Some Append }
+
+-- what `asc batch` takes: workers and a report besides, and behind the image its inputs
+abbrev pub batch_arguments : List Rule
+batch_arguments = shared_arguments ++ workers_option ∷ flag (codes "report") ∷ inputs_argument ∷ []
+
 -- a subcommand of this name, which takes these arguments
 abbrev pub subcommand_with : Text → List Rule → Shape
 subcommand_with name arguments = record (new_shape name) { rules = arguments }
@@ -96,6 +104,9 @@ make_command = subcommand_with (codes "make") make_arguments
 abbrev pub trial_command : Shape
 trial_command = subcommand_with (codes "trial") trial_arguments
 
+abbrev pub batch_command : Shape
+batch_command = subcommand_with (codes "batch") batch_arguments
+
 -- asc with its subcommands, of which one must be there; it has no version, and no flag or subcommand for help
 abbrev pub asc_command : App
 asc_command = record {
@@ -105,5 +116,5 @@ asc_command = record {
     disable_help_flag = true;
     disable_help_subcommand = true;
   };
-  subs = run_command ∷ save_command ∷ make_command ∷ trial_command ∷ [];
+  subs = run_command ∷ save_command ∷ make_command ∷ trial_command ∷ batch_command ∷ [];
 }

@@ -6,8 +6,8 @@ use Rattle.clap.specs.Faults.{fault_of}
 use Rattle.asc_words.specs.Command.{asc_command}
 use Rattle.asc_words.specs.declared.answer.Bad.{Bad}
 use Rattle.asc_words.specs.declared.line.Line.{Line}
-use Rattle.asc_words.specs.Line.{IsWithin, line_of, make_of, run_of, save_of, trial_of}
-use Rattle.asc_words.specs.Rows.{IsMake, IsRun, IsSave, IsTrial}
+use Rattle.asc_words.specs.Line.{IsWithin, batch_of, line_of, make_of, run_of, save_of, trial_of}
+use Rattle.asc_words.specs.Rows.{IsBatch, IsMake, IsRun, IsSave, IsTrial}
 
 -- The words name this subcommand, each of its arguments has its value, each number within its range, and the line, or
 -- what is wrong, is made of these values.
@@ -17,13 +17,14 @@ pub record HaveLineOf (words : List Text) (name : Text) (AreValues : List Row �
   pub values : AreValues rows
   pub line : line_of words ≡ made rows
 
--- one of the four subcommands
+-- one of the five subcommands
 abbrev pub HaveLine : List Text → Type 0
 HaveLine words =
     HaveLineOf words (codes "run") IsRun run_of
     ⊎ HaveLineOf words (codes "save") IsSave save_of
     ⊎ HaveLineOf words (codes "make") IsMake make_of
     ⊎ HaveLineOf words (codes "trial") IsTrial trial_of
+    ⊎ HaveLineOf words (codes "batch") IsBatch batch_of
 
 -- words that clap does not refuse have a line
 abbrev pub TakenWordsHaveLines : Type 0

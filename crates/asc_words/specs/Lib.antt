@@ -1,6 +1,7 @@
 pub mod Command
 pub mod Subcommands
 pub mod Rows
+pub mod Batch
 pub mod Line
 pub mod Laws
 pub mod Answer

@@ -5,22 +5,27 @@ use Rattle.std.specs.List.{list_all}
 use Rattle.std.specs.Result.{result_map_both}
 use Rattle.std.specs.Str.{bytes_eq}
 use Rattle.std.specs.Str.Parse.{digits_value, without_leading_plus}
-use Rattle.clap.specs.Walk.{Row, Text, first_of, one_of, is_empty}
+use Rattle.clap.specs.Walk.{Row, Text, all_of, first_of, one_of, is_empty}
 use Rattle.clap.specs.Simple.{subcommand_of}
 use Rattle.clap.specs.Faults.{fault_of}
 use Rattle.asc_model.specs.declared.version.Version.{Version}
 use Rattle.asc_model.specs.declared.version.Version.TheVariants.{One, Two}
 use Rattle.asc_words.specs.declared.answer.Bad.{Bad}
-use Rattle.asc_words.specs.declared.answer.Bad.TheVariants.{Words, Pc}
+use Rattle.asc_words.specs.declared.answer.Bad.TheVariants.{Words, Pc, Inputs}
 use Rattle.asc_words.specs.declared.line.Line.{Line}
-use Rattle.asc_words.specs.declared.line.Line.TheVariants.{Run, Save, Make, Trial}
+use Rattle.asc_words.specs.declared.line.Line.TheVariants.{Run, Save, Make, Trial, Batch}
 use Rattle.asc_words.specs.declared.line.Guesses.{Guesses}
 use Rattle.asc_words.specs.declared.line.RunLine.{RunLine}
+use Rattle.asc_words.specs.Batch.{BatchLine}
 use Rattle.asc_words.specs.Command.{asc_command}
 
 -- a file that is read has at most 64 MiB
 abbrev pub file_limit : ℕ
 file_limit = 67108864
+
+-- a batch has at most 64 inputs
+abbrev pub most_inputs : ℕ
+most_inputs = 64
 
 -- ---- the values that clap found for an argument
 
@@ -33,6 +38,10 @@ number_in id rows = digits_value 10 (without_leading_plus (unwrap_or (one_of id 
 
 abbrev pub flag_in : Text → List Row → Bool
 flag_in id rows = bytes_eq (unwrap_or (one_of id rows) []) (codes "true")
+
+-- the names of the inputs, in the order of the words
+abbrev pub inputs_in : List Row → List Text
+inputs_in rows = unwrap_or (all_of (codes "inputs") rows) []
 
 -- an address is 1 to 8 hexadecimal digits, of either case
 abbrev pub is_address : Text → Bool
@@ -66,7 +75,7 @@ lanes_in rows = if flag_in (codes "rounds") rows then number_in (codes "workers"
 abbrev pub version_numbered : ℕ → Version
 version_numbered number = if number == 1 then One else Two
 
--- what `asc run` and `asc save` are both asked for, with no workers, no lanes, no report and no saved entries
+-- what `asc run`, `asc save` and `asc batch` are all asked for, with no workers, no lanes, no report and no saved entries
 abbrev pub shared_with : List Row → Guesses → (pc : Option ℕ) → RunLine
 shared_with rows guesses pc = record {
   image = text_in (codes "image") rows;
@@ -124,6 +133,23 @@ make_of rows = Ok (Make (number_in (codes "number") rows))
 abbrev pub trial_of : List Row → Result Line Bad
 trial_of rows = Ok (Trial (number_in (codes "number") rows) (beside_in rows) (lanes_in rows))
 
+-- with what only `asc batch` is asked for
+abbrev pub batch_with : List Row → RunLine → BatchLine
+batch_with rows line = record {
+  run = record line { workers = number_in (codes "workers") rows; report = flag_in (codes "report") rows };
+  inputs = inputs_in rows;
+}
+
+-- Other wrong words come before too many inputs.
+abbrev pub batch_at : List Row → Result RunLine Bad → Result Line Bad
+batch_at rows (Err bad) = Err bad
+batch_at rows (Ok line) =
+    if nat_le (length (inputs_in rows)) most_inputs then Ok (Batch (batch_with rows line)) else Err Inputs
+
+-- the line of `asc batch`
+abbrev pub batch_of : List Row → Result Line Bad
+batch_of rows = batch_at rows (shared_of rows)
+
 -- the line of a subcommand and of what clap found for its arguments
 abbrev pub line_found : Option (Text × List Row) → Result Line Bad
 line_found (Some (name, rows)) =
@@ -131,6 +157,7 @@ line_found (Some (name, rows)) =
     else if bytes_eq name (codes "save") then save_of rows
     else if bytes_eq name (codes "make") then make_of rows
     else if bytes_eq name (codes "trial") then trial_of rows
+    else if bytes_eq name (codes "batch") then batch_of rows
     else Err Words
 line_found None = Err Words
 
@@ -167,9 +194,18 @@ pub record IsSaveWithin (line : RunLine) : Type 0 where
   pub quiet : line.report ≡ false
   pub loads_none : line.load ≡ None
 
+-- So are those of `asc batch`, which has no lanes and no saved entries, and 1 to 64 inputs.
+pub record IsBatchWithin (line : BatchLine) : Type 0 where
+  pub within : IsRunWithin line.run
+  pub no_lanes : line.run.lanes ≡ 0
+  pub loads_none : line.run.load ≡ None
+  pub some : 1 ≤ length line.inputs
+  pub few : length line.inputs ≤ most_inputs
+
 -- its numbers are within their ranges
 abbrev pub IsWithin : Line → Type 0
 IsWithin (Run line) = IsRunWithin line
 IsWithin (Save line) = IsSaveWithin line
 IsWithin (Make n) = n < 2 ^ 64
 IsWithin (Trial n workers lanes) = (n < 2 ^ 64) × (workers ≤ 64) × (lanes ≤ 64) × (0 < lanes → workers ≡ 0)
+IsWithin (Batch line) = IsBatchWithin line

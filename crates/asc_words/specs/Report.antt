@@ -1,20 +1,24 @@
--- The texts of an answer on the report, and of a trial.
+-- The texts of an answer on the report, of a trial, and of a run of a batch.
 use Rattle.std.specs.Prelude.{ℕ, codes, decimal, List, [], ◌++◌, Option, Some, None}
 use Rattle.std.specs.Int.{to_be_bytes, w32}
 use Rattle.hex.specs.Hex.{encode_lower}
+use Rattle.asc_model.specs.declared.fault.Fault.{Fault}
 use Rattle.asc_model.specs.declared.fault.FaultKind.{FaultKind}
 use Rattle.asc_model.specs.declared.fault.FaultKind.TheVariants as kinds
 use Rattle.asc_model.specs.declared.save_fault.SaveFault.TheVariants as save
 use Rattle.asc_elf.specs.declared.fault.ElfFault.{ElfFault}
 use Rattle.asc_elf.specs.declared.fault.ElfFault.TheVariants as elf
 use Rattle.asc_words.specs.declared.answer.Answer.{Answer}
+use Rattle.asc_words.specs.declared.answer.BatchRun.{BatchRun}
 use Rattle.asc_words.specs.declared.answer.Counts.{Counts}
 use Rattle.asc_words.specs.declared.answer.Outcome.{Outcome}
+use Rattle.asc_words.specs.declared.answer.RunEnd.{RunEnd}
+use Rattle.asc_words.specs.declared.answer.RunEnd.TheVariants as ends
 use Rattle.asc_words.specs.declared.answer.SavedFault.{SavedFault}
 use Rattle.asc_words.specs.declared.answer.SavedFault.TheVariants as saved
 use Rattle.asc_words.specs.declared.answer.TrialOutcome.{TrialOutcome}
 use Rattle.asc_words.specs.declared.answer.WorkerCounts.{WorkerCounts}
-use Rattle.asc_words.specs.declared.answer.Answer.TheVariants.{Exit, Done, Usage, Image, TooLong, Saved, StoreFault, Memory, ReadFault, WriteFault, ErrFault, ReportFault, Limit, Fault as Failed}
+use Rattle.asc_words.specs.declared.answer.Answer.TheVariants.{Exit, Done, Usage, Image, TooLong, InputTooLong, Saved, StoreFault, Memory, ReadFault, WriteFault, ErrFault, ReportFault, Limit, Fault as Failed}
 
 -- the number of a machine fault's kind
 abbrev pub kind_number : FaultKind → ℕ
@@ -73,6 +77,13 @@ entry_text fault = []
 abbrev pub word_text : ℕ → List ℕ
 word_text word = encode_lower (to_be_bytes w32 word)
 
+-- a machine's fault: the number of its kind, where it was, and its value
+abbrev pub fault_text : Fault → List ℕ
+fault_text fault =
+    codes "fault " ++ decimal (kind_number fault.kind)
+    ++ codes " at " ++ word_text fault.pc
+    ++ codes " value " ++ word_text fault.value
+
 -- The line of an answer. A guest that ends by itself has none, nor has a text that was written. Where the report itself
 -- fails, it has a prefix of the text of the outcome that this answer replaces, and gets no more.
 unfoldable pub answer_text : Answer → List ℕ
@@ -82,6 +93,7 @@ answer_text (Usage bad) = codes "asc: usage\n"
 answer_text (Image fault) =
     codes "asc: image fault " ++ decimal (image_number fault) ++ header_text fault ++ codes "\n"
 answer_text TooLong = codes "asc: image too long\n"
+answer_text (InputTooLong input) = codes "asc: input " ++ decimal input ++ codes " too long\n"
 answer_text (Saved fault) = codes "asc: saved fault " ++ decimal (saved_number fault) ++ entry_text fault ++ codes "\n"
 answer_text StoreFault = codes "asc: store failed\n"
 answer_text Memory = codes "asc: out of memory\n"
@@ -90,11 +102,7 @@ answer_text WriteFault = codes "asc: output failed\n"
 answer_text ErrFault = codes "asc: error output failed\n"
 answer_text ReportFault = []
 answer_text (Limit count) = codes "asc: limit after " ++ decimal count ++ codes "\n"
-answer_text (Failed fault count) =
-    codes "asc: fault " ++ decimal (kind_number fault.kind)
-    ++ codes " at " ++ word_text fault.pc
-    ++ codes " value " ++ word_text fault.value
-    ++ codes " after " ++ decimal count ++ codes "\n"
+answer_text (Failed fault count) = codes "asc: " ++ fault_text fault ++ codes " after " ++ decimal count ++ codes "\n"
 
 -- the line of the numbers of a run
 unfoldable pub counts_text : Counts → List ℕ
@@ -128,10 +136,13 @@ abbrev pub reported_workers_text : Option WorkerCounts → List ℕ
 reported_workers_text (Some workers) = workers_text workers
 reported_workers_text None = []
 
+-- the lines of the numbers of a run and of its workers, where they are reported
+abbrev pub numbers_text : Option Counts → Option WorkerCounts → List ℕ
+numbers_text counts workers = reported_counts_text counts ++ reported_workers_text workers
+
 -- The text of an outcome: the line of its answer, and behind it those of its numbers.
 unfoldable pub report_text : Outcome → List ℕ
-report_text outcome =
-    answer_text outcome.answer ++ reported_counts_text outcome.counts ++ reported_workers_text outcome.workers
+report_text outcome = answer_text outcome.answer ++ numbers_text outcome.counts outcome.workers
 
 -- ---- trials
 
@@ -160,3 +171,21 @@ reported_trial_counts_text None = []
 -- The text of a trial: its line, and behind it that of its numbers.
 unfoldable pub trial_text : TrialOutcome → List ℕ
 trial_text trial = trial_line trial ++ reported_trial_counts_text trial.counts
+
+-- ---- runs of a batch
+
+-- how a run ended
+abbrev pub end_text : RunEnd → List ℕ
+end_text (ends.Exit code) = codes "exit " ++ decimal code
+end_text ends.Limit = codes "limit"
+end_text (ends.Fault fault) = fault_text fault
+
+-- the line of a run of a batch
+abbrev pub batch_line : BatchRun → List ℕ
+batch_line run =
+    codes "asc: run " ++ decimal run.number ++ codes ": " ++ end_text run.end
+    ++ codes " after " ++ decimal run.steps ++ codes "\n"
+
+-- The text of a run of a batch: its line, and behind it those of its numbers.
+unfoldable pub batch_text : BatchRun → List ℕ
+batch_text run = batch_line run ++ numbers_text run.counts run.workers

@@ -30,7 +30,7 @@ pub record HasFlag (id : Text) (rows : List Row) : Type 0 where
 abbrev pub HasText : Text → List Row → Type 0
 HasText id rows = is_some (first_of id rows) ≡ true
 
--- what `asc run` and `asc save` both take has its values
+-- what `asc run`, `asc save` and `asc batch` all take has its values
 pub record HasShared (rows : List Row) : Type 0 where
   pub image : HasText (codes "image") rows
   pub memory : HasNumber (codes "memory") 64 65536 rows
@@ -65,3 +65,10 @@ pub record IsTrial (rows : List Row) : Type 0 where
   pub number : HasNumber (codes "number") 0 (2 ^ 64 - 1) rows
   pub workers : HasNumber (codes "workers") 0 64 rows
   pub rounds : HasFlag (codes "rounds") rows
+
+-- what `asc batch` takes has its values
+pub record IsBatch (rows : List Row) : Type 0 where
+  pub shared : HasShared rows
+  pub workers : HasNumber (codes "workers") 0 64 rows
+  pub report : HasFlag (codes "report") rows
+  pub inputs : HasText (codes "inputs") rows

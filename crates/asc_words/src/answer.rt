@@ -12,6 +12,8 @@ pub enum Bad {
     Words,
     /// The value of `--pc` is no address.
     Pc,
+    /// There are more inputs than 64.
+    Inputs,
 }
 
 /// Why the file that `--load` names is refused.
@@ -43,6 +45,8 @@ pub enum Answer {
     Image(ElfFault),
     /// The file has more than `FILE_LIMIT` bytes.
     TooLong,
+    /// The input of this number, counted from 0, has more than `FILE_LIMIT` bytes.
+    InputTooLong(usize),
     /// The file of saved entries is refused.
     Saved(SavedFault),
     /// The store failed, or has no file of that name.
@@ -122,6 +126,32 @@ pub struct TrialOutcome {
     pub counts: Option<Counts>,
 }
 
+/// How a run of a batch ended.
+#[derive(Clone, Copy, Debug, PartialEq, Eq)]
+pub enum RunEnd {
+    /// The guest ended with this code.
+    Exit(u8),
+    /// The limit of its steps was reached.
+    Limit,
+    /// An instruction of the guest met a fault.
+    Fault(Fault),
+}
+
+/// What a run of a batch came to.
+#[derive(Clone, Copy, Debug, PartialEq, Eq)]
+pub struct BatchRun {
+    /// Its number, counted from 0.
+    pub number: usize,
+    /// How it ended.
+    pub end: RunEnd,
+    /// Steps done and steps jumped over.
+    pub steps: u64,
+    /// The numbers of the run, where they are reported.
+    pub counts: Option<Counts>,
+    /// The numbers of its workers.
+    pub workers: Option<WorkerCounts>,
+}
+
 impl Outcome {
     ghost use Rattle.asc_words.specs.Answer.{outcome_of};
 
@@ -149,7 +179,7 @@ impl Answer {
             Answer::Exit(code) => *code,
             Answer::Done(_) => 0,
             Answer::Usage(_) => 64,
-            Answer::Image(_) | Answer::TooLong | Answer::Saved(_) => 65,
+            Answer::Image(_) | Answer::TooLong | Answer::InputTooLong(_) | Answer::Saved(_) => 65,
             Answer::StoreFault => 66,
             Answer::Memory => 71,
             Answer::ReadFault | Answer::WriteFault | Answer::ErrFault | Answer::ReportFault => 74,

@@ -1,7 +1,7 @@
 //! The command that `clap` reads.
 ghost use Rattle.std.specs.Prelude.{◌≡◌, IfOk, false};
 ghost use Rattle.clap.specs.Words.{app_of, rule_of};
-ghost use Rattle.asc_words.specs.Command.{asc_command, flag, number_argument, make_command, number_option, required, rounds_flag, run_command, save_command, shared_arguments, subcommand_with, text_option, text_with_default, trial_command, workers_option};
+ghost use Rattle.asc_words.specs.Command.{asc_command, batch_command, flag, inputs_argument, number_argument, make_command, number_option, required, rounds_flag, run_command, save_command, shared_arguments, subcommand_with, text_option, text_with_default, trial_command, workers_option};
 ghost use Rattle.asc_words.specs.Subcommands.{IsSubcommand};
 
 use clap::builder::ValueParser;
@@ -19,7 +19,8 @@ pub(crate) fn asc_command<'a>(alloc: Global) -> Result<Command<'a>, AllocError>
         .subcommand(run_command(alloc)?)?
         .subcommand(save_command(alloc)?)?
         .subcommand(make_command(alloc)?)?
-        .subcommand(trial_command(alloc)?)
+        .subcommand(trial_command(alloc)?)?
+        .subcommand(batch_command(alloc)?)
 }
 
 /// `asc run`.
@@ -40,7 +41,7 @@ fn save_command<'a>(alloc: Global) -> Result<Command<'a>, AllocError>
     shared_command(alloc, "save")
 }
 
-/// A subcommand of this name, with what `asc run` and `asc save` both take: a row for each argument.
+/// A subcommand of this name, with what `asc run`, `asc save` and `asc batch` all take: a row for each argument.
 fn shared_command<'a>(alloc: Global, name: &'a str) -> Result<Command<'a>, AllocError>
     ensures { IfOk result (λ command. IsSubcommand command (subcommand_with name.entry.now shared_arguments)) }
 {
@@ -77,6 +78,16 @@ fn trial_command<'a>(alloc: Global) -> Result<Command<'a>, AllocError>
         .arg(rounds(alloc))
 }
 
+/// `asc batch`.
+fn batch_command<'a>(alloc: Global) -> Result<Command<'a>, AllocError>
+    ensures { IfOk result (λ command. IsSubcommand command batch_command) }
+{
+    shared_command(alloc, "batch")?
+        .arg(workers(alloc))?
+        .arg(flag(alloc, "report"))?
+        .arg(inputs(alloc))
+}
+
 /// How many workers a run has.
 fn workers<'a>(alloc: Global) -> Arg<'a>
     ensures rule { rule_of result ≡ workers_option }
@@ -91,6 +102,14 @@ fn rounds<'a>(alloc: Global) -> Arg<'a>
     ensures local { result.global ≡ false }
 {
     flag(alloc, "rounds")
+}
+
+/// The names of the inputs of a batch: each word that is no option, behind the image.
+fn inputs<'a>(alloc: Global) -> Arg<'a>
+    ensures rule { rule_of result ≡ inputs_argument }
+    ensures local { result.global ≡ false }
+{
+    required(alloc, "inputs").action(ArgAction::Append)
 }
 
 /// The number of a generated image.

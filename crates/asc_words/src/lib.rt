@@ -8,11 +8,13 @@ mod laws;
 mod line;
 mod report;
 
-pub use answer::{Answer, Bad, Counts, Outcome, SavedFault, TrialOutcome, WorkerCounts};
+pub use answer::{
+    Answer, Bad, BatchRun, Counts, Outcome, RunEnd, SavedFault, TrialOutcome, WorkerCounts,
+};
 pub use given::given_words;
 pub use laws::{lines_are_within, taken_words_have_lines};
-pub use line::{FILE_LIMIT, FileName, Line, LineFault, RunLine, parse};
-pub use report::{text, trial_text};
+pub use line::{BatchLine, FILE_LIMIT, FileName, Line, LineFault, RunLine, parse};
+pub use report::{batch_text, text, trial_text};
 
 #[cfg(test)]
 mod tests;

@@ -1,8 +1,8 @@
-ghost use Rattle.std.specs.Prelude.{codes, ℕ, ◌≡◌, IfOk, Ok, Err, map, option_map};
+ghost use Rattle.std.specs.Prelude.{codes, ℕ, ◌≡◌, ◌<◌, ◌≤◌, IfOk, IfErr, Ok, Err, length, map, option_map};
 ghost use Rattle.std.specs.String.{string_bytes};
 ghost use Rattle.clap.specs.Words.{found_of, rows_of};
-ghost use Rattle.asc_words.specs.Rows.{HasFlag, HasNumber, HasShared, IsRun};
-ghost use Rattle.asc_words.specs.Line.{IsWithin, address_of, beside_in, flag_in, guesses_of, is_address, lanes_in, line_of, number_in, run_of, shared_of, version_numbered};
+ghost use Rattle.asc_words.specs.Rows.{HasFlag, HasNumber, HasShared, IsBatch, IsRun};
+ghost use Rattle.asc_words.specs.Line.{IsWithin, address_of, batch_of, beside_in, flag_in, guesses_of, inputs_in, is_address, lanes_in, line_of, most_inputs, number_in, run_of, shared_of, version_numbered};
 
 use crate::answer::Bad;
 use crate::command::asc_command;
@@ -14,6 +14,9 @@ use std::marker::Model;
 
 /// The greatest file that is read, in bytes: 64 MiB.
 pub const FILE_LIMIT: usize = 67_108_864;
+
+/// The most inputs of a batch.
+const MOST_INPUTS: usize = 64;
 
 /// The name of a file in a store. Contracts see it as its bytes.
 #[derive(Debug, Drop)]
@@ -46,7 +49,7 @@ impl FileName {
     }
 }
 
-/// What `asc run` or `asc save` is asked for: a field for each argument, and two for `--guess`.
+/// What `asc run`, `asc save` or `asc batch` is asked for: a field for each argument, and two for `--guess`.
 #[derive(Debug, Drop)]
 pub struct RunLine {
     /// The image's name in the store.
@@ -88,6 +91,23 @@ pub struct RunLine {
     pub load: Option<FileName>,
 }
 
+/// What `asc batch` is asked for. Contracts see the list of its inputs.
+#[derive(Debug, Drop)]
+pub struct BatchLine {
+    /// How each input's run goes: it has no lanes, and loads no entries.
+    pub run: RunLine,
+    /// The inputs' names in the store, in the order of their runs: 1 to 64.
+    pub inputs: Vec<FileName>,
+}
+
+impl Model for BatchLine {
+    ghost use Rattle.asc_words.specs.Batch.{BatchLine};
+
+    ghost Value = { BatchLine };
+
+    ghost view = { λ line. record { run = line.run; inputs = line.inputs.items } };
+}
+
 /// What a command line asks for: a variant for each subcommand.
 #[derive(Debug, Drop)]
 pub enum Line {
@@ -106,6 +126,8 @@ pub enum Line {
         workers: usize,
         lanes: usize,
     },
+    /// `asc batch`.
+    Batch(BatchLine),
 }
 
 /// Why there is no line.
@@ -173,6 +195,7 @@ pub fn parse(alloc: Global, words: &[String]) -> Result<Line, LineFault>
             let (workers, lanes) = workers_of(found);
             Ok(Line::Trial { n, workers, lanes })
         }
+        "batch" => Ok(Line::Batch(batch_line(alloc, found)?)),
         _ => unreachable!(),
     }
 }
@@ -203,7 +226,48 @@ fn run_line(alloc: Global, found: &ArgMatches<'_>) -> Result<RunLine, LineFault>
     })
 }
 
-/// What `asc run` and `asc save` are both asked for, of what was found for their arguments.
+/// What `asc batch` is asked for, of what was found for its arguments.
+fn batch_line(alloc: Global, found: &ArgMatches<'_>) -> Result<BatchLine, LineFault>
+    requires { IsBatch (rows_of (found_of found.now)) }
+    ensures line { IfOk result (λ line. batch_of (rows_of (found_of found.now)) ≡ Ok (Line.Batch line)) }
+    ensures usage { (bad : Bad) → result ≡ Err (LineFault.Usage bad)
+        → batch_of (rows_of (found_of found.now)) ≡ Err bad }
+{
+    let line = shared_line(alloc, found)?;
+    let inputs = few(found.get_strs("inputs").unwrap())?;
+    Ok(BatchLine {
+        run: RunLine {
+            workers: number(found, "workers") as usize,
+            report: flag(found, "report"),
+            ..line
+        },
+        inputs: file_names(alloc, inputs)?,
+    })
+}
+
+/// The inputs that a batch is given, which are few enough.
+fn few<'a, 'b>(inputs: &'b [&'a str]) -> Result<&'b [&'a str], Bad>
+    ensures few { IfOk result (λ given. (given.now ≡ inputs.now) × (length inputs.now ≤ most_inputs)) }
+    ensures many { IfErr result (λ bad. (bad ≡ Bad.Inputs) × (most_inputs < length inputs.now)) }
+{
+    if inputs.len() > MOST_INPUTS {
+        return Err(Bad::Inputs);
+    }
+    Ok(inputs)
+}
+
+/// The files' names that these texts are, in order.
+fn file_names(alloc: Global, texts: &[&str]) -> Result<Vec<FileName>, AllocError>
+    ensures { IfOk result (λ names. names.items ≡ map (λ s. s.now) texts.now) }
+{
+    let mut names = Vec::new(alloc);
+    for text in texts {
+        names.push(FileName::new(String::from_str(alloc, text)?))?;
+    }
+    Ok(names)
+}
+
+/// What `asc run`, `asc save` and `asc batch` are all asked for, of what was found for their arguments.
 fn shared_line(alloc: Global, found: &ArgMatches<'_>) -> Result<RunLine, LineFault>
     requires { HasShared (rows_of (found_of found.now)) }
     ensures line { IfOk result (λ line. shared_of (rows_of (found_of found.now)) ≡ Ok line) }

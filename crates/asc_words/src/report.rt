@@ -1,9 +1,11 @@
-//! The texts of answers and trials, built in bytes on the stack.
+//! The texts of answers, of trials and of runs of a batch, built in bytes on the stack.
 ghost use Rattle.std.specs.Prelude.{◌≡◌, ◌+◌, ◌≤◌, ◌++◌, codes, decimal, drop, length};
 ghost use Rattle.arrayvec.specs.ArrayVec.{array_vec_len};
-ghost use Rattle.asc_words.specs.Report.{answer_text, entry_text, header_text, image_number, kind_number, report_text, saved_number, trial_counts_text, trial_line, trial_text, word_text};
+ghost use Rattle.asc_words.specs.Report.{answer_text, batch_line, batch_text, counts_text, end_text, entry_text, fault_text, header_text, image_number, kind_number, numbers_text, report_text, saved_number, trial_counts_text, trial_line, trial_text, word_text, workers_text};
 
-use crate::answer::{Answer, Counts, Outcome, SavedFault, TrialOutcome, WorkerCounts};
+use crate::answer::{
+    Answer, BatchRun, Counts, Outcome, RunEnd, SavedFault, TrialOutcome, WorkerCounts,
+};
 use arrayvec::ArrayVec;
 use asc_elf::ElfFault;
 use asc_model::SaveFault;
@@ -33,6 +35,16 @@ pub fn trial_text(trial: &TrialOutcome, into: &mut [u8]) -> usize
     place(&trial_text_of(trial), into)
 }
 
+/// Puts the text of a run of a batch, which is at most three lines, at the front of `into`, and answers its length. It
+/// takes no memory.
+pub fn batch_text(run: &BatchRun, into: &mut [u8]) -> usize
+    requires { 512 ≤ length into.old }
+    ensures text { into.new ≡ batch_text run.now ++ drop (length (batch_text run.now)) into.old }
+    ensures length { result ≡ length (batch_text run.now) }
+{
+    place(&batch_text_of(run), into)
+}
+
 /// Puts a text at the front of `into`, and answers its length.
 fn place(text: &Text, into: &mut [u8]) -> usize
     requires { 512 ≤ length into.old }
@@ -50,12 +62,7 @@ fn text_of(outcome: &Outcome) -> Text
     ensures { result.items ≡ report_text outcome.now }
 {
     let mut text = line(&outcome.answer);
-    if let Some(counts) = &outcome.counts {
-        put_counts(&mut text, counts);
-    }
-    if let Some(workers) = &outcome.workers {
-        put_workers(&mut text, workers);
-    }
+    put_numbers(&mut text, &outcome.counts, &outcome.workers);
     text
 }
 
@@ -72,6 +79,17 @@ fn trial_text_of(trial: &TrialOutcome) -> Text
     text
 }
 
+/// The text of a run of a batch.
+#[tactic(auto, unfolding(crate::specs::Report::batch_text))]
+fn batch_text_of(run: &BatchRun) -> Text
+    ensures { result.items ≡ batch_text run.now }
+{
+    let mut text = Text::new();
+    put_run(&mut text, run);
+    put_numbers(&mut text, &run.counts, &run.workers);
+    text
+}
+
 /// The line of an answer, or nothing.
 #[tactic(auto, unfolding(crate::specs::Report::answer_text))]
 fn line(answer: &Answer) -> Text
@@ -84,6 +102,7 @@ fn line(answer: &Answer) -> Text
         Answer::Usage(_) => put(&mut line, b"asc: usage\n"),
         Answer::Image(fault) => put_image_fault(&mut line, fault),
         Answer::TooLong => put(&mut line, b"asc: image too long\n"),
+        Answer::InputTooLong(input) => put_long_input(&mut line, *input),
         Answer::Saved(fault) => put_saved_fault(&mut line, fault),
         Answer::StoreFault => put(&mut line, b"asc: store failed\n"),
         Answer::Memory => put(&mut line, b"asc: out of memory\n"),
@@ -128,6 +147,16 @@ fn put_saved_fault(line: &mut Text, fault: &SavedFault)
     put(line, b"\n");
 }
 
+/// Appends the line of an input that is too long.
+fn put_long_input(line: &mut Text, input: usize)
+    requires { array_vec_len line.old ≡ 0 }
+    ensures line { line.new.items ≡ line.old.items ++ codes "asc: input " ++ decimal input ++ codes " too long\n" }
+    ensures room { array_vec_len line.new ≤ 96 }
+{
+    put_labelled(line, b"asc: input ", input as u64);
+    put(line, b" too long\n");
+}
+
 /// Appends the line of a limit that was reached.
 fn put_limit(line: &mut Text, count: u64)
     requires { array_vec_len line.old ≡ 0 }
@@ -142,30 +171,74 @@ fn put_limit(line: &mut Text, count: u64)
 /// Appends the line of a machine's fault.
 fn put_fault(line: &mut Text, fault: &Fault, count: u64)
     requires { array_vec_len line.old ≡ 0 }
-    ensures line { line.new.items ≡ line.old.items ++ codes "asc: fault " ++ decimal (kind_number fault.now.kind)
-        ++ codes " at " ++ word_text fault.now.pc ++ codes " value " ++ word_text fault.now.value
+    ensures line { line.new.items ≡ line.old.items ++ codes "asc: " ++ fault_text fault.now
         ++ codes " after " ++ decimal count ++ codes "\n" }
     ensures room { array_vec_len line.new ≤ 96 }
 {
-    put(line, b"asc: fault ");
-    put_number(line, kind_number(fault.kind));
+    put(line, b"asc: ");
+    put_fault_text(line, fault);
+    put_labelled(line, b" after ", count);
+    put(line, b"\n");
+}
+
+/// Appends a machine's fault.
+fn put_fault_text(line: &mut Text, fault: &Fault)
+    requires { array_vec_len line.old ≤ 31 }
+    ensures fault { line.new.items ≡ line.old.items ++ fault_text fault.now }
+    ensures room { array_vec_len line.new ≤ array_vec_len line.old + 53 }
+{
+    put_labelled(line, b"fault ", kind_number(fault.kind));
     put(line, b" at ");
     put_word(line, fault.pc);
     put(line, b" value ");
     put_word(line, fault.value);
-    put(line, b" after ");
-    put_number(line, count);
+}
+
+/// Appends the line of a run of a batch.
+fn put_run(line: &mut Text, run: &BatchRun)
+    requires { array_vec_len line.old ≡ 0 }
+    ensures line { line.new.items ≡ line.old.items ++ batch_line run.now }
+    ensures room { array_vec_len line.new ≤ 112 }
+{
+    put_labelled(line, b"asc: run ", run.number as u64);
+    put(line, b": ");
+    put_end(line, &run.end);
+    put_labelled(line, b" after ", run.steps);
     put(line, b"\n");
 }
 
+/// Appends how a run of a batch ended.
+fn put_end(line: &mut Text, end: &RunEnd)
+    requires { array_vec_len line.old ≤ 31 }
+    ensures end { line.new.items ≡ line.old.items ++ end_text end.now }
+    ensures room { array_vec_len line.new ≤ array_vec_len line.old + 53 }
+{
+    match end {
+        RunEnd::Exit(code) => put_labelled(line, b"exit ", u64::from(*code)),
+        RunEnd::Limit => put(line, b"limit"),
+        RunEnd::Fault(fault) => put_fault_text(line, fault),
+    }
+}
+
+/// Appends the lines of the numbers of a run and of its workers, where they are reported.
+fn put_numbers(text: &mut Text, counts: &Option<Counts>, workers: &Option<WorkerCounts>)
+    requires { array_vec_len text.old ≤ 112 }
+    ensures { text.new.items ≡ text.old.items ++ numbers_text counts.now workers.now }
+{
+    if let Some(counts) = counts {
+        put_counts(text, counts);
+    }
+    if let Some(workers) = workers {
+        put_workers(text, workers);
+    }
+}
+
 /// Appends the line of the numbers of a run.
+#[tactic(auto, unfolding(crate::specs::Report::counts_text))]
 fn put_counts(line: &mut Text, counts: &Counts)
-    requires { array_vec_len line.old ≤ 96 }
-    ensures line { line.new.items ≡ line.old.items ++ codes "asc: executed " ++ decimal counts.now.executed
-        ++ codes " skipped " ++ decimal counts.now.skipped ++ codes " asked " ++ decimal counts.now.asked
-        ++ codes " hits " ++ decimal counts.now.hits ++ codes " made " ++ decimal counts.now.made
-        ++ codes " refused " ++ decimal counts.now.refused ++ codes "\n" }
-    ensures room { array_vec_len line.new ≤ 268 }
+    requires { array_vec_len line.old ≤ 112 }
+    ensures line { line.new.items ≡ line.old.items ++ counts_text counts.now }
+    ensures room { array_vec_len line.new ≤ 284 }
 {
     put_labelled(line, b"asc: executed ", counts.executed);
     put_labelled(line, b" skipped ", counts.skipped);
@@ -177,13 +250,10 @@ fn put_counts(line: &mut Text, counts: &Counts)
 }
 
 /// Appends the line of the numbers of its workers.
+#[tactic(auto, unfolding(crate::specs::Report::workers_text))]
 fn put_workers(line: &mut Text, workers: &WorkerCounts)
-    requires { array_vec_len line.old ≤ 268 }
-    ensures { line.new.items ≡ line.old.items ++ codes "asc: ran " ++ decimal workers.now.ran
-        ++ codes " left " ++ decimal workers.now.left ++ codes " stored " ++ decimal workers.now.stored
-        ++ codes " known " ++ decimal workers.now.known ++ codes " empty " ++ decimal workers.now.empty
-        ++ codes " dropped " ++ decimal workers.now.dropped ++ codes " stopped " ++ decimal workers.now.stopped
-        ++ codes " full " ++ decimal workers.now.full ++ codes "\n" }
+    requires { array_vec_len line.old ≤ 284 }
+    ensures { line.new.items ≡ line.old.items ++ workers_text workers.now }
 {
     put_labelled(line, b"asc: ran ", workers.ran);
     put_labelled(line, b" left ", workers.left);

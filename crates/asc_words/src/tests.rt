@@ -1,6 +1,6 @@
 use crate::{
-    Answer, Bad, Counts, Line, LineFault, Outcome, RunLine, SavedFault, TrialOutcome, WorkerCounts,
-    given_words, parse, text, trial_text,
+    Answer, Bad, BatchLine, BatchRun, Counts, Line, LineFault, Outcome, RunEnd, RunLine,
+    SavedFault, TrialOutcome, WorkerCounts, batch_text, given_words, parse, text, trial_text,
 };
 use asc_elf::ElfFault;
 use asc_model::SaveFault;
@@ -295,6 +295,46 @@ static OTHER_LINES: [(&str, &str); 57] = [
     ("asc run a --version", "refused"),
 ];
 
+// The same of batches: words, how many inputs named `x` stand behind them, and what they mean. The inputs are told by their
+// number and by those of other names.
+static BATCH_LINES: [(&str, usize, &str); 15] = [
+    // the inputs in their order, and options between them
+    (
+        "asc batch i a b c",
+        0,
+        "batch i 1024 1099511627776 2 of 3 a b c",
+    ),
+    (
+        "asc batch i c a a",
+        0,
+        "batch i 1024 1099511627776 2 of 3 c a a",
+    ),
+    (
+        "asc batch --workers 2 i a --memory=64 b --report c",
+        0,
+        "batch i 64 1099511627776 2 workers 2 report of 3 a b c",
+    ),
+    (
+        "asc batch i a --join --pc 1f -- --report b",
+        0,
+        "batch i 1024 1099511627776 2 pc 31 join of 3 a --report b",
+    ),
+    // none, as many as may be, and one more
+    ("asc batch", 0, "refused"),
+    ("asc batch i", 0, "refused"),
+    ("asc batch i --report", 0, "refused"),
+    ("asc batch i", 64, "batch i 1024 1099511627776 2 of 64"),
+    ("asc batch i", 65, "too many inputs"),
+    // other wrong words come first
+    ("asc batch i --pc 1000g", 65, "no address"),
+    ("asc batch i --guess x --pc 1000g", 65, "refused"),
+    ("asc batch i --workers 65", 65, "refused"),
+    // what only a single run takes
+    ("asc batch i a --rounds", 0, "refused"),
+    ("asc batch i a --load f", 0, "refused"),
+    ("asc batch i a --report --report", 0, "refused"),
+];
+
 // The words of a text.
 fn words_of(alloc: Global, text: &str) -> Result<Vec<String>, AllocError> {
     let mut words = Vec::new(alloc);
@@ -347,6 +387,20 @@ fn run_text(alloc: Global, line: &RunLine) -> Result<String, AllocError> {
     Ok(meaning)
 }
 
+// What a batch is asked for, as a text.
+fn inputs_text(alloc: Global, line: &BatchLine) -> Result<String, AllocError> {
+    let run = run_text(alloc, &line.run)?;
+    let count = line.inputs.len();
+    let mut meaning = format!(in alloc; "batch {run} of {count}")?;
+    for name in &line.inputs {
+        let name = name.as_str();
+        if name != "x" {
+            meaning.push_str(format!(in alloc; " {name}")?.as_str())?;
+        }
+    }
+    Ok(meaning)
+}
+
 // What the words mean, as a text.
 fn meaning_of(alloc: Global, words: &[String]) -> Result<String, AllocError> {
     match parse(alloc, words) {
@@ -359,7 +413,9 @@ fn meaning_of(alloc: Global, words: &[String]) -> Result<String, AllocError> {
         Ok(Line::Trial { n, workers, lanes }) => {
             format!(in alloc; "trial {n} workers {workers} lanes {lanes}")
         }
+        Ok(Line::Batch(line)) => inputs_text(alloc, &line),
         Err(LineFault::Usage(Bad::Pc)) => String::from_str(alloc, "no address"),
+        Err(LineFault::Usage(Bad::Inputs)) => String::from_str(alloc, "too many inputs"),
         Err(LineFault::Usage(Bad::Words)) => String::from_str(alloc, "refused"),
         Err(LineFault::Memory) => String::from_str(alloc, "out of memory"),
     }
@@ -394,6 +450,25 @@ fn other_lines(rt: HostRuntime) -> Result<(), Fail> {
     Ok(())
 }
 
+// The words of a text, and this many words `x` behind them.
+fn words_and(alloc: Global, text: &str, more: usize) -> Result<Vec<String>, AllocError> {
+    let mut words = words_of(alloc, text)?;
+    for _ in 0..more {
+        words.push(String::from_str(alloc, "x")?)?;
+    }
+    Ok(words)
+}
+
+#[test]
+fn batch_lines(rt: HostRuntime) -> Result<(), Fail> {
+    let alloc = rt.alloc();
+    for (text, more, want) in &BATCH_LINES {
+        let meaning = meaning_of(alloc, &words_and(alloc, text, *more)?)?;
+        assert_eq!(rt; meaning.as_str(), *want, "{text} {more}");
+    }
+    Ok(())
+}
+
 const FIRST: Fault = Fault {
     kind: FaultKind::Misaligned,
     pc: 0,
@@ -407,13 +482,14 @@ const LAST: Fault = Fault {
 };
 
 // The answers' table: the exit status of each answer, and its line.
-static ANSWERS: [(Answer, u8, &str); 54] = [
+static ANSWERS: [(Answer, u8, &str); 57] = [
     (Answer::Exit(0), 0, ""),
     (Answer::Exit(255), 255, ""),
     (Answer::Done(0), 0, ""),
     (Answer::Done(u64::MAX), 0, ""),
     (Answer::Usage(Bad::Words), 64, "asc: usage\n"),
     (Answer::Usage(Bad::Pc), 64, "asc: usage\n"),
+    (Answer::Usage(Bad::Inputs), 64, "asc: usage\n"),
     (Answer::Image(ElfFault::Short), 65, "asc: image fault 1\n"),
     (Answer::Image(ElfFault::Magic), 65, "asc: image fault 2\n"),
     (Answer::Image(ElfFault::Class), 65, "asc: image fault 3\n"),
@@ -451,6 +527,12 @@ static ANSWERS: [(Answer, u8, &str); 54] = [
     ),
     (Answer::Image(ElfFault::Entry), 65, "asc: image fault 15\n"),
     (Answer::TooLong, 65, "asc: image too long\n"),
+    (Answer::InputTooLong(2), 65, "asc: input 2 too long\n"),
+    (
+        Answer::InputTooLong(usize::MAX),
+        65,
+        "asc: input 18446744073709551615 too long\n",
+    ),
     (
         Answer::Saved(SavedFault::File(SaveFault::Short)),
         65,
@@ -810,6 +892,103 @@ fn is_trial_text(trial: &TrialOutcome, want: &str) -> bool {
 fn trials(rt: HostRuntime) {
     for (trial, want) in &TRIALS {
         assert!(rt; is_trial_text(trial, want), "{want}");
+    }
+}
+
+// Runs of a batch, and their texts.
+static BATCH_RUNS: [(BatchRun, &str); 5] = [
+    (
+        BatchRun {
+            number: 0,
+            end: RunEnd::Exit(0),
+            steps: 19,
+            counts: Some(Counts {
+                executed: 13,
+                skipped: 6,
+                asked: 4,
+                hits: 2,
+                made: 4,
+                refused: 0,
+            }),
+            workers: None,
+        },
+        "asc: run 0: exit 0 after 19\nasc: executed 13 skipped 6 asked 4 hits 2 made 4 refused 0\n",
+    ),
+    (
+        BatchRun {
+            number: 63,
+            end: RunEnd::Limit,
+            steps: 1_099_511_627_776,
+            counts: None,
+            workers: None,
+        },
+        "asc: run 63: limit after 1099511627776\n",
+    ),
+    (
+        BatchRun {
+            number: 7,
+            end: RunEnd::Fault(Fault {
+                kind: FaultKind::LoadOutside,
+                pc: 0x10004,
+                value: 0x1FFFD,
+            }),
+            steps: 1,
+            counts: None,
+            workers: None,
+        },
+        "asc: run 7: fault 4 at 00010004 value 0001fffd after 1\n",
+    ),
+    (
+        BatchRun {
+            number: 1,
+            end: RunEnd::Exit(255),
+            steps: 21,
+            counts: Some(Counts {
+                executed: 1,
+                skipped: 20,
+                asked: 300,
+                hits: 4000,
+                made: 50_000,
+                refused: 600_000,
+            }),
+            workers: Some(WorkerCounts {
+                ran: 4,
+                left: 0,
+                stored: 4,
+                known: 0,
+                empty: 0,
+                dropped: 0,
+                stopped: 0,
+                full: 0,
+            }),
+        },
+        "asc: run 1: exit 255 after 21\n\
+         asc: executed 1 skipped 20 asked 300 hits 4000 made 50000 refused 600000\n\
+         asc: ran 4 left 0 stored 4 known 0 empty 0 dropped 0 stopped 0 full 0\n",
+    ),
+    (
+        BatchRun {
+            number: usize::MAX,
+            end: RunEnd::Fault(LAST),
+            steps: u64::MAX,
+            counts: None,
+            workers: None,
+        },
+        "asc: run 18446744073709551615: fault 7 at ffffffff value ffffffff after 18446744073709551615\n",
+    ),
+];
+
+// Whether this is the text of a run of a batch, and all bytes behind it stay.
+fn is_batch_text(run: &BatchRun, want: &str) -> bool {
+    let mut into = [0xEE; 512];
+    let length = batch_text(run, &mut into);
+    &into[..length] == want.as_bytes() && into[length..].iter().all(|byte| *byte == 0xEE)
+}
+
+#[test]
+fn batch_runs(rt: HostRuntime) {
+    for (run, want) in &BATCH_RUNS {
+        assert!(rt; is_batch_text(run, want), "{want}");
     }
 }
 

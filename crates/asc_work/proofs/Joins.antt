@@ -4,7 +4,6 @@ use Rattle.std.specs.Option.{is_some}
 use Rattle.std.specs.Prelude.{OnErr}
 use Rattle.std.proofs.lemmas.Bool.{false≢true}
 use Rattle.asc_model.specs.Entry.{Entry}
-use Rattle.asc_model.specs.Join.{can_join, join_of}
 use Rattle.asc_outside.specs.Outside.{one_more}
 use Rattle.asc_shard.specs.Shard.{Shard}
 use Rattle.asc_shard.specs.declared.shard.Inserted.{Inserted}

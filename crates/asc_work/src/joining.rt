@@ -55,6 +55,7 @@ impl Joining {
             ≡ shard_with (W.content writer.old) (join_behind (option_map arc_value self.now.kept) entry.now)) }
         ensures memory { OnErr result (W.content writer.new ≡ W.content writer.old) }
         ensures due { OnErr result (is_some (join_behind (option_map arc_value self.now.kept) entry.now) ≡ true) }
+        ensures identity { W.identity writer.new ≡ W.identity writer.old }
     {
         let Some(kept) = &self.kept else {
             return Ok(());

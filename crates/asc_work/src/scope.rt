@@ -1,7 +1,7 @@
-ghost use Rattle.std.specs.Prelude.{◌≡◌, ℕ, ◌<◌, ◌≤◌, ◌^◌, length, All, slice_index_or};
+ghost use Rattle.std.specs.Prelude.{◌≡◌, ℕ, ◌<◌, length, All, slice_index_or};
 ghost use Rattle.std.specs.Thread.{IsSync};
 ghost use Rattle.atomic_table.specs.Seated.{TableId};
-ghost use Rattle.asc_work.specs.Posts.{HasServed, IsManned};
+ghost use Rattle.asc_work.specs.Posts.{HasServed, IsManned, IsReady};
 ghost use Rattle.asc_work.specs.declared.post.Post.{Post};
 
 use crate::post::Post;
@@ -25,10 +25,10 @@ pub(crate) fn beside<
     F: FnMut() -> A,
 >(rt: &R, posts: &mut [Post<W, H>], gate: &G, walk: &mut F) -> A
     requires some { 0 < length posts.old }
-    requires few { All (λ p. p.worker.tally.ran ≤ 2 ^ 57) posts.old }
+    requires ready { All (λ p. IsReady p) posts.old }
     requires walk { F.pre walk.old }
     ensures served { (i : ℕ) (d : Post W H) → i < length posts.old
-        → HasServed H.count (slice_index_or posts.old i d) (slice_index_or posts.new i d) }
+        → HasServed H.count W.identity (slice_index_or posts.old i d) (slice_index_or posts.new i d) }
     ensures count { length posts.new ≡ length posts.old }
     ensures manned { (queue : TableId) → All (IsManned queue) posts.old → All (IsManned queue) posts.new }
     ensures walk { F.step walk.old result walk.new }
@@ -36,9 +36,9 @@ pub(crate) fn beside<
     let ((), answer) = join_mut(
         rt,
         &mut ||
-            requires { IsSync R.row × (0 < length posts.now) × All (λ p. p.worker.tally.ran ≤ 2 ^ 57) posts.now }
+            requires { IsSync R.row × (0 < length posts.now) × All (λ p. IsReady p) posts.now }
             ensures { (i : ℕ) (d : Post W H) → i < length posts.entry.now
-                → HasServed H.count (slice_index_or posts.entry.now i d) (slice_index_or posts.exit.now i d) }
+                → HasServed H.count W.identity (slice_index_or posts.entry.now i d) (slice_index_or posts.exit.now i d) }
         { work_all(rt, posts, gate) },
         walk,
     );
@@ -53,14 +53,14 @@ fn work_all<
     G: Gate + Sync,
 >(rt: &R, posts: &mut [Post<W, H>], gate: &G)
     requires some { 0 < length posts.old }
-    requires few { All (λ p. p.worker.tally.ran ≤ 2 ^ 57) posts.old }
+    requires ready { All (λ p. IsReady p) posts.old }
     ensures served { (i : ℕ) (d : Post W H) → i < length posts.old
-        → HasServed H.count (slice_index_or posts.old i d) (slice_index_or posts.new i d) }
+        → HasServed H.count W.identity (slice_index_or posts.old i d) (slice_index_or posts.new i d) }
 {
     let threads = posts.len();
     let work = |_: usize, post: &mut Post<W, H>|
-        requires { post.now.worker.tally.ran ≤ 2 ^ 57 }
-        ensures { HasServed H.count post.entry.now post.exit.now }
+        requires { IsReady post.now }
+        ensures { HasServed H.count W.identity post.entry.now post.exit.now }
     { post.work(rt, gate) };
     for_each_mut(rt, posts, threads, &work);
 }

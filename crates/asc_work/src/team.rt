@@ -1,11 +1,12 @@
-ghost use Rattle.std.specs.Prelude.{◌≡◌, ℕ, ◌+◌, ◌<◌, ◌≤◌, Some, All, IfOk, length, slice_index_or};
+ghost use Rattle.std.specs.Prelude.{◌≡◌, ℕ, ◌+◌, ◌<◌, ◌≤◌, Some, None, All, IfOk, length, slice_index_or};
+ghost use Rattle.atomic_table.specs.Seated.{TableId};
 ghost use Rattle.asc_jobs.specs.Jobs.{new_taker};
 ghost use Rattle.asc_jobs.specs.Tally.{counts_of, no_jobs};
-ghost use Rattle.asc_work.specs.Posts.{HasServed, all_tallies, workers_at};
+ghost use Rattle.asc_work.specs.Posts.{HasServed, IsRehalted, IsTakenIn, all_tallies, halts_at, workers_at};
 ghost use Rattle.asc_work.specs.declared.post.Post.{Post};
 
 use crate::Worker;
-use crate::post::{Post, TakenIn, man, take_in};
+use crate::post::{Post, TakenIn, man, new_posts, take_in};
 use crate::scope::beside;
 use asc_cache::Insert;
 use asc_jobs::{Giver, Taker};
@@ -17,7 +18,10 @@ use std::marker::Model;
 use std::sync::Wait;
 use std::thread::Threads;
 
-/// The workers of a queue, each at a post of its own: with its taker, and with what it parks on.
+/// Workers, each at a post of its own: with what it parks on, and in a run with its taker of the run's queue.
+///
+/// A run is from `begin` to `take_in`, and a further one may follow. The workers live on, with the memory of their tracers
+/// and what their writers have stored.
 #[derive(Drop)]
 pub struct Team<W: Insert + Drop, H: Halt + Drop> {
     posts: Vec<Post<W, H>>,
@@ -34,25 +38,40 @@ impl<W: Insert + Drop, H: Halt + Drop> Model for Team<W, H> {
 }
 
 impl<W: Insert + Drop, H: Halt + Drop> Team<W, H> {
-    /// A team of new workers with the takers of this giver's queue, as many as there are workers; and what wakes them.
+    /// A team of workers that have no queue yet, and what wakes them.
     pub fn new(
         alloc: Global,
-        _giver: &Giver,
         workers: Vec<Worker<W, H>>,
-        takers: Vec<Taker>,
     ) -> Result<(Team<W, H>, Vec<Unparker>), Memory>
         requires some { 0 < length workers.items }
         requires few { length workers.items ≤ 64 }
-        requires count { length workers.items ≡ length takers.items }
         requires workers { All (λ w. w.tally ≡ no_jobs) workers.items }
-        requires takers { All (λ t. t ≡ new_taker _giver.now.queue) takers.items }
-        ensures queue { IfOk result (λ r. r.0.queue ≡ Some _giver.now.queue) }
+        ensures queue { IfOk result (λ r. r.0.queue ≡ None) }
         ensures posts { IfOk result (λ r. length r.0.posts ≡ length workers.items) }
         ensures wakers { IfOk result (λ r. length r.1.items ≡ length workers.items) }
         ensures workers { IfOk result (λ r. workers_at r.0.posts ≡ workers.items) }
     {
-        let (posts, wakers) = man(alloc, workers, takers)?;
+        let (posts, wakers) = new_posts(alloc, workers)?;
         Ok((Team { posts }, wakers))
+    }
+
+    /// Begins a run: the workers take jobs from this giver's queue from now on, and ask these halts. There are as many
+    /// takers and halts as workers, and the order of both is that of the workers that the team was made of. The halts
+    /// before are dropped. It takes no memory.
+    ///
+    /// A wake that a worker kept from the run before ends its first wait in this one.
+    pub fn begin(&mut self, _giver: &Giver, takers: Vec<Taker>, halts: Vec<H>)
+        requires queue { self.old.queue ≡ None }
+        requires count { length takers.items ≡ length self.old.posts }
+        requires halts { length halts.items ≡ length self.old.posts }
+        requires takers { All (λ t. t ≡ new_taker _giver.now.queue) takers.items }
+        ensures queue { self.new.queue ≡ Some _giver.now.queue }
+        ensures count { length self.new.posts ≡ length self.old.posts }
+        ensures halts { halts_at self.new.posts ≡ halts.items }
+        ensures workers { (i : ℕ) (d : Post W H) → i < length self.old.posts
+            → IsRehalted (slice_index_or self.old.posts i d) (slice_index_or self.new.posts i d) }
+    {
+        man(self.posts.as_mut_slice(), takers, halts)
     }
 
     /// How many workers there are.
@@ -76,9 +95,10 @@ impl<W: Insert + Drop, H: Halt + Drop> Team<W, H> {
     where
         W: Send,
         H: Send,
+        requires queue { (queue : TableId) × (self.old.queue ≡ Some queue) }
         requires walk { F.pre walk.old }
         ensures served { (i : ℕ) (d : Post W H) → i < length self.old.posts
-            → HasServed H.count (slice_index_or self.old.posts i d) (slice_index_or self.new.posts i d) }
+            → HasServed H.count W.identity (slice_index_or self.old.posts i d) (slice_index_or self.new.posts i d) }
         ensures count { length self.new.posts ≡ length self.old.posts }
         ensures queue { self.new.queue ≡ self.old.queue }
         ensures walk { F.step walk.old result walk.new }
@@ -86,14 +106,26 @@ impl<W: Insert + Drop, H: Halt + Drop> Team<W, H> {
         beside(rt, self.posts.as_mut_slice(), gate, walk)
     }
 
-    /// Takes the workers in, once all jobs were pushed and the workers have stopped. It pops the jobs that are left.
-    pub fn take_in<R: Wait>(self, rt: &R, giver: Giver) -> TakenIn
-        requires queue { self.queue ≡ Some giver.queue }
-        requires parts { giver.opened ≡ length self.posts + 1 }
+    /// Ends a run: takes the workers in, once all jobs were pushed and the workers have stopped. It pops the jobs that
+    /// are left. The workers have no queue then, and their tallies are 0. It takes no memory.
+    pub fn take_in<R: Wait>(&mut self, rt: &R, giver: Giver) -> TakenIn
+        requires queue { self.old.queue ≡ Some giver.queue }
+        requires parts { giver.opened ≡ length self.old.posts + 1 }
         ensures jobs { length giver.pushed ≡ result.tally.ran + result.left }
-        ensures tally { counts_of result.tally ≡ all_tallies self.posts }
+        ensures tally { counts_of result.tally ≡ all_tallies self.old.posts }
+        ensures queue { self.new.queue ≡ None }
+        ensures count { length self.new.posts ≡ length self.old.posts }
+        ensures workers { (i : ℕ) (d : Post W H) → i < length self.old.posts
+            → IsTakenIn (slice_index_or self.old.posts i d) (slice_index_or self.new.posts i d) }
     {
-        let Self { posts } = self;
-        take_in(rt, giver, posts)
+        take_in(rt, giver, self.posts.as_mut_slice())
+    }
+
+    /// The worker at the post of this number.
+    pub fn worker(&self, i: usize) -> &Worker<W, H>
+        requires { i < length self.now.posts }
+        ensures { (d : Post W H) → result.now ≡ (slice_index_or self.now.posts i d).worker }
+    {
+        &self.posts[i].worker
     }
 }

@@ -1,4 +1,4 @@
-ghost use Rattle.std.specs.Prelude.{◌≡◌, All, length};
+ghost use Rattle.std.specs.Prelude.{◌≡◌, Some, None, All, length};
 ghost use Rattle.asc_jobs.specs.Tally.{no_jobs};
 
 use crate::{Flag, Halter, Ran, Team, Worker, work_loop};
@@ -244,18 +244,18 @@ fn next_worker<R: Abort + Wait + Drop>(
     }
 }
 
-/// Two workers.
+/// Two workers, whose flags say nothing.
 fn two_workers_of<R: Abort + Wait + Copy + Drop>(
     rt: &R,
     alloc: Global,
     shape: Shape,
-    mut flags: Vec<Flag>,
 ) -> Vec<Worker<ShardWriter<R>, Flag>>
     ensures count { length result.items ≡ 2 }
     ensures new { All (λ w. w.tally ≡ no_jobs) result.items }
 {
     let cache = Cache::open(alloc, *rt, 2, 16).expect(rt, "memory");
     let (mut writers, _readers) = cache.split();
+    let (_halter, mut flags) = Halter::open(alloc, 2).expect(rt, "memory");
     let mut workers = Vec::new(alloc);
     let first = next_worker(rt, alloc, shape, &mut writers, &mut flags);
     workers.push(first).expect(rt, "memory");
@@ -274,6 +274,7 @@ fn serve<R: Abort + Threads + Wait + Sync + Drop + Send>(
     gate: &HoldGate,
     last: &Arc<Snapshot>,
 )
+    requires { team.old.queue ≡ Some giver.old.queue }
     ensures count { length team.new.posts ≡ length team.old.posts }
     ensures team { team.new.queue ≡ team.old.queue }
     ensures queue { giver.new.queue ≡ giver.old.queue }
@@ -286,40 +287,45 @@ fn serve<R: Abort + Threads + Wait + Sync + Drop + Send>(
     );
 }
 
-/// Two workers beside a walk that pushes two jobs of one state: each runs one of them.
+/// Two workers beside a walk that pushes two jobs of one state, into a queue of its own: each runs one of them. It answers
+/// how many entries were stored, and how many were known.
 fn run_two<R: Abort + Threads + Wait + Sync + Copy + Drop + Send>(
     rt: &R,
     alloc: Global,
-    size: u32,
-) {
-    let last = counting(rt, alloc, size, 0x10008, 0);
+    team: &mut Team<ShardWriter<R>, Flag>,
+    wakers: &[Unparker],
+    last: &Arc<Snapshot>,
+) -> (u64, u64)
+    requires queue { team.old.queue ≡ None }
+    requires two { length team.old.posts ≡ 2 }
+    ensures queue { team.new.queue ≡ None }
+    ensures two { length team.new.posts ≡ 2 }
+{
     let (mut halter, flags) = Halter::open(alloc, 2).expect(rt, "memory");
     let (mut giver, takers) = Jobs::open(alloc, 4, 2).expect(rt, "memory");
-    let workers = two_workers_of(rt, alloc, last.shape(), flags);
-    let (mut team, wakers) = Team::new(alloc, &giver, workers, takers).expect(rt, "memory");
+    team.begin(&giver, takers, flags);
     let gate = HoldGate::new(alloc, &holds(), 100_000_000).expect(rt, "memory");
-    serve(
-        rt,
-        &mut team,
-        &mut giver,
-        &mut halter,
-        &wakers,
-        &gate,
-        &last,
-    );
+    serve(rt, team, &mut giver, &mut halter, wakers, &gate, last);
     let taken = team.take_in(rt, giver);
     assert!(rt; gate.all_held());
-    assert_eq!(rt;
-        (taken.tally.ran, taken.tally.stored, taken.left),
-        (2, 2, 0)
-    );
+    assert_eq!(rt; (taken.tally.ran, taken.left), (2, 0));
+    (taken.tally.stored, taken.tally.known)
 }
 
-// Memory that is filled in 2 pieces, and in 65.
+// A team serves two queues, one after the other. In the second run its workers have what they stored in the first. Their
+// memory is filled in 2 pieces, and in 65.
 #[test]
-fn two_workers(rt: HostRuntime) {
+fn two_queues(rt: HostRuntime) {
+    let alloc = rt.alloc();
     for size in [0x1_0000, 0x40_0000] {
-        run_two(&rt, rt.alloc(), size);
+        let last = counting(&rt, alloc, size, 0x10008, 0);
+        let workers = two_workers_of(&rt, alloc, last.shape());
+        let (mut team, wakers) = Team::new(alloc, workers).expect(&rt, "memory");
+        assert_eq!(rt; run_two(&rt, alloc, &mut team, &wakers, &last), (2, 0));
+        assert_eq!(rt; run_two(&rt, alloc, &mut team, &wakers, &last), (0, 2));
+        for i in 0..2 {
+            assert_eq!(rt; team.worker(i).writer().stored(), 1);
+        }
     }
 }
 

@@ -34,7 +34,7 @@ pub fn work_loop<R: Wait, W: Insert + Drop, H: Halt + Drop, G: Gate>(
 )
     requires { worker.old.tally.ran ≤ 2 ^ 57 }
     ensures halted { HasRisen (H.count worker.old.halt) (H.count worker.new.halt) }
-    ensures worked { HasWorked worker.old taker.old worker.new taker.new }
+    ensures worked { HasWorked W.identity worker.old taker.old worker.new taker.new }
 {
     parker.park(rt);
     for _ in rt.forever() {
@@ -61,7 +61,7 @@ fn run_next<R: Wait, W: Insert + Drop, H: Halt + Drop, G: Gate>(
 ) -> bool
     requires { worker.old.tally.ran < 2 ^ 57 }
     ensures count { H.count worker.old.halt ≤ H.count worker.new.halt }
-    ensures worked { HasWorked worker.old taker.old worker.new taker.new }
+    ensures worked { HasWorked W.identity worker.old taker.old worker.new taker.new }
     ensures ran { result ≡ true → (job : Job) × (taker.new ≡ after_pop taker.old job)
         × HasRun H.count W.content worker.old job worker.new }
     ensures none { result ≡ false → (worker.new ≡ worker.old) × (taker.new ≡ taker.old) }

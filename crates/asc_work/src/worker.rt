@@ -21,6 +21,7 @@ use asc_shard::Inserted;
 use asc_traj::{Entry, Halt, Made, Stop, TRACE_CAP};
 use std::alloc::Global;
 use std::marker::Model;
+use std::mem;
 use std::sync::Arc;
 
 /// It runs jobs, one after another, and inserts the entries of their guesses, and where it joins also the joins of those
@@ -132,6 +133,7 @@ impl<W: Insert + Drop, H: Halt + Drop> Worker<W, H> {
         ensures laps { self.new.laps ≡ self.old.laps }
         ensures span { self.new.span ≡ self.old.span }
         ensures join { self.new.join ≡ self.old.join }
+        ensures identity { W.identity self.new.writer ≡ W.identity self.old.writer }
     {
         let ran = self.outcome(job, gate);
         self.tally.note(ran);
@@ -160,6 +162,21 @@ impl<W: Insert + Drop, H: Halt + Drop> Worker<W, H> {
         ensures { result ≡ self.now.left_out }
     {
         self.joining.left_out
+    }
+
+    /// Where it inserts entries.
+    pub fn writer(&self) -> &W
+        ensures { result.now ≡ self.now.writer }
+    {
+        &self.writer
+    }
+
+    /// It asks another halt from now on, and hands back the one before.
+    pub fn rehalt(&mut self, halt: H) -> H
+        ensures before { result ≡ self.old.halt }
+        ensures worker { self.new ≡ record self.old { halt = halt } }
+    {
+        mem::replace(&mut self.halt, halt)
     }
 
     /// Its writer and its halt.
@@ -212,6 +229,7 @@ impl<W: Insert + Drop, H: Halt + Drop> Worker<W, H> {
         ensures laps { self.new.laps ≡ self.old.laps }
         ensures span { self.new.span ≡ self.old.span }
         ensures join { self.new.join ≡ self.old.join }
+        ensures identity { W.identity self.new.writer ≡ W.identity self.old.writer }
     {
         if job.prev.shape() != self.shape || job.last.shape() != self.shape {
             return Ran::Empty;
@@ -240,6 +258,7 @@ impl<W: Insert + Drop, H: Halt + Drop> Worker<W, H> {
     fn insert<G: Gate>(&mut self, entry: Arc<Entry>, ticket: u64, gate: &G) -> Ran
         ensures ends { Ends result self.old self.new (Some (arc_value entry)) (W.content self.old.writer) (W.content self.new.writer) }
         ensures same { self.new ≡ record self.old { writer = self.new.writer; kept = self.new.kept; left_out = self.new.left_out } }
+        ensures identity { W.identity self.new.writer ≡ W.identity self.old.writer }
     {
         gate.pass(Point::Traced, ticket);
         let copy = self.joining.copy_of(&entry);
@@ -261,6 +280,7 @@ impl<W: Insert + Drop, H: Halt + Drop> Worker<W, H> {
         ensures joined { (e : Entry) → IfSome copy (λ c. arc_value c ≡ e)
             → HasJoined self.old self.new e (W.content self.old.writer) (W.content self.new.writer) }
         ensures same { self.new ≡ record self.old { writer = self.new.writer; kept = self.new.kept; left_out = self.new.left_out } }
+        ensures identity { W.identity self.new.writer ≡ W.identity self.old.writer }
     {
         let Some(entry) = copy else {
             self.joining.keep(None, false);

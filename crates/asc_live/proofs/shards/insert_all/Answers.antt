@@ -1,5 +1,5 @@
 -- One entry more.
-use Rattle.std.proofs.Common.{◌≡◌, rules, ◌+◌, get_or, fold, map, take, sym, ap, ◌∙◌}
+use Rattle.std.proofs.Common.{◌≡◌, rules, get_or, fold, map, take, sym, ap, ◌∙◌}
 use Rattle.std.specs.Arc.{arc_value}
 use Rattle.asc_traj.proofs.Looks.{fold_more}
 use Rattle.asc_shard.specs.Content.{add, content_of}

@@ -1,4 +1,4 @@
-use Rattle.std.proofs.Common.{◌≡◌, rules, arith, map}
+use Rattle.std.proofs.Common.{rules, map}
 use Rattle.std.specs.Arc.{arc_value}
 use Rattle.asc_live.proofs.Opening.{all_writers, first_writer, has_learnt, opened_of, stored_writer}
 use Rattle.asc_live.proofs.shards.open_shards.Goals as goal

@@ -1,16 +1,15 @@
 -- What a walk comes to in rounds: nothing is guessed, or a helper with lanes guesses as a serial one does.
-use Rattle.std.proofs.Common.{◌≡◌, ◌∙◌, ℕ, None, map, refl, sym, ap, subst}
+use Rattle.std.proofs.Common.{◌≡◌, ◌∙◌, None, map, refl, sym, ap, subst}
 use Rattle.std.specs.Arc.{arc_value}
 use Rattle.asc_calls.specs.World.{faults, outside}
 use Rattle.asc_run.specs.Helped.{aid}
 use Rattle.asc_run.specs.SerialHelper.{SerialHelper, plan_of, told_machine}
-use Rattle.asc_run.specs.Walk.{Walk, tally}
+use Rattle.asc_run.specs.Walk.{Walk}
 use Rattle.asc_words.specs.declared.answer.Outcome.{Outcome}
 use Rattle.asc_top.specs.Numbers.{guessing_of}
-use Rattle.asc_top.specs.Ran.{Ran, loaded_helper}
+use Rattle.asc_top.specs.Ran.{IsNew, Ran, loaded_helper}
 use Rattle.asc_top.proofs.Alone.{ran_serial}
 use Rattle.asc_top.proofs.Refused.{ran_memory}
-use Rattle.asc_top.proofs.Serials.{IsNew}
 use Rattle.asc_top.proofs.rounds.walk_in_rounds.Goals as goal
 
 pub returns-in-Ok : goal.returns-in-Ok

@@ -7,10 +7,9 @@ use Rattle.asc_run.specs.SerialHelper.{SerialHelper, plan_of, told_machine}
 use Rattle.asc_run.specs.Walk.{Walk, tally}
 use Rattle.asc_words.specs.declared.answer.Outcome.{Outcome}
 use Rattle.asc_top.specs.Numbers.{guessing_of}
-use Rattle.asc_top.specs.Ran.{Ran, loaded_helper}
+use Rattle.asc_top.specs.Ran.{IsNew, Ran, loaded_helper}
 use Rattle.asc_top.proofs.Alone.{ran_idle, ran_serial}
 use Rattle.asc_top.proofs.Refused.{ran_memory}
-use Rattle.asc_top.proofs.Serials.{IsNew}
 use Rattle.asc_top.proofs.run.walk_alone.Goals as goal
 
 pub returns-then-not-keeps_entries : goal.returns-then-not-keeps_entries

@@ -10,4 +10,5 @@ returns c =
     let one = with_sub _ _ _ _ _ top c.in_ok-subcommand.ensures c.in_ok-run_command.ensures in
     let two = with_sub _ _ _ _ _ one c.in_ok-subcommand-2.ensures c.in_ok-save_command.ensures in
     let three = with_sub _ _ _ _ _ two c.in_ok-subcommand-3.ensures c.in_ok-make_command.ensures in
-    IfOk-weaker c.subcommand-4.result _ _ (λ new adds. (with_sub _ _ new _ _ three adds c.in_ok-trial_command.ensures).reads) c.subcommand-4.ensures
+    let four = with_sub _ _ _ _ _ three c.in_ok-subcommand-4.ensures c.in_ok-trial_command.ensures in
+    IfOk-weaker c.subcommand-5.result _ _ (λ new adds. (with_sub _ _ new _ _ four adds c.in_ok-batch_command.ensures).reads) c.subcommand-5.ensures

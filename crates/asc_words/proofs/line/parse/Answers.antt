@@ -6,7 +6,7 @@ use Rattle.asc_words.specs.declared.line.Line.{Line}
 use Rattle.asc_words.specs.declared.line.Line.TheVariants.{Make, Save, Trial}
 use Rattle.asc_words.specs.declared.line.LineFault.{LineFault}
 use Rattle.asc_words.specs.Line.{IsWithin}
-use Rattle.asc_words.proofs.Lines.{found, met_make, met_one, met_run, met_save, met_trial, passed_up, refused_by, run_within, save_within, trial_within}
+use Rattle.asc_words.proofs.Lines.{batch_within, found, met_batch, met_make, met_one, met_run, met_save, met_trial, passed_up, refused_by, run_within, save_within, trial_within}
 use Rattle.asc_words.proofs.line.parse.Goals as goal
 
 -- the line of `asc save`
@@ -125,6 +125,35 @@ returns-in-trial-clause-within c =
     let met = met_trial _ _ c.subcommand.result c.unwrap.result c.unwrap.ensures c.subcommand.ensures.name c.subcommand.ensures.rows of c.in-trial.is in
     subst (λ (line : Line). IsWithin line) (λ i. Trial (sym c.number-n.ensures i) (sym c.workers_of-workers.ensures i).0 (sym c.workers_of-workers.ensures i).1) (trial_within _ met.values)
 
+pub batch_line-requires : goal.batch_line-requires
+batch_line-requires c =
+    let parse = c.in_ok-matches.ensures in
+    let of = found _ _ c.in_ok-matches.matches c.in_ok-asc_command.ensures parse.kinds parse.matches in
+    let met = met_batch _ _ c.subcommand.result c.unwrap.result c.unwrap.ensures c.subcommand.ensures.name c.subcommand.ensures.rows of c.in-batch.is in
+    met.values
+
+pub returns-in-batch-clause-line : goal.returns-in-batch-clause-line
+returns-in-batch-clause-line c =
+    let parse = c.in_ok-matches.ensures in
+    let of = found _ _ c.in_ok-matches.matches c.in_ok-asc_command.ensures parse.kinds parse.matches in
+    let met = met_batch _ _ c.subcommand.result c.unwrap.result c.unwrap.ensures c.subcommand.ensures.name c.subcommand.ensures.rows of c.in-batch.is in
+    met.line ∙ c.in_ok-batch_line-in-batch.ensures.line
+
+pub returns-in-batch-clause-within : goal.returns-in-batch-clause-within
+returns-in-batch-clause-within c =
+    let parse = c.in_ok-matches.ensures in
+    let of = found _ _ c.in_ok-matches.matches c.in_ok-asc_command.ensures parse.kinds parse.matches in
+    let met = met_batch _ _ c.subcommand.result c.unwrap.result c.unwrap.ensures c.subcommand.ensures.name c.subcommand.ensures.rows of c.in-batch.is in
+    batch_within _ met.values _ c.in_ok-batch_line-in-batch.ensures.line
+
+pub returns-in_err-batch_line-in-batch-clause-usage : goal.returns-in_err-batch_line-in-batch-clause-usage
+returns-in_err-batch_line-in-batch-clause-usage c = λ bad usage.
+    let parse = c.in_ok-matches.ensures in
+    let of = found _ _ c.in_ok-matches.matches c.in_ok-asc_command.ensures parse.kinds parse.matches in
+    let met = met_batch _ _ c.subcommand.result c.unwrap.result c.unwrap.ensures c.subcommand.ensures.name c.subcommand.ensures.rows of c.in-batch.is in
+    let passed = passed_up _ _ _ c.from_residual-in_err-batch_line-in-batch.ensures.1 usage in
+    met.line ∙ c.batch_line.ensures.usage bad (c.in_err-batch_line-in-batch.was ∙ ap (λ (fault : LineFault). Err fault) passed)
+
 pub unreachable-requires : goal.unreachable-requires
 unreachable-requires c =
     let parse = c.in_ok-matches.ensures in
@@ -134,5 +163,6 @@ unreachable-requires c =
       | inl run ↦ c.in_default.not-run run
       | inr (inl save) ↦ c.in_default.not-save save
       | inr (inr (inl make)) ↦ c.in_default.not-make make
-      | inr (inr (inr trial)) ↦ c.in_default.not-trial trial
+      | inr (inr (inr (inl trial))) ↦ c.in_default.not-trial trial
+      | inr (inr (inr (inr batch))) ↦ c.in_default.not-batch batch
     ]

@@ -1,35 +1,27 @@
-use Rattle.std.proofs.Common.{◌∙◌, ap, sym, arith}
+use Rattle.std.proofs.Common.{◌≡◌, ◌+◌, ◌<◌, ◌∙◌, Some, length, get_or, set, take, ap, sym, arith}
+use Rattle.std.proofs.lemmas.List.{length-set, take_more}
+use Rattle.std.proofs.lemmas.List.Edits.{map_over_more}
 use Rattle.asc_jobs.specs.Jobs.{Taker}
-use Rattle.asc_jobs.specs.Tally.{Counts, added, counts_of}
-use Rattle.asc_work.proofs.Posts.{is_popped, first_taken, next_taken, few_jobs, queue_at}
+use Rattle.asc_jobs.specs.Tally.{added, counts_of}
+use Rattle.asc_work.specs.Posts.{relieved}
+use Rattle.asc_work.specs.declared.post.Post.{Post}
+use Rattle.asc_work.proofs.Posts.{next_is, next_taken}
 use Rattle.asc_work.proofs.post.take_in.Goals as goal
 
-pub loop-post-init : goal.loop-post-init
-loop-post-init g c =
-    let queue = c.args.giver.queue in let all = c.args.posts.items in let left = c.pop.new.self.items in let q = c.in-Some.first in
-    let is = is_popped all left _ q c.pop.ensures.items c.in-Some.is in
-    (queue_at queue all all left q is c.requires.manned, first_taken queue all left q (counts_of c.tally-tally.result) is c.requires.manned c.tally-tally.ensures)
-
-pub join-requires : goal.join-requires
-join-requires g c =
-    let queue = c.args.giver.queue in let left = c.loop-post.posts.items in let rest = c.pop-in-loop-post.new.self.items in let q = c.in-Some-pop.post in
-    let is = is_popped left rest _ q c.pop-in-loop-post.ensures.items c.in-Some-pop.is in
-    queue_at queue left left rest q is c.loop-post.invariant.1.manned ∙ sym c.loop-post.invariant.0
-
-pub add-requires : goal.add-requires
-add-requires g c =
-    let queue = c.args.giver.queue in let all = c.args.posts.items in let left = c.loop-post.posts.items in let rest = c.pop-in-loop-post.new.self.items in let q = c.in-Some-pop.post in
-    let is = is_popped left rest _ q c.pop-in-loop-post.ensures.items c.in-Some-pop.is in
-    let few = few_jobs queue all left rest q c.loop-post.all.hand (counts_of c.loop-post.tally) is c.requires.few c.loop-post.invariant.1 in
-    let ran = ap (λ (d : Counts). d.ran) c.tally.ensures in
-    omega (arith, few, ran)
-
-pub loop-post-preserved : goal.loop-post-preserved
-loop-post-preserved g c =
-    let queue = c.args.giver.queue in let all = c.args.posts.items in let left = c.loop-post.posts.items in let rest = c.pop-in-loop-post.new.self.items in let q = c.in-Some-pop.post in
-    let is = is_popped left rest _ q c.pop-in-loop-post.ensures.items c.in-Some-pop.is in
-    let joined = c.join.ensures in (
-      ap (λ (t : Taker). t.queue) joined ∙ c.loop-post.invariant.0,
-      next_taken queue all left rest q c.loop-post.all.hand c.join.new.self.hand (counts_of c.loop-post.tally) (counts_of c.add.new.self) is c.loop-post.invariant.1
-          (ap (λ (t : Taker). t.hand) joined) (c.add.ensures ∙ ap (added (counts_of c.loop-post.tally)) c.tally.ensures),
-    )
+pub loop-i-preserved : goal.loop-i-preserved
+loop-i-preserved g c =
+    let old = c.args.posts.now in let posts = c.loop-i.posts in let i = c.loop-i.i in
+    let x : Post g.row.W.Denot g.row.H.Denot = c.index-posts-i.result in
+    let kept = length-set old 0 c.relieve-all.new.self in let test = c.loop-i-test.true in
+    let low : i < length old = omega (arith, kept, test) in
+    let was : get_or posts i x ≡ get_or old i x = ap (λ ps. get_or ps i x) c.loop-i.invariant.posts ∙ next_is (λ p. relieved p) old i x low in
+    let now : c.relieve-taker.new.self ≡ relieved x = c.relieve-taker.ensures.post ∙ ap (λ p. relieved p) (sym c.index-posts-i.is) in
+    let there : (get_or old i x).taker ≡ Some c.relieve-taker.result.0 = ap (λ (p : Post g.row.W.Denot g.row.H.Denot). p.taker) (sym was) ∙ c.relieve-taker.ensures.taker in
+    let tally = c.relieve-taker.ensures.tally ∙ ap (λ (p : Post g.row.W.Denot g.row.H.Denot). p.worker.tally) was in
+    let joined = c.join.ensures in record {
+      queue = ap (λ (t : Taker). t.queue) joined ∙ c.loop-i.invariant.queue;
+      posts = ap (λ p. set posts i p) now ∙ map_over_more (λ p. relieved p) old posts i x low c.loop-i.invariant.posts c.index-posts-i.is;
+      taken = next_taken c.args.giver.queue (take i old) (take (i + 1) old) (get_or old i x) c.relieve-taker.result.0 c.loop-i.all.hand c.join.new.self.hand (counts_of c.loop-i.tally)
+          (counts_of c.add.new.self) (take_more old i x low) c.loop-i.invariant.taken (c.requires.manned i x low) there (ap (λ (t : Taker). t.hand) joined)
+          (c.add.ensures ∙ ap (added (counts_of c.loop-i.tally)) tally);
+    }

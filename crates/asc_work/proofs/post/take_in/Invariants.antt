@@ -1,11 +1,12 @@
-use Rattle.std.proofs.Common.{◌≡◌, length}
+use Rattle.std.proofs.Common.{◌≡◌, ◌++◌, take, drop, map}
 use Rattle.asc_jobs.specs.Tally.{counts_of}
+use Rattle.asc_work.specs.Posts.{relieved}
 use Rattle.asc_work.proofs.Posts.{AreTaken}
 use Rattle.asc_work.proofs.post.take_in.Given as goal
 
-abbrev pub invariant-loop-post : goal.invariant-loop-post
-invariant-loop-post g l =
-    (l.all.queue ≡ l.giver.queue) × AreTaken l.giver.queue l.fn.posts.items l.posts.items l.all.hand (counts_of l.tally)
-
-abbrev pub decreases-loop-post : goal.decreases-loop-post
-decreases-loop-post g l = length l.posts.items
+abbrev pub invariant-loop-i : goal.invariant-loop-i
+invariant-loop-i g l = record {
+  queue : l.all.queue ≡ l.giver.queue;
+  posts : l.posts ≡ map (λ p. relieved p) (take l.i l.fn.posts) ++ drop l.i l.fn.posts;
+  taken : AreTaken (take l.i l.fn.posts) l.all.hand (counts_of l.tally);
+}

@@ -10,7 +10,7 @@ pub invariant_of-self : goal.invariant_of-self
 invariant_of-self g c =
     let i = c.self.inside in
     let number = c.args.number in
-    let old = live i.finder i.visits i.pusher i.seen (length i.workers.items) i.budget in
+    let old = live i.finder i.visits i.pusher i.seen (length i.workers.now.items) i.budget in
     let needless = subst (λ l. is_needless number l ≡ true) (sym c.self.view_is) c.requires.needless in
     let on = subst (λ l. is_guessing l.guessing ≡ true) (sym c.self.view_is) c.requires.guesses in
     let kept = (needless-is number old needless).1 in
@@ -26,5 +26,5 @@ invariant_of-self g c =
     ∙ ap (λ jobs. record i.pusher { left = i.pusher.left + length (if nat_lt (length i.pusher.giver.pushed) (2 ^ 60) then jobs_of last last jobs else []) })
     (sym (c.jobs.ensures.jobs ∙ ap (λ (v : LastVisits). v.jobs) c.list.ensures))
     ∙ sym (c.leave.ensures last last) in
-    subst IsLive (λ j. live i.finder (visits j) (pusher j) (untold j) (length i.workers.items) i.budget)
+    subst IsLive (λ j. live i.finder (visits j) (pusher j) (untold j) (length i.workers.now.items) i.budget)
     (IsLive-asked (left-alone number last old) i.finder i.budget refl (left-live number last old c.requires.number c.self.invariant on needless))

@@ -10,7 +10,7 @@ pub returns-in_default-clause-pushes : goal.returns-in_default-clause-pushes
 returns-in_default-clause-pushes g c =
     let i = c.self.inside in
     let number = c.args.number in
-    let l = live i.finder i.visits i.pusher i.seen (length i.workers.items) i.budget in
+    let l = live i.finder i.visits i.pusher i.seen (length i.workers.now.items) i.budget in
     let none : i.visits.prev ≡ None = sym (ap (λ (v : LastVisits). v.prev) c.plan.ensures) ∙ c.in_default.ensures in
     subst (λ l. Pushes (offers_at number l) (due_by number l.prev l.last l) l.pusher i.pusher) c.self.view_is
     (subst (λ prev. Pushes (offers_at number l) (due_by number prev l.last l) i.pusher i.pusher) (sym none) (Pushes-none (offers_at number l) i.pusher))

@@ -8,19 +8,19 @@ use Rattle.asc_live.proofs.live.LiveHelper.visit.Goals as goal
 pub invariant_of-self-2 : goal.invariant_of-self-2
 invariant_of-self-2 g c =
     let i = c.self-2.inside in
-    let new = live i.finder i.visits i.pusher c.seen_after-self-inside.result (length i.workers.items) i.budget in
+    let new = live i.finder i.visits i.pusher c.seen_after-self-inside.result (length i.workers.now.items) i.budget in
     visit-live c.args.number c.copied-pages.result c.args.state.now c.args.self.now new c.requires.number (search rules) (search rules)
 
 pub returns-clause-plan : goal.returns-clause-plan
 returns-clause-plan g c =
     let i = c.self-2.inside in
-    let new = live i.finder i.visits i.pusher c.seen_after-self-inside.result (length i.workers.items) i.budget in
+    let new = live i.finder i.visits i.pusher c.seen_after-self-inside.result (length i.workers.now.items) i.budget in
     visit-plans c.args.number c.copied-pages.result c.args.state.now c.args.self.now new (search rules) (search rules)
 
 pub returns-clause-seen : goal.returns-clause-seen
 returns-clause-seen g c =
     let i = c.self-2.inside in
-    let new = live i.finder i.visits i.pusher c.seen_after-self-inside.result (length i.workers.items) i.budget in
+    let new = live i.finder i.visits i.pusher c.seen_after-self-inside.result (length i.workers.now.items) i.budget in
     visit-sees c.args.number c.copied-pages.result c.args.state.now c.args.self.now new (search rules) (search rules)
 
 pub make_or_pass-requires-clause-pages : goal.make_or_pass-requires-clause-pages

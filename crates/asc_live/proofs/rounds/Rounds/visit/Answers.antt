@@ -1,5 +1,5 @@
 -- Each job that the lanes have run is settled in its turn, and all of them make the visit.
-use Rattle.std.proofs.Common.{◌≡◌, ◌∙◌, ◌<◌, ◌≤◌, arith, length, sym, ap, subst}
+use Rattle.std.proofs.Common.{◌∙◌, ◌<◌, ◌≤◌, arith, length, ap, subst}
 use Rattle.asc_run.specs.VisitedBy.{IsVisit}
 use Rattle.asc_live.specs.Rounds.{Rounds, told_by}
 use Rattle.asc_work.specs.Lanes.{Lanes}

@@ -1,7 +1,7 @@
-use Rattle.std.proofs.Common.{ap, ◌∙◌}
-use Rattle.asc_work.specs.Posts.{Team}
+use Rattle.asc_work.proofs.Posts.{team_relieved}
 use Rattle.asc_work.proofs.team.Team.take_in.Goals as goal
 
-pub take_in-requires-clause-manned : goal.take_in-requires-clause-manned
-take_in-requires-clause-manned g c =
-    c.self.invariant.manned c.args.giver.queue (ap (λ (t : Team g.row.W.Denot g.row.H.Denot). t.queue) c.self.view_is ∙ c.requires.queue)
+pub invariant_of-self : goal.invariant_of-self
+invariant_of-self g c =
+    (team_relieved c.self.inside.posts.len c.as_mut_slice.result.now c.self.inside.posts.items c.take_in.new.posts c.as_mut_slice.ensures.value c.as_mut_slice.ensures.len
+    c.take_in.ensures.posts c.self.invariant).0
