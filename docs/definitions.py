@@ -5,8 +5,8 @@
     python3 docs/definitions.py --check    says whether the list is what this script would write
 
 The crates are in the order of crates.txt, and the files of one in that of its specs/Lib.antt. Of a file are told the first
-sentence of its first comment, without a standard in brackets, and the names that contracts in the code cite, without words
-of private contracts.
+sentence of its first comment, without a standard in brackets, and the first six names that contracts in the code cite,
+without words of private contracts.
 """
 
 import re
@@ -23,6 +23,7 @@ DEFINITION = re.compile(r"^(?:(?:abbrev |unfoldable )?pub (?!mod |use )(?:record
 # A standard in brackets: the table of the document has it.
 STANDARD = re.compile(r" \([^()]*(?:manual|ABI|ASPLOS)[^()]*\)")
 PRIVATE = re.compile(r"[Ww]ords of private contracts")
+MOST_NAMES = 6
 CITED = re.compile(r"ghost use Rattle\.(\w+)\.specs\.(\w+)(?:\.\{(.*?)\}| as (\w+));", re.DOTALL)
 
 
@@ -67,7 +68,8 @@ def row(path, names_cited):
     if not DEFINITION.search(text) or "private contracts" in head(text):
         return ""
     link = f"- [{path.stem}](../{path.relative_to(ROOT).as_posix()})"
-    return f"{link}: {head(text)} {', '.join(f'`{name}`' for name in names)}".rstrip() + "\n"
+    told = [f"`{name}`" for name in names[:MOST_NAMES]] + ["..."] * (len(names) > MOST_NAMES)
+    return f"{link}: {head(text)} {', '.join(told)}".rstrip() + "\n"
 
 
 def listing():
