@@ -1,8 +1,9 @@
 -- Readers that were lent, and the writers that they meet.
 use Rattle.std.proofs.Common.{ℕ, ◌<◌, List, [], ◌∷◌, length, get_or, ◌∙◌, arith}
 use Rattle.asc_cache.proofs.Fronts.{prefix_trans}
-use Rattle.asc_cache.specs.Cache.{AreLater, IsLater, IsOwnReader, ShardReader, ShardWriter}
+use Rattle.asc_cache.specs.Cache.{AreLater, IsLater, ShardReader, ShardWriter}
 use Rattle.asc_live.specs.Crew.{HasMet}
+use Rattle.asc_live.proofs.Opening.{stays_own}
 
 -- readers that have learnt twice have learnt
 pub later_twice : (one two three : List ShardReader) → AreLater one two → AreLater two three → AreLater one three
@@ -18,9 +19,11 @@ later_twice one two three first then = record {
 }
 
 -- a reader that has met its writer has met it still, once the readers have learnt more
-pub stays_met : (old new : List ShardReader) → AreLater old new → (w : ShardWriter) → IsOwnReader w old → HasMet old w → HasMet new w
-stays_met old new later w own met =
-    λ d. prefix_trans w.stored (get_or old w.index d).seen (get_or new w.index d).seen (met d) (later.each w.index d own.there).seen
+pub stays_met : (old new : List ShardReader) → AreLater old new → (w : ShardWriter) → HasMet old w → HasMet new w
+stays_met old new later w met = record {
+  own = stays_own old new later w met.own;
+  seen = λ d. prefix_trans w.stored (get_or old w.index d).seen (get_or new w.index d).seen (met.seen d) (later.each w.index d met.own.there).seen;
+}
 
 -- a list that is so long has an element
 pub one_of : {X : Type 0} (xs : List X) (i : ℕ) → i < length xs → X

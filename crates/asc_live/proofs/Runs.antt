@@ -1,5 +1,6 @@
 -- The workers of a crew before and after a run.
 use Rattle.std.proofs.Common.{◌≡◌, ℕ, ◌<◌, List, [], ◌∷◌, All, Option, Some, None, length, get_or, refl, sym, ap, subst, ◌∙◌, arith, rules}
+use Rattle.std.proofs.lemmas.List.{get_or-map, length-map}
 use Rattle.std.proofs.lemmas.List.Elements.{All-nil, All-cons, All-head, All-tail}
 use Rattle.asc_model.specs.Shape.{Shape}
 use Rattle.asc_find.specs.declared.guessing.Guessing.{Guessing}
@@ -12,10 +13,11 @@ use Rattle.asc_work.specs.Halting.{Flag}
 use Rattle.asc_work.specs.Posts.{HasServed, HaveWorked, IsRehalted, IsTakenIn, Team}
 use Rattle.asc_work.specs.Worker.{Worker}
 use Rattle.asc_work.specs.declared.post.Post.{Post}
-use Rattle.asc_live.specs.Crew.{AreSameWorkers, HasBoundsOf, IsForRun, IsOpenCrew, IsSameWorker, IsTeamOf, IsWriterOf, WentBeside, readers_in, writers_of}
+use Rattle.asc_live.specs.Crew.{AreOfSameShards, AreSameWorkers, HasBoundsOf, IsForRun, IsOpenCrew, IsSameWorker, IsTeamOf, IsWriterOf, WentBeside, readers_in, writers_of}
 use Rattle.asc_live.specs.declared.crew.Crew.{Crew}
 use Rattle.asc_live.specs.declared.crew.Worked.{Worked}
 use Rattle.asc_live.specs.declared.open_crew.RunParts.{RunParts}
+use Rattle.asc_live.proofs.Meeting.{one_of}
 use Rattle.asc_live.proofs.Opening.{stays_writer}
 
 -- ---- one worker
@@ -134,6 +136,19 @@ all_writers_of P [] h = All-nil P
 all_writers_of P (p ∷ posts) h =
     All-cons P p.worker.writer (writers_of posts) (All-head (λ (p : Post ShardWriter Flag). P p.worker.writer) p posts h)
     (all_writers_of P posts (All-tail (λ (p : Post ShardWriter Flag). P p.worker.writer) p posts h))
+
+-- the writers of the same workers are of the same shards
+pub same_shards : (old new : List (Post ShardWriter Flag)) → AreSameWorkers old new → AreOfSameShards (writers_of old) (writers_of new)
+same_shards old new same =
+    let writer : Post ShardWriter Flag → ShardWriter = λ p. p.worker.writer in record {
+      count = length-map new writer ∙ same.count ∙ sym (length-map old writer);
+      each = λ i d l.
+          let within : i < length old = omega (arith, l, length-map old writer) in
+          let p : Post ShardWriter Flag = one_of old i within in
+          ap id_of (get_or-map writer new i p d (omega (arith, within, same.count)))
+          ∙ (same.each i p within).shard
+          ∙ sym (ap id_of (get_or-map writer old i p d within));
+    }
 
 -- a crew is one still after a run
 pub crew_after : (shape : Shape) (guessing : Guessing) (crew : Crew) (readers : Option ShardReaders) (now : ShardReaders) (old new : Team ShardWriter Flag) (many : ℕ) (runs left : List RunParts)

@@ -72,12 +72,15 @@ pub record OpenCrew : Type 0 where
   pub readers : List ShardReader
   pub writers : List ShardWriter
 
--- it is as it was asked for
+-- it is as it was asked for, with a shard for each worker
 pub record IsAskedFor (shape : Shape) (guessing : Guessing) (crew : Crew) (runs : ℕ) (c : OpenCrew) : Type 0 where
   pub shape_is : c.shape ≡ shape
   pub guessing_is : c.guessing ≡ guessing
   pub crew_is : c.crew ≡ crew
   pub runs_is : c.runs ≡ runs
+  pub reader_count : length c.readers ≡ crew.workers
+  pub writer_count : length c.writers ≡ crew.workers
+  pub own : All (λ w. IsOwnReader w c.readers) c.writers
 
 -- The reader of shard 0 has learnt insertions that leave what these entries leave, added in their order.
 pub record HasLearnt (entries : List Entry) (readers : List ShardReader) : Type 0 where
@@ -86,9 +89,15 @@ pub record HasLearnt (entries : List Entry) (readers : List ShardReader) : Type 
   pub capacity : (d : ShardReader) → (slice_index_or readers 0 d).capacity ≡ run_capacity
   pub seen : (d : ShardReader) → IsPrefix learnt (slice_index_or readers 0 d).seen
 
--- the reader at a writer's number has seen all that the writer has stored
-abbrev pub HasMet : List ShardReader → ShardWriter → Type 0
-HasMet readers w = (d : ShardReader) → IsPrefix w.stored (slice_index_or readers w.index d).seen
+-- the reader at a writer's number is its shard's, and has seen all that the writer has stored
+pub record HasMet (readers : List ShardReader) (w : ShardWriter) : Type 0 where
+  pub own : IsOwnReader w readers
+  pub seen : (d : ShardReader) → IsPrefix w.stored (slice_index_or readers w.index d).seen
+
+-- each of these writers writes into the shard that it had
+pub record AreOfSameShards (old new : List ShardWriter) : Type 0 where
+  pub count : length new ≡ length old
+  pub each : (i : ℕ) (d : ShardWriter) → i < length old → id_of (slice_index_or new i d) ≡ id_of (slice_index_or old i d)
 
 -- ---- words of private contracts
 

@@ -3,7 +3,7 @@ ghost use Rattle.std.specs.Arc.{arc_value};
 ghost use Rattle.asc_calls.specs.World.{faults, outside};
 ghost use Rattle.asc_cache.specs.Cache.{AreLater, IsOwnReader, ShardReader};
 ghost use Rattle.asc_jobs.specs.Tally.{no_jobs};
-ghost use Rattle.asc_live.specs.Crew.{HasBoundsOf, HasLearnt, HasMet, IsAskedFor, IsForRun, IsTeamOf, IsWriterOf, WentBeside};
+ghost use Rattle.asc_live.specs.Crew.{AreOfSameShards, HasBoundsOf, HasLearnt, HasMet, IsAskedFor, IsForRun, IsTeamOf, IsWriterOf, WentBeside};
 
 use crate::crew::{Crew, Worked, go_lent};
 use crate::shards::open_shards;
@@ -165,8 +165,9 @@ impl<R: Wait + Drop> OpenCrew<R> {
           readers = self.new.readers;
           writers = self.new.writers;
         } }
-        ensures readers { length self.new.readers ≡ length self.old.readers }
-        ensures writers { length self.new.writers ≡ length self.old.writers }
+        // What was seen in a run before is seen still: the readers are those of the same shards.
+        ensures readers { AreLater self.old.readers self.new.readers }
+        ensures writers { AreOfSameShards self.old.writers self.new.writers }
         ensures met { All (HasMet self.new.readers) self.new.writers }
     {
         let Some(mut readers) = self.readers.take() else {

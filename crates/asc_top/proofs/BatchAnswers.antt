@@ -1,5 +1,5 @@
 -- What holds of the answer to a batch.
-use Rattle.std.proofs.Common.{◌≡◌, ◌∙◌, ◌⊎◌, ℕ, ◌+◌, ◌<◌, ◌≤◌, Bool, true, false, nat_lt, Option, Some, None, List, [], ◌∷◌, length, MatchBool, Ok, Err, Result, refl, sym, ap, subst, arith, inl, inr}
+use Rattle.std.proofs.Common.{◌≡◌, ◌≢◌, ◌∙◌, ◌⊎◌, ℕ, ◌+◌, ◌<◌, ◌≤◌, Bool, true, false, nat_lt, Option, Some, None, List, [], ◌∷◌, length, MatchBool, Ok, Err, Result, refl, sym, ap, subst, arith, inl, inr}
 use Rattle.std.specs.Prelude.{if◌then◌else◌}
 use Rattle.std.proofs.lemmas.Bool.Decides.{nat_tests}
 use Rattle.std.proofs.lemmas.List.{append-nil}
@@ -19,7 +19,7 @@ use Rattle.asc_words.specs.declared.answer.Answer.{Answer}
 use Rattle.asc_words.specs.declared.answer.Answer.TheVariants as answers
 use Rattle.asc_words.specs.declared.answer.BatchRun.{BatchRun}
 use Rattle.asc_top.specs.Program.{Gives, IsStopped, ProgramResult, image_alone, load_of, refusal}
-use Rattle.asc_top.specs.Kinds.{BadFile, Completes, IsRefusal, device_of_answer, device_of_kind, kind_of}
+use Rattle.asc_top.specs.Kinds.{BadFile, BadWords, Completes, IsRefusal, device_of_answer, device_of_kind, kind_of}
 use Rattle.asc_top.specs.Batch.{AreBatchFiles, AreInputs, BatchFiles, MakesRuns, batch_meaning, first_long, input_names, result_of_batch, result_of_inputs}
 use Rattle.asc_top.specs.BatchAnswer.{AsksForBatch, AsksSoOften, CutsRun, IsBatchAnswer, IsBatchFor, IsBatchReported, StopsBehind, batch_texts}
 use Rattle.asc_top.specs.Answered.{Devices, Headline, IsHeld, devices}
@@ -231,7 +231,9 @@ module _ (line : BatchLine) (read : BatchFiles) (files : Option (List File)) (as
         bad = λ is. absurd (cc);
         ran = λ _. (read, r.held, record { within = r.within; image = r.image; loads = r.loads; short = r.short; ends = inl (record { answer = refl; made = makes }) });
         refused = λ is. absurd (unrefused is);
+        usage = λ is. cc;
         left = refl;
+        input = refl;
         store_fault = record { rose = λ is. absurd (cc); stays = λ _. r.no_fault };
         faults = makes.faults;
         files = r.stay;
@@ -292,7 +294,9 @@ module _ (line : BatchLine) (read : BatchFiles) (files : Option (List File)) (as
           },
         );
         refused = λ is. let no = no_device_refused answered is in absurd (cc (no, device));
+        usage = λ is. let no : device_of_answer answered ≡ None = ap device_of_kind is in cc (no, device);
         left = refl;
+        input = refl;
         store_fault = record { rose = λ is. let no : device_of_answer answered ≡ None = ap device_of_answer is in absurd (cc (no, device)); stays = λ _. r.no_fault };
         faults = subst (λ d. BlamesOnly d before.guest.faults after.guest.faults) (sym device) blames;
         files = r.stay;
@@ -333,7 +337,9 @@ module _ (line : BatchLine) (read : BatchFiles) (files : Option (List File)) (as
             },
           );
           refused = λ is. absurd (unrefused is);
+          usage = λ is. cc;
           left = refl;
+          input = refl;
           store_fault = record { rose = λ is. absurd (cc); stays = λ _. r.no_fault };
           faults = makes.faults;
           files = r.stay;
@@ -363,7 +369,9 @@ module _ (line : BatchLine) (read : BatchFiles) (files : Option (List File)) (as
       bad = λ is. absurd (cc);
       ran = λ unrefused. absurd (unrefused (inr (inr refl)));
       refused = λ _. (refl, ap (beside_input left input_faults) same);
+      usage = λ is. cc;
       left = refl;
+      input = refl;
       store_fault = record { rose = λ is. absurd (cc); stays = λ _. r.no_fault };
       faults = ap (λ (o : Outside). (beside_input left input_faults o).faults) same;
       files = r.stay;
@@ -385,6 +393,7 @@ module _ (line : BatchLine) (answered : Answer) (files : Option (List File)) (as
   -- what is left to be known of the answer
   record Refusing : Type 0 where
     refusal_is : IsRefusal answered
+    usage : kind_of answered ≢ BadWords
     headline : Headline (Ok (lines.Batch line)) before2 after2 answered
     bad : kind_of answered ≡ BadFile → (read : BatchFiles) × AreBatchFiles (MayHold files) line read × (batch_meaning line read ≡ refusal answered)
 
@@ -394,16 +403,19 @@ module _ (line : BatchLine) (answered : Answer) (files : Option (List File)) (as
       by : ((answered ≡ answers.StoreFault) ⊎ (answered ≡ answers.Memory)) ⊎ ((read : BatchFiles) × AreBatchFiles (MayHold files) line read × (kind_of answered ≡ BadFile) × (batch_meaning line read ≡ refusal answered)) → Refusing
       by (inl (inl is)) = record {
         refusal_is = inr (inr (ap kind_of is));
+        usage = λ kind. let other = ap kind_of is in cc (kind, other);
         headline = λ completes. absurd (uncompleted answered (ap kind_of is) completes);
         bad = λ kind. let other = ap kind_of is in absurd (cc (kind, other));
       }
       by (inl (inr is)) = record {
         refusal_is = inr (inr (ap kind_of is));
+        usage = λ kind. let other = ap kind_of is in cc (kind, other);
         headline = λ completes. absurd (uncompleted answered (ap kind_of is) completes);
         bad = λ kind. let other = ap kind_of is in absurd (cc (kind, other));
       }
       by (inr (read, held, kind, means)) = record {
         refusal_is = inl kind;
+        usage = λ words. cc (kind, words);
         headline = headline_by line before2 after2 read answered 0 held (subst (λ (x : ProgramResult). Gives guest guest 0 answered x) (sym means) (gives_refusal answered guest));
         bad = λ _. (read, held, means);
       }
@@ -420,7 +432,9 @@ module _ (line : BatchLine) (answered : Answer) (files : Option (List File)) (as
           bad = f.bad;
           ran = λ unrefused. absurd (unrefused f.refusal_is);
           refused = λ _. (refl, refl);
+          usage = f.usage;
           left = refl;
+          input = refl;
           store_fault = r.store_fault;
           faults = subst (λ d. BlamesOnly d guest.faults guest.faults) (sym none) refl;
           files = r.stay;

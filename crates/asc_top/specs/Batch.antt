@@ -128,8 +128,8 @@ AreRunsTold line image number (input ∷ inputs) (run ∷ runs) executed =
 AreRunsTold line image number [] (run ∷ runs) executed = ⊥
 AreRunsTold line image number (input ∷ inputs) [] executed = ⊥
 
--- Without workers, and as long as memory is never wanting, the numbers of each run are those of a serial run, by its
--- definition, from the content on that the run before left. What the last one leaves has P.
+-- As long as memory is never wanting, the numbers of each run without workers are those of a serial run, by its definition.
+-- It goes from the content on that the run before left. What the last one leaves has P.
 abbrev pub AreSerialRuns : RunLine → loader.Image → (content : List Entry) → (inputs : List (List ℕ)) → List BatchRun
     → (P : List Entry → Type 0) → Type 0
 AreSerialRuns line image content (input ∷ inputs) (run ∷ runs) P =

@@ -1,5 +1,5 @@
 -- All that holds of the answer to a batch.
-use Rattle.std.specs.Prelude.{◌≡◌, ◌⊎◌, ℕ, ◌+◌, ◌≤◌, List, [], ◌∷◌, ◌++◌, length, Option, Some, None, Ok}
+use Rattle.std.specs.Prelude.{◌≡◌, ◌≢◌, ◌⊎◌, ℕ, ◌+◌, ◌≤◌, List, [], ◌∷◌, ◌++◌, length, Option, Some, None, Ok}
 use Rattle.asc_outside.specs.Outside.{AsksFor, Blames, MayHold, PutsPart, given_after, one_more}
 use Rattle.asc_elf.specs.Image as loader
 use Rattle.asc_calls.specs.GuestCall.{Device}
@@ -14,7 +14,7 @@ use Rattle.asc_words.specs.declared.answer.Answer.{Answer}
 use Rattle.asc_words.specs.declared.answer.Answer.TheVariants as answers
 use Rattle.asc_words.specs.declared.answer.BatchRun.{BatchRun}
 use Rattle.asc_top.specs.Program.{IsStopped, image_alone, load_of, refusal}
-use Rattle.asc_top.specs.Kinds.{BadFile, IsRefusal, device_of_answer, kind_of}
+use Rattle.asc_top.specs.Kinds.{BadFile, BadWords, IsRefusal, device_of_answer, kind_of}
 use Rattle.asc_top.specs.Batch.{AreBatchFiles, BatchFiles, MakesRuns, batch_meaning, first_long}
 use Rattle.asc_top.specs.Answered.{Devices, Headline}
 use Rattle.asc_top.specs.Reported.{IsReported, Report, report_with}
@@ -101,8 +101,11 @@ pub record IsBatchFor (line : BatchLine) (old new : Devices) (told : List BatchR
       → (files : BatchFiles) × AreBatchFiles (MayHold old.files) line files × RunsBatch line files told old.guest new.guest answered
   -- Else nothing was run, taken, put or counted.
   pub refused : IsRefusal answered → (told ≡ []) × (new.guest ≡ old.guest)
+  -- The words are good.
+  pub usage : kind_of answered ≢ BadWords
   -- The input of the program is no input of a batch.
   pub left : new.guest.left ≡ old.guest.left
+  pub input : new.guest.faults.input ≡ old.guest.faults.input
   -- StoreFault: the store failed, and once. Else it did not.
   pub store_fault : Blames (answered ≡ answers.StoreFault) old.store_faults new.store_faults
   -- WriteFault and ErrFault: that device failed, and once. Every other did not.

@@ -79,8 +79,8 @@ pub record MakesRun (line : RunLine) (image : loader.Image) (number : ℕ) (inpu
   pub steps : new.steps ≡ old.steps + executed
   pub faults : new.faults ≡ old.faults
 
--- Its numbers, where they are told and memory was not wanting, are those of a serial run from the content on that the runs
--- before have left, and it left another.
+-- Its numbers, where they are told and memory was not wanting, are those of a serial run. That goes from the content on that
+-- the runs before have left, and leaves another.
 abbrev pub IsSerialFrom : {R : Type 0} → RunLine → loader.Image → (input : List ℕ) → BatchRun → (before after : Runner R)
     → Type 0
 IsSerialFrom line image input run before after = (content : List Entry) → Keeps line image.start.shape content before

@@ -31,8 +31,8 @@ use std::sync::Wait;
 use std::sync::ledger::Ledger;
 use std::thread::Threads;
 
-/// Reads the files that a batch names, runs the image over each input in turn, and puts the lines of each run to report
-/// once it has ended. All memory that the runs need is taken before the first, but for states and entries that are kept.
+/// Reads the files that a batch names, and runs the image over each input in turn. Once a run has ended, its lines are put
+/// to report. All memory that the runs need is taken before the first, but for states and entries that are kept.
 pub(crate) fn batch<
     T: Threads + Wait + Sync + Copy + Drop + Send,
     F: Store,

@@ -42,7 +42,7 @@ pub(crate) fn read_batch<F: Store>(
     let run = &line.run;
     let image = file_of(alloc, &run.image, Answer::TooLong, store)?;
     match read(&image, 1024 * run.memory, run.version) {
-        // That its state has a good shape.
+        // This tells that its state has a good shape.
         Ok(loaded) => {
             let _ = loaded.shape();
         }

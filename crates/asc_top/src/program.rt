@@ -39,8 +39,9 @@ use std::thread::Threads;
 ///
 /// 1. The words are wrong.
 /// 2. The store fails at the image, or the image is too long or none.
-/// 3. The store fails at the file of saved entries, or that is refused.
-/// 4. The run has ended, or the text was written.
+/// 3. The store fails at the file of saved entries, or that is refused. Or it fails at an input of a batch, or that is too
+///    long.
+/// 4. The run has ended, or all runs, or the text was written.
 ///
 /// Where report fails, the answer is ReportFault in place of that one.
 pub fn top<

@@ -1,4 +1,5 @@
 use Rattle.std.proofs.Common.{◌≡◌, ℕ, ◌<◌, length, get_or, sym, ap, subst, ◌∙◌, below_more, arith}
+use mathlib.Core.List.{IsPrefix}
 use Rattle.asc_cache.specs.Cache.{IsOwnReader, ShardWriter}
 use Rattle.asc_work.specs.Halting.{Flag}
 use Rattle.asc_work.specs.Worker.{Worker}
@@ -26,7 +27,11 @@ loop-i-preserved g c =
       later = later_twice first old new c.loop-i.invariant.later c.meet.ensures.later;
       met =
           below_more P i
-          (λ k h d. let w = (get_or posts k d).worker.writer in
-          stays_met old new c.meet.ensures.later w (stays_own first old c.loop-i.invariant.later w (c.requires k d (omega (arith, h, l)))) (c.loop-i.invariant.met k h d))
-          (λ d. subst (HasMet new) (c.writer.ensures ∙ ap (λ (w : Worker ShardWriter Flag). w.writer) (c.worker.ensures d)) c.meet.ensures.seen);
+          (λ k h d. stays_met old new c.meet.ensures.later (get_or posts k d).worker.writer (c.loop-i.invariant.met k h d))
+          (λ d.
+          let w = (get_or posts i d).worker.writer in
+          let here : c.writer.result.now ≡ w = c.writer.ensures ∙ ap (λ (w : Worker ShardWriter Flag). w.writer) (c.worker.ensures d) in record {
+            own = stays_own first new (later_twice first old new c.loop-i.invariant.later c.meet.ensures.later) w (c.requires i d l);
+            seen = λ e. subst (λ w. IsPrefix w.stored (get_or new w.index e).seen) here (c.meet.ensures.seen e);
+          });
     }

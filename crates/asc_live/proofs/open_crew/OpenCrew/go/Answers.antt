@@ -1,12 +1,12 @@
 -- The parts of a run are popped, and the crew is one still after it.
 use Rattle.std.proofs.Common.{◌≡◌, ◌≤◌, List, Some, sym, ap, subst, ◌∙◌}
 use Rattle.asc_find.specs.declared.guessing.Guessing.{Guessing}
-use Rattle.asc_cache.specs.Cache.{AreLater, ShardReader, ShardReaders}
+use Rattle.asc_cache.specs.Cache.{AreLater, ShardReader, ShardReaders, ShardWriter}
 use Rattle.asc_run.specs.LastVisits.{LastVisits}
 use Rattle.asc_work.proofs.Posts.{all_popped, is_popped}
-use Rattle.asc_live.specs.Crew.{HasMet, IsForRun, OpenCrew, readers_in}
+use Rattle.asc_live.specs.Crew.{AreOfSameShards, HasMet, IsForRun, OpenCrew, readers_in, writers_of}
 use Rattle.asc_live.proofs.Meeting.{later_twice}
-use Rattle.asc_live.proofs.Runs.{all_writers_of, crew_after, went_as}
+use Rattle.asc_live.proofs.Runs.{all_writers_of, crew_after, same_shards, went_as}
 use Rattle.asc_live.proofs.open_crew.OpenCrew.go.Goals as goal
 
 pub go_lent-readers-requires-clause-ahead : goal.go_lent-readers-requires-clause-ahead
@@ -42,6 +42,22 @@ returns-clause-went g c =
     went_as part.visits.guessing c.args.self.now.guessing i.crew c.args.self.now.crew
     (ap (λ (v : LastVisits). v.guessing) popped.1.visits ∙ ap (λ (c : OpenCrew). c.guessing) c.self.view_is)
     (ap (λ (c : OpenCrew). c.crew) c.self.view_is) c.go_lent-readers.ensures.went
+
+pub returns-clause-readers : goal.returns-clause-readers
+returns-clause-readers g c =
+    let i = c.self.inside in
+    let lent = c.go_lent-readers.result.1.readers in let now = c.meet_all.new.readers in
+    let there : i.readers ≡ Some c.in-Some.readers = sym c.take.ensures.value ∙ c.in-Some.is in
+    let same : c.begin.new.self.readers ≡ readers_in i.readers = ap (λ (r : ShardReaders). r.readers) c.begin.ensures ∙ sym (ap readers_in there) in
+    let later : AreLater (readers_in i.readers) now.readers =
+    later_twice (readers_in i.readers) lent now.readers (subst (λ (xs : List ShardReader). AreLater xs lent) same c.go_lent-readers.ensures.readers) c.meet_all.ensures.later in
+    subst (λ (xs : List ShardReader). AreLater xs now.readers) (ap (λ (c : OpenCrew). c.readers) c.self.view_is) later
+
+pub returns-clause-writers : goal.returns-clause-writers
+returns-clause-writers g c =
+    let i = c.self.inside in
+    subst (λ (xs : List ShardWriter). AreOfSameShards xs (writers_of c.go_lent-readers.new.team.posts)) (ap (λ (c : OpenCrew). c.writers) c.self.view_is)
+    (same_shards i.team.posts c.go_lent-readers.new.team.posts c.go_lent-readers.ensures.team)
 
 pub returns-clause-met : goal.returns-clause-met
 returns-clause-met g c = all_writers_of (HasMet c.meet_all.new.readers.readers) c.go_lent-readers.new.team.posts c.meet_all.ensures.met
