@@ -17,9 +17,7 @@ How many steps a program does is told by asc: in a copy of the image the call th
 EBREAK, and the fault there has the count.
 """
 
-import hashlib
 import os
-import random
 import re
 import shutil
 import struct
@@ -37,24 +35,11 @@ EBREAK = 0x00100073
 END = (0x05D00893, 0x00000073)
 
 
-def numbers(count):
-    draw = random.Random(1)
-    return b"".join(b"%d\n" % draw.randrange(-2**31, 2**31) for _ in range(count))
-
-
-def text(size):
-    """Lines of words, some of them long."""
-    draw = random.Random(2)
-    digits = (hashlib.sha256(b"%d" % k).hexdigest().encode() for k in range(size // 8))
-    words = b" ".join(word[:draw.randrange(1, 15)] for word in digits)
-    return re.sub(rb"(.{60}\S*) ", rb"\1\n", words)[:size]
-
-
 # Each program with its input, and the options that asc wants for it.
 CASES = {
-    "word_count": (lambda: text(8_000_000), []),
-    "quicksort": (lambda: numbers(200_000), ["--memory", "4096"]),
-    "sha256": (lambda: text(1_000_000), []),
+    "word_count": (lambda: harness.text(8_000_000), []),
+    "quicksort": (lambda: harness.numbers(200_000), ["--memory", "4096"]),
+    "sha256": (lambda: harness.text(1_000_000), []),
     "matrix": (lambda: b"256\n", []),
     "collatz": (lambda: b"100000\n", []),
     "ising": (lambda: b"8000 32 1\n", ["--memory", "16384"]),

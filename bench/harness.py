@@ -3,8 +3,10 @@
 A script sets sys.dont_write_bytecode before it imports this, so that no compiled file is left beside it."""
 
 import argparse
+import hashlib
 import operator
 import os
+import random
 import re
 import resource
 import shutil
@@ -54,6 +56,21 @@ def parser_of(text):
     parser = argparse.ArgumentParser(description=text, formatter_class=argparse.RawDescriptionHelpFormatter)
     parser.add_argument("--program", default=ASC, help="the built asc")
     return parser
+
+
+# ---- inputs
+
+def numbers(count):
+    draw = random.Random(1)
+    return b"".join(b"%d\n" % draw.randrange(-2**31, 2**31) for _ in range(count))
+
+
+def text(size):
+    """Lines of words, some of them long."""
+    draw = random.Random(2)
+    digits = (hashlib.sha256(b"%d" % k).hexdigest().encode() for k in range(size // 8))
+    words = b" ".join(word[:draw.randrange(1, 15)] for word in digits)
+    return re.sub(rb"(.{60}\S*) ", rb"\1\n", words)[:size]
 
 
 # ---- programs

@@ -8,9 +8,10 @@ PROGRAM is the built `asc`, crates/asc_cli/out/asc_cli where it is not given. `c
 report that differs from that without workers ends the script.
 
 It prints seconds by the clock, the least of five, how many times as fast a run in rounds is, and its processor's seconds
-beside those without workers: a lane that waited busily would raise these. Behind that stands how many times as fast the
-first round is, which has a job for each visit ahead: what a run takes that ends with its second visit, less one without
-guesses.
+beside those without workers: a lane that waited busily would raise these.
+
+Then it prints how many times as fast the first round is, which has a job for each visit ahead: what a run takes that ends
+with its second visit, less one without guesses. By `--laps 4` and `--laps 16` these jobs last longer.
 
 With --count it prints the processor's instructions of `collatz`, as `valgrind --tool=callgrind` counts them, and how many
 more a run in rounds takes for each guess.
@@ -43,26 +44,41 @@ def in_rounds(words, workers):
 
 def second_visit(words, text):
     """How many steps a run has to do at least, so that it has a second visit."""
-    low, high = 0, 2**40
+    def has_two(steps):
+        run = harness.well([*words, "--guess", "none", "--steps", steps], ends=(0, 75), input=text)
+        return harness.numbers_of(run)["asked"] >= 2
+
+    low, high = 0, 2**10
+    while not has_two(high):
+        low, high = high + 1, 2 * high
     while low < high:
         middle = (low + high) // 2
-        run = harness.well([*words, "--guess", "none", "--steps", middle], ends=(0, 75), input=text)
-        low, high = (low, middle) if harness.numbers_of(run)["asked"] >= 2 else (middle + 1, high)
+        low, high = (low, middle) if has_two(middle) else (middle + 1, high)
     return low
 
 
 def timed(words, guess, text):
-    """The row of a run, and of its first round."""
-    limited = [*words, "--steps", second_visit(words, text)]
-    plain = run_of([*limited, "--guess", "none"], text).seconds
-    words, limited = [*words, "--guess", guess], [*limited, "--guess", guess]
-    alone, first = run_of(words, text), run_of(limited, text)
-    whole, rounds = f"{alone.seconds:8.3f} s", f"{1000 * (first.seconds - plain):8.1f} ms"
+    """The row of a run."""
+    words = [*words, "--guess", guess]
+    alone = run_of(words, text)
+    row = f"{alone.seconds:8.3f} s"
     for workers in (1, 2, 3):
         run = run_of(in_rounds(words, workers), text, alone)
-        whole += f"{alone.seconds / run.seconds:8.2f}, {run.processor / alone.processor:.2f}"
-        rounds += f"{(first.seconds - plain) / (run_of(in_rounds(limited, workers), text, first).seconds - plain):8.2f}"
-    return whole + rounds
+        row += f"{alone.seconds / run.seconds:8.2f}, {run.processor / alone.processor:.2f}"
+    return row
+
+
+def first_round(words, laps, text):
+    """The row of a first round, whose jobs go over so many laps."""
+    limited = [*words, "--steps", second_visit(words, text)]
+    plain = run_of([*limited, "--guess", "none"], text).seconds
+    limited += ["--laps", laps, "--span", 10**9]
+    alone = run_of(limited, text)
+    row = f"{1000 * (alone.seconds - plain):8.1f} ms"
+    for workers in (1, 2, 3):
+        run = run_of(in_rounds(limited, workers), text, alone)
+        row += f"{(alone.seconds - plain) / (run.seconds - plain):8.2f}"
+    return row
 
 
 def counted(words, guess, text):
@@ -86,6 +102,12 @@ def main():
             words = [program, "run", harness.IMAGES / name, "--memory", memory, "--pc", address, "--report", "--ahead",
                      ahead]
             print(f"{name:15} --guess {guess:7}--ahead {ahead:4}{row(words, guess, text)}", flush=True)
+    if not counts:
+        words = [program, "run", harness.IMAGES / name, "--memory", memory, "--pc", address, "--report"]
+        for ahead in ("4", "16"):
+            for laps in ("1", "4", "16"):
+                row = first_round([*words, "--ahead", ahead], laps, text)
+                print(f"{name:15} first round, --ahead {ahead:4}--laps {laps:4}{row}", flush=True)
     harness.print_load("end")
 
 

@@ -73,7 +73,7 @@ _asc() {
                     show-*) offered="$own --memory --steps --machine --laps --span" ;;
                     run-* | save-* | batch-*)
                         offered="$own --memory --steps --machine --guess --pc --profile --min --laps --span --ahead"
-                        offered+=" --queue --join"
+                        offered+=" --queue --join --seek"
                         [ "$command" != run ] || offered+=" --workers --rounds --load --report"
                         [ "$command" != batch ] || offered+=" --workers --report"
                         ;;

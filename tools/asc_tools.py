@@ -12,7 +12,7 @@ from concurrent.futures import ThreadPoolExecutor
 from pathlib import Path
 
 # Options without a value, and those of the tools whose value is no number.
-FLAGS = ("--join", "--report", "--rounds")
+FLAGS = ("--join", "--report", "--rounds", "--seek")
 PROGRAMS = ("--asc", "--show")
 OBJDUMPS = ("riscv64-unknown-elf-objdump", "riscv32-unknown-elf-objdump", "llvm-objdump")
 ADDR2LINES = ("riscv64-unknown-elf-addr2line", "riscv32-unknown-elf-addr2line", "llvm-addr2line")

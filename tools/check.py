@@ -125,7 +125,8 @@ def check_options(why):
 
 
 # The options behind the first three, as the tests of asc_words write them.
-BEHIND = "--guess --pc --profile --min --laps --span --ahead --workers --lanes --queue --join --report --load".split()
+BEHIND = ("--guess --pc --profile --min --laps --span --ahead --workers --lanes --queue --seek --join --report "
+          "--load").split()
 
 
 def meaning(command, behind, values, known):
@@ -141,7 +142,8 @@ def meaning(command, behind, values, known):
     for name in BEHIND:
         value = values.get(name, defaults[name])
         if value != defaults[name]:
-            told.append({"--guess": value, "--join": "join", "--report": "report"}.get(name, f"{name[2:]} {value}"))
+            flag = name[2:] if name in ("--seek", "--join", "--report") else f"{name[2:]} {value}"
+            told.append(value if name == "--guess" else flag)
     if command == "batch":
         inputs = values["inputs"]
         told += ["of", str(len(inputs)), *(name for name in inputs if name != "x")]
@@ -278,7 +280,8 @@ LINES = [
     (f'echo 0 | "$@" {MATRIX}', None),
     (f'"$@" {HELLO} --mem 64',
      "there is no option --mem: there are --memory, --steps, --machine, --guess, --pc, --profile, "
-     "--min, --laps, --span, --ahead, --queue, --join, --workers, --rounds, --load, --report, and none is abbreviated"),
+     "--min, --laps, --span, --ahead, --queue, --join, --seek, --workers, --rounds, --load, --report, and none is "
+     "abbreviated"),
     (f'"$@" {HELLO} --memory 63', "--memory 63 is out of range, which is 64 to 65536"),
     (f'"$@" {HELLO} --memory 1M', "--memory wants a number in decimal digits, from 64 to 65536, and '1M' is none"),
     (f'"$@" {HELLO} --pc 0x10054',
@@ -311,7 +314,7 @@ def outcome(words, **given):
 SAVES = [
     (f'"$@" {HELLO} >/dev/null', None),
     (f'"$@" {HELLO} --report', "there is no option --report: there are --memory, --steps, --machine, --guess, --pc, "
-     "--profile, --min, --laps, --span, --ahead, --queue, --join, and none is abbreviated"),
+     "--profile, --min, --laps, --span, --ahead, --queue, --join, --seek, and none is abbreviated"),
     (f'"$@" {HELLO} >/dev/full', "standard output: the device failed, as a full disk"),
 ]
 

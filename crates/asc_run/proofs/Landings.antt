@@ -9,7 +9,7 @@ use Rattle.asc_find.specs.Finder.{Tally, Tells, Plan, tally_after, steps_given, 
 use Rattle.asc_find.specs.Serial.{Serial, serial_reply}
 use Rattle.asc_run.specs.Serial.{visited, after_tasks, made_at}
 use Rattle.asc_run.specs.Execution.{Position, Progress, On}
-use Rattle.asc_run.specs.Visits.{Course, Visit, Passes, IsMarkedFrom, is_at, goes_on_at, with_landing, replies_of}
+use Rattle.asc_run.specs.Visits.{Course, Marking, Visit, Passes, IsMarkedFrom, is_at, goes_on_at, with_landing, replies_of}
 use Rattle.asc_run.specs.Helped.{Aid, Helped, SerialAt, Lands, KeepsMachine, HasVisits}
 use Rattle.asc_run.proofs.Reach.{Leads, LeadsAlong, LeadsToEnd}
 use Rattle.asc_run.proofs.Shapes.{plain-part}
@@ -93,7 +93,7 @@ at_visit limit c k p r s reply m n e at number gives =
     (ap (λ j. visited (j + 1) s m) number ∙ ap (λ t. visited (n + 1) t m) (sym e), gives ∙ ap (λ t. serial_reply (visited (k + 1) s m) t (limit - c)) (sym e))
 
 -- the machine at one landing more
-machine-more : (is : Bool) (limit c k : ℕ) (run : Course) (r : Position) (s : State) (reply : Option ℕ) (vs : List Visit) (start : State) (old now new : Aid) → r.state ≡ s → run c ≡ On r → s.shape ≡ start.shape → k ≡ length vs
+pub machine-more : (is : Bool) (limit c k : ℕ) (run : Course) (r : Position) (s : State) (reply : Option ℕ) (vs : List Visit) (start : State) (old now new : Aid) → r.state ≡ s → run c ≡ On r → s.shape ≡ start.shape → k ≡ length vs
     → old.plan.refused ≤ now.plan.refused → now.plan.refused ≤ new.plan.refused → Lands is k s (limit - c) reply now new → KeepsMachine limit start vs old now run → KeepsMachine limit start (with_landing is c reply vs) old new run
 machine-more false limit c k run r s reply vs start old now new e at shape number earlier later lands keeps m told same memory =
     let memory' : now.plan.refused ≡ old.plan.refused = omega arith in
@@ -114,12 +114,12 @@ machine-more true limit c k run r s reply vs start old now new e at shape number
 -- ---- all that a walk says of a run
 
 -- All that is said of a run while a walk goes on that had no mark up to a count: so far it has these visits, and from that
--- count on, below the limit, a count is a mark where the run goes on at an address.
-pub record SoFar (limit : ℕ) (mark : Course → ℕ → Bool) (address : Option ℕ) (from : ℕ) (start : State) (visits : List Visit) (old now : Aid) (to : ℕ) (run : Course) : Type 0 where
+-- count on, below the limit, a count is a mark where the run goes on at an address, whatever the visits are.
+pub record SoFar (limit : ℕ) (mark : Course → Marking) (address : Option ℕ) (from : ℕ) (start : State) (visits : List Visit) (old now : Aid) (to : ℕ) (run : Course) : Type 0 where
   pub has : HasVisits limit mark start visits old now to run
-  pub later : (count : ℕ) → from ≤ count → count < limit → mark run count ≡ goes_on_at address (run count)
+  pub later : (before : List Visit) (count : ℕ) → from ≤ count → count < limit → mark run before count ≡ goes_on_at address (run count)
 
-module _ (limit : ℕ) (mark : Course → ℕ → Bool) (address : Option ℕ) (from : ℕ) (start : State) where
+module _ (limit : ℕ) (mark : Course → Marking) (address : Option ℕ) (from : ℕ) (start : State) where
   -- no visit yet
   pub SoFar-first : (a : Aid) (run : Course) → IsMarkedFrom limit from address (mark run) run → SoFar limit mark address from start [] a a from run
   SoFar-first a run marked = record {
@@ -133,7 +133,7 @@ module _ (limit : ℕ) (mark : Course → ℕ → Bool) (address : Option ℕ) (
         → Leads (SoFar limit mark address from start visits old now c) (SoFar limit mark address from start (with_landing (is_at address s) c None visits) old new (c + 1)) s c
     SoFar-step lands run r e at q = record {
       has = record {
-        are = AreVisits-step (is_at address s) limit run (mark run) visits c q.has.are (q.later c least below ∙ goes_on_at-on address (run c) r s e at);
+        are = AreVisits-step (is_at address s) limit run (mark run) visits c q.has.are (q.later visits c least below ∙ goes_on_at-on address (run c) r s e at);
         serial = machine-more (is_at address s) limit c k run r s None visits start old now new e at shape number earlier later lands q.has.serial;
       };
       later = q.later;
@@ -145,7 +145,7 @@ module _ (limit : ℕ) (mark : Course → ℕ → Bool) (address : Option ℕ) (
     SoFar-jump t n jump passed lands run r e at q =
         let most = jump.most in record {
           has = record {
-            are = AreVisits-jump (is_at address s) limit run (mark run) visits c n q.has.are (q.later c least below ∙ goes_on_at-on address (run c) r s e at) passed jump.least (omega (arith, most))
+            are = AreVisits-jump (is_at address s) limit run (mark run) visits c n q.has.are (q.later visits c least below ∙ goes_on_at-on address (run c) r s e at) passed jump.least (omega (arith, most))
                 (GoesPlain-on n (run c) r s t e at jump.goes);
             serial = machine-more (is_at address s) limit c k run r s (Some n) visits start old now new e at shape number earlier later lands q.has.serial;
           };
@@ -162,7 +162,7 @@ module _ (limit : ℕ) (mark : Course → ℕ → Bool) (address : Option ℕ) (
           let sum : c + k ≡ count = omega arith in
           let reached = plain-part k n s t (omega arith) goes in
           let there = ap run (sym sum) ∙ along k reached.0 reached.1 in
-          q.later count (omega arith) (omega arith) ∙ goes_on_at-on address (run count) (record r { state = reached.0 }) reached.0 refl there ∙ passes k (omega arith) (omega arith) reached.0 reached.1);
+          q.later visits count (omega arith) (omega arith) ∙ goes_on_at-on address (run count) (record r { state = reached.0 }) reached.0 refl there ∙ passes k (omega arith) (omega arith) reached.0 reached.1);
       serial = q.has.serial;
     };
     later = q.later;
@@ -172,6 +172,6 @@ module _ (limit : ℕ) (mark : Course → ℕ → Bool) (address : Option ℕ) (
   pub SoFar-end : (s : State) (c : ℕ) (visits : List Visit) (old now : Aid) → from ≤ c → c < limit
       → LeadsToEnd (SoFar limit mark address from start visits old now (c + 1)) (HasVisits limit mark start visits old now limit) s c
   SoFar-end s c visits old now least below run r e at off q = record {
-    are = AreVisits-later limit run (mark run) visits (c + 1) limit q.has.are (omega arith) (λ m le l. q.later m (omega arith) l ∙ goes_on_at-off address (run m) (off m (omega arith)));
+    are = AreVisits-later limit run (mark run) visits (c + 1) limit q.has.are (omega arith) (λ m le l. q.later visits m (omega arith) l ∙ goes_on_at-off address (run m) (off m (omega arith)));
     serial = q.has.serial;
   }

@@ -6,7 +6,7 @@ use Rattle.asc_model.specs.State.{State}
 use Rattle.asc_model.specs.Step.{At}
 use Rattle.asc_model.specs.Plain.{plain}
 use Rattle.asc_run.specs.Execution.{Position, Progress, On, Off}
-use Rattle.asc_run.specs.Visits.{Course, Visit, landing, is_at, goes_on_at, GoesPlain, HasNoMark, AreVisits, replies_of, with_landing}
+use Rattle.asc_run.specs.Visits.{Course, Marking, Visit, landing, is_at, goes_on_at, GoesPlain, HasNoMark, AreVisits, replies_of, with_landing}
 use Rattle.asc_run.specs.Laws.{RepliesDetermineVisits}
 use Rattle.asc_run.proofs.Reach.{IsOff}
 
@@ -20,21 +20,21 @@ HasNoMark-none : (mark : ℕ → Bool) (c : ℕ) → HasNoMark mark c c
 HasNoMark-none mark c k h l = absurd (let x : ⊥ = omega arith in x)
 
 -- further counts that are no marks
-pub AreVisits-later : (limit : ℕ) (run : Course) (mark : ℕ → Bool) (vs : List Visit) (a b : ℕ) → AreVisits limit run mark vs a → a ≤ b → HasNoMark mark a b → AreVisits limit run mark vs b
-AreVisits-later limit run mark [] a b x l n = HasNoMark-joined mark 0 a b x n
+pub AreVisits-later : (limit : ℕ) (run : Course) (mark : Marking) (vs : List Visit) (a b : ℕ) → AreVisits limit run mark vs a → a ≤ b → HasNoMark (mark vs) a b → AreVisits limit run mark vs b
+AreVisits-later limit run mark [] a b x l n = HasNoMark-joined (mark []) 0 a b x n
 AreVisits-later limit run mark (v ∷ vs) a b x l n =
     let q : landing v ≤ a = x.1.1.1.0 in
-    (x.0, (x.1.0, (x.1.1.0, ((let z : landing v ≤ b = omega arith in z), HasNoMark-joined mark (landing v) a b x.1.1.1.1 n))))
+    (x.0, (x.1.0, (x.1.1.0, ((let z : landing v ≤ b = omega arith in z), HasNoMark-joined (mark (v ∷ vs)) (landing v) a b x.1.1.1.1 n))))
 
 -- a landing from which the walk goes one step on
-pub AreVisits-step : (is : Bool) (limit : ℕ) (run : Course) (mark : ℕ → Bool) (vs : List Visit) (c : ℕ) → AreVisits limit run mark vs c → mark c ≡ is → AreVisits limit run mark (with_landing is c None vs) (c + 1)
-AreVisits-step true limit run mark vs c x m = (x, (m, (tt, (omega arith, HasNoMark-none mark (c + 1)))))
-AreVisits-step false limit run mark vs c x m = AreVisits-later limit run mark vs c (c + 1) x (omega arith) (HasNoMark-one mark c m)
+pub AreVisits-step : (is : Bool) (limit : ℕ) (run : Course) (mark : Marking) (vs : List Visit) (c : ℕ) → AreVisits limit run mark vs c → mark vs c ≡ is → AreVisits limit run mark (with_landing is c None vs) (c + 1)
+AreVisits-step true limit run mark vs c x m = (x, (m, (tt, (omega arith, HasNoMark-none (mark (with_landing true c None vs)) (c + 1)))))
+AreVisits-step false limit run mark vs c x m = AreVisits-later limit run mark vs c (c + 1) x (omega arith) (HasNoMark-one (mark vs) c m)
 
 -- a landing from which it jumps
-pub AreVisits-jump : (is : Bool) (limit : ℕ) (run : Course) (mark : ℕ → Bool) (vs : List Visit) (c n : ℕ) → AreVisits limit run mark vs c → mark c ≡ is → (is ≡ false → Some n ≡ None) → 1 ≤ n → c + n ≤ limit
+pub AreVisits-jump : (is : Bool) (limit : ℕ) (run : Course) (mark : Marking) (vs : List Visit) (c n : ℕ) → AreVisits limit run mark vs c → mark vs c ≡ is → (is ≡ false → Some n ≡ None) → 1 ≤ n → c + n ≤ limit
     → GoesPlain n (run c) → AreVisits limit run mark (with_landing is c (Some n) vs) (c + n)
-AreVisits-jump true limit run mark vs c n x m z p q g = (x, (m, ((p, (q, g)), (omega arith, HasNoMark-none mark (c + n)))))
+AreVisits-jump true limit run mark vs c n x m z p q g = (x, (m, ((p, (q, g)), (omega arith, HasNoMark-none (mark (with_landing true c (Some n) vs)) (c + n)))))
 AreVisits-jump false limit run mark vs c n x m z p q g = let w = z refl in cc
 
 -- a run that is where a state stands is at a mark where that state is
@@ -49,11 +49,12 @@ pub GoesPlain-on : (n : ℕ) (p : Progress) (r : Position) (s t : State) → r.s
 GoesPlain-on n p r s t e h g = subst (GoesPlain n) (sym h) (t, ap (plain n) e ∙ g)
 
 -- ---- the replies determine the visits
-pub floor : List Visit → ℕ
+-- the newest landing, and 0 before the first visit
+unfoldable pub floor : List Visit → ℕ
 floor [] = 0
 floor (v ∷ vs) = landing v
 
-pub floor_of : (limit : ℕ) (run : Course) (mark : ℕ → Bool) (vs : List Visit) (a : ℕ) → AreVisits limit run mark vs a → (floor vs ≤ a) × HasNoMark mark (floor vs) a
+pub floor_of : (limit : ℕ) (run : Course) (mark : Marking) (vs : List Visit) (a : ℕ) → AreVisits limit run mark vs a → (floor vs ≤ a) × HasNoMark (mark vs) (floor vs) a
 unfolding floor
 floor_of limit run mark [] a x = (omega arith, x)
 floor_of limit run mark (v ∷ vs) a x = (x.1.1.1.0, x.1.1.1.1)
@@ -77,7 +78,7 @@ replies_determine_visits limit run mark (v ∷ vs) (u ∷ us) a b x y e =
     let g = floor_of limit run mark vs v.at x.0 in
     let h = floor_of limit run mark us u.at y.0 in
     let f : floor vs ≡ floor us = ap floor i in
-    let l : v.at ≤ u.at = same_at mark (floor vs) u.at v.at (omega (arith, f, h.0)) g.1 y.1.0 in
-    let r : u.at ≤ v.at = same_at mark (floor us) v.at u.at (omega (arith, f, g.0)) h.1 x.1.0 in
+    let l : v.at ≤ u.at = same_at (mark vs) (floor vs) u.at v.at (omega (arith, f, h.0)) g.1 (subst (λ z. mark z u.at ≡ true) (sym i) y.1.0) in
+    let r : u.at ≤ v.at = same_at (mark us) (floor us) v.at u.at (omega (arith, f, g.0)) h.1 (subst (λ z. mark z v.at ≡ true) i x.1.0) in
     let q : v.at ≡ u.at = omega arith in
     ap (λ z. z ∷ vs) (same_visit v u q p.1) ∙ ap (λ z. u ∷ z) i

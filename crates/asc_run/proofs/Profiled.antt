@@ -16,7 +16,7 @@ use Rattle.asc_run.specs.declared.recognised.Recognised.TheVariants as recognise
 use Rattle.asc_run.specs.declared.walk.Ended.{Ended}
 use Rattle.asc_run.specs.Execution.{Progress, Position, On, Off, device_of}
 use Rattle.asc_run.specs.Turn.{Turns, TurnFails}
-use Rattle.asc_run.specs.Visits.{Course, IsMarkedFrom, HasNoMark, goes_on_at, is_mark, pair_at, profile_of}
+use Rattle.asc_run.specs.Visits.{Course, Visit, IsMarkedFrom, HasNoMark, goes_on_at, is_mark, pair_at, profile_of}
 use Rattle.asc_run.specs.Helped.{Aid, HasVisits}
 use Rattle.asc_run.specs.Way.{Reaches, ComesUnmarked}
 use Rattle.asc_run.specs.Walk.{GoesHelped, StopsAt}
@@ -35,15 +35,15 @@ no_address (Off count ended last) = refl
 -- a program that has not begun has come nowhere, where no address is recognised, and where this one is
 pub comes-nowhere : (limit : ℕ) (r : Recognised) (w : World) (n : ℕ) → r ≡ recognised.Nowhere → w.calls.ended ≡ false → w.calls.brk ≡ w.calls.low → n ≡ 0 → ComesUnmarked limit (is_mark r) None w w n
 comes-nowhere limit r w n is going brk none = rw is
-    (Reaches-first_position (λ run. IsMarkedFrom limit n None (is_mark recognised.Nowhere run) run) w n (λ run. record { none = none_below n none _; later = λ count _ _. sym (no_address (run count)) }) going brk none)
+    (Reaches-first_position (λ run. IsMarkedFrom limit n None (is_mark recognised.Nowhere run) run) w n (λ run. record { none = none_below n none _; later = λ _ count _ _. sym (no_address (run count)) }) going brk none)
 
 pub comes-at : (limit address : ℕ) (r : Recognised) (w : World) (n : ℕ) → r ≡ recognised.At address → w.calls.ended ≡ false → w.calls.brk ≡ w.calls.low → n ≡ 0 → ComesUnmarked limit (is_mark r) (Some address) w w n
 comes-at limit address r w n is going brk none = rw is
-    (Reaches-first_position (λ run. IsMarkedFrom limit n (Some address) (is_mark (recognised.At address) run) run) w n (λ run. record { none = none_below n none _; later = λ _ _ _. refl }) going brk none)
+    (Reaches-first_position (λ run. IsMarkedFrom limit n (Some address) (is_mark (recognised.At address) run) run) w n (λ run. record { none = none_below n none _; later = λ _ _ _ _. refl }) going brk none)
 
 -- a count of which the address is noted is no mark
-first_count : (profile least : ℕ) (run : Course) (count : ℕ) → count < profile → is_mark (recognised.Chosen profile least) run count ≡ false
-first_count profile least run count below =
+first_count : (profile least : ℕ) (run : Course) (visits : List Visit) (count : ℕ) → count < profile → is_mark (recognised.Chosen profile least) run visits count ≡ false
+first_count profile least run visits count below =
     let early : nat_le profile count ≡ false = grind (arith, nat_tests) in
     ap (λ b. b && goes_on_at (chosen_address (profile_of run profile) least) (run count)) early
 
@@ -52,8 +52,8 @@ no_and true c is = is
 no_and false c is = refl
 
 -- where a run has ended there is no mark
-ended_count : (profile least : ℕ) (run : Course) (count : ℕ) → IsOff (run count) → is_mark (recognised.Chosen profile least) run count ≡ false
-ended_count profile least run count off = no_and (nat_le profile count) _ (goes_on_at-off (chosen_address (profile_of run profile) least) (run count) off)
+ended_count : (profile least : ℕ) (run : Course) (visits : List Visit) (count : ℕ) → IsOff (run count) → is_mark (recognised.Chosen profile least) run visits count ≡ false
+ended_count profile least run visits count off = no_and (nat_le profile count) _ (goes_on_at-off (chosen_address (profile_of run profile) least) (run count) off)
 
 -- one address more
 profile_of-more : (run : Course) (n : ℕ) (r : Position) (s : State) → r.state ≡ s → run n ≡ On r → profile_of run (n + 1) ≡ profile_of run n ++ ((view_of s).pc, n) ∷ []
@@ -119,14 +119,14 @@ ends-early limit profile least Q old now new n d ended a below early way turn fa
   helped = Helped-none a;
   goes = record {
     follows = λ h. Follows-turn Q _ limit old now new n d 0 ended way below (turn h) (λ run r e at off q. visits_none limit run (λ m _ l. elim (cases_lt m profile) [
-      | inl x ↦ first_count profile least run m x
-      | inr x ↦ ended_count profile least run m (off m (omega arith))
+      | inl x ↦ first_count profile least run [] m x
+      | inr x ↦ ended_count profile least run [] m (off m (omega arith))
     ]));
     stops = λ device h.
         subst (λ x. StopsAt limit (HasVisits limit (is_mark (recognised.Chosen profile least)) old.state [] a a (x + 1)) old new x 0 device) (sym (count device h))
-        (StopsAt-fails Q _ limit old now new n 0 device way below (fails device h) (λ run _ _ _ q. visits_none (n + 1) run (λ m _ l. first_count profile least run m (omega arith))));
+        (StopsAt-fails Q _ limit old now new n 0 device way below (fails device h) (λ run _ _ _ q. visits_none (n + 1) run (λ m _ l. first_count profile least run [] m (omega arith))));
   };
 }
   where
-    visits_none : (to : ℕ) (run : Course) → HasNoMark (is_mark (recognised.Chosen profile least) run) 0 to → HasVisits limit (is_mark (recognised.Chosen profile least)) old.state [] a a to run
+    visits_none : (to : ℕ) (run : Course) → HasNoMark (is_mark (recognised.Chosen profile least) run []) 0 to → HasVisits limit (is_mark (recognised.Chosen profile least)) old.state [] a a to run
     visits_none to run marks = record { are = marks; serial = λ m told shape memory. (m, 0, told, refl, ((refl, refl), omega arith)) }

@@ -1,5 +1,5 @@
 -- The rows, by computing.
-use Rattle.std.proofs.Common.{◌≡◌, ◌+◌, ℕ, zero, suc, Bool, true, false, refl, subst, arith, inl, inr}
+use Rattle.std.proofs.Common.{◌≡◌, ◌+◌, ℕ, zero, suc, Bool, true, false, [], refl, subst, arith, inl, inr}
 use Rattle.std.specs.Prelude.{not, ◌&&◌}
 use Rattle.std.proofs.lemmas.Bool.{cases_lt}
 use Rattle.asc_model.specs.DependencyVector.{first_reads, written_in}
@@ -86,7 +86,7 @@ HasNoMark-none_of mark a (suc n) e k le lt =
 pub visits : Visits
 unfolding none_of plain next outcome words view_of state_of decode guest_call progress
 visits =
-    let none = HasNoMark-none_of (is_mark (recognised.At 0x10008) loop_run) in
+    let none = HasNoMark-none_of (is_mark (recognised.At 0x10008) loop_run []) in
     record {
       four = (
         (

@@ -1,10 +1,10 @@
 -- The visits of a run without workers are one list: by the oldest visit first.
-use Rattle.std.proofs.Common.{◌≡◌, ◌≤◌, ◌<◌, ◌+◌, ◌-◌, ℕ, Bool, true, List, [], ◌∷◌, length, ap, ◌∙◌, sym, subst, refl, Option, Some, None, arith, inl, inr}
+use Rattle.std.proofs.Common.{◌≡◌, ◌≤◌, ◌<◌, ◌+◌, ◌-◌, ℕ, true, List, [], ◌∷◌, length, ap, ◌∙◌, sym, subst, refl, Option, Some, None, arith, inl, inr}
 use Rattle.std.proofs.lemmas.Bool.{cases_lt, false≢true}
 use Rattle.asc_find.specs.Finder.{Tally}
 use Rattle.asc_find.specs.Serial.{Serial, serial_reply}
 use Rattle.asc_run.specs.Execution.{Progress, On, Off}
-use Rattle.asc_run.specs.Visits.{Course, Visit, Fits, AreVisits, tally_of}
+use Rattle.asc_run.specs.Visits.{Course, Marking, Visit, Fits, AreVisits, tally_of}
 use Rattle.asc_run.specs.Walk.{tally}
 use Rattle.asc_run.specs.Serial.{made_at}
 use Rattle.asc_run.specs.Helped.{SerialAt, IsSerial}
@@ -24,7 +24,7 @@ one_reply limit n v u (On r) m x y e s t =
     (i, s.1 ∙ ap (λ z. serial_reply z r.state (limit - v.at)) i ∙ ap (λ k. serial_reply y r.state (limit - k)) e ∙ sym t.1)
 one_reply limit n v u (Off count ended last) m x y e s t = absurd s
 
-module _ (limit : ℕ) (run : Course) (mark : ℕ → Bool) (first : Serial) where
+module _ (limit : ℕ) (run : Course) (mark : Marking) (first : Serial) where
   -- so many visits of one machine are one list
   same_length : (vs us : List Visit) (a b : ℕ) (x y : Serial) (m n : ℕ) → AreVisits limit run mark vs a → AreVisits limit run mark us b → IsSerial limit run first vs x m → IsSerial limit run first us y n → length vs ≡ length us
       → (vs ≡ us) × ((x ≡ y) × (m ≡ n))
@@ -37,8 +37,8 @@ module _ (limit : ℕ) (run : Course) (mark : ℕ → Bool) (first : Serial) whe
       let g = floor_of limit run mark vs v.at p.0 in
       let h = floor_of limit run mark us u.at q.0 in
       let f : floor vs ≡ floor us = ap floor i.0 in
-      let below : v.at ≤ u.at = same_at mark (floor vs) u.at v.at (omega (arith, f, h.0)) g.1 q.1.0 in
-      let above : u.at ≤ v.at = same_at mark (floor us) v.at u.at (omega (arith, f, g.0)) h.1 p.1.0 in
+      let below : v.at ≤ u.at = same_at (mark vs) (floor vs) u.at v.at (omega (arith, f, h.0)) g.1 (subst (λ z. mark z u.at ≡ true) (sym i.0) q.1.0) in
+      let above : u.at ≤ v.at = same_at (mark us) (floor us) v.at u.at (omega (arith, f, g.0)) h.1 (subst (λ z. mark z v.at ≡ true) i.0 p.1.0) in
       let here : v.at ≡ u.at = omega arith in
       let by_visits = subst (λ z. SerialAt limit (length z + 1) u (run u.at) t.0 y) (sym i.0) t.3.0 in
       let by_machine = subst (λ z. SerialAt limit (length vs + 1) u (run u.at) z y) (sym i.1.0) by_visits in
@@ -61,7 +61,7 @@ module _ (limit : ℕ) (run : Course) (mark : ℕ → Bool) (first : Serial) whe
     size_is : length visits ≡ size
     are : AreVisits limit run mark visits at
     serial : IsSerial limit run first visits now made
-    marked : mark at ≡ true
+    marked : mark visits at ≡ true
     below : at < before
 
   oldest : (us : List Visit) (b k : ℕ) (y : Serial) (n : ℕ) → AreVisits limit run mark us b → IsSerial limit run first us y n → k < length us → Oldest k b
@@ -102,7 +102,8 @@ module _ (limit : ℕ) (run : Course) (mark : ℕ → Bool) (first : Serial) whe
         let g = floor_of limit run mark vs limit p in
         let f = floor_of limit run mark c.visits c.at c.are in
         let e : floor vs ≡ floor c.visits = ap floor i.0 in
-        absurd (false≢true (sym (g.1 c.at (omega (arith, e, f.0)) c.below) ∙ c.marked))
+        let marked : mark vs c.at ≡ true = subst (λ z. mark z c.at ≡ true) (sym i.0) c.marked in
+        absurd (false≢true (sym (g.1 c.at (omega (arith, e, f.0)) c.below) ∙ marked))
     | inr h ↦ h
   ]
 

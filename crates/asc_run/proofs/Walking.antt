@@ -13,7 +13,7 @@ use Rattle.asc_run.specs.declared.walk.Ended.{Ended}
 use Rattle.asc_run.specs.declared.walk.Ended.TheVariants.{Limit}
 use Rattle.asc_run.specs.Execution.{device_of}
 use Rattle.asc_run.specs.Turn.{Turns, TurnFails}
-use Rattle.asc_run.specs.Visits.{Course, Visit, Passes, is_at, with_landing}
+use Rattle.asc_run.specs.Visits.{Course, Marking, Visit, Passes, is_at, with_landing}
 use Rattle.asc_run.specs.Helped.{Aid, HasRoom, Helped, Lands, Plans, HasVisits}
 use Rattle.asc_run.specs.Way.{Reaches, ComesUnmarked}
 use Rattle.asc_run.specs.Walk.{tally, GoesHelped, StopsAt, IsRaisedBy}
@@ -22,11 +22,11 @@ use Rattle.asc_run.proofs.Landings.{Helped-none, Helped-more, number-more, SoFar
 
 -- From old to now a walk went on for c steps, of which k were jumped over. Its visits, which are so many, are all up to a
 -- count. It had no mark up to another, and from there on it has one wherever it goes on at an address.
-abbrev pub WalksOn : (limit : ℕ) → (mark : Course → ℕ → Bool) → (address : Option ℕ) → (from : ℕ) → (old now : World) → (c to k number : ℕ) → (first last : Aid) → Type 0
+abbrev pub WalksOn : (limit : ℕ) → (mark : Course → Marking) → (address : Option ℕ) → (from : ℕ) → (old now : World) → (c to k number : ℕ) → (first last : Aid) → Type 0
 WalksOn limit mark address from old now c to k number first last = (visits : List Visit) × Helped visits first last × ((number ≡ length visits)
     × Reaches (SoFar limit mark address from old.state visits first last to) old.calls.low old.calls.high old.state old now c k)
 
-module _ (limit : ℕ) (mark : Course → ℕ → Bool) (address : Option ℕ) (from : ℕ) (old : World) where
+module _ (limit : ℕ) (mark : Course → Marking) (address : Option ℕ) (from : ℕ) (old : World) where
   -- a walk that made no visit
   pub walk-first : (here : World) (k number : ℕ) (a : Aid) → k ≡ 0 → number ≡ 0 → ComesUnmarked limit mark address old here from → WalksOn limit mark address from old here from from k number a a
   walk-first here k number a none_skipped none_asked way = (

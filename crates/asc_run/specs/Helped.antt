@@ -5,7 +5,7 @@ use Rattle.asc_find.specs.Finder.{Tally, Tells, Plan}
 use Rattle.asc_find.specs.Serial.{Serial, serial_reply}
 use Rattle.asc_run.specs.Execution.{Progress, On, Off}
 use Rattle.asc_run.specs.Serial.{visited, made_at}
-use Rattle.asc_run.specs.Visits.{Course, Visit, AreVisits, replies_of, tally_of}
+use Rattle.asc_run.specs.Visits.{Course, Visit, AreVisits, replies_of, tally_of, Marking}
 
 -- what a helper tells
 pub record Aid : Type 0 where
@@ -69,7 +69,7 @@ KeepsMachine limit start visits old new run = (m : Serial) → old.machine ≡ S
 
 -- All that a walk says of a run up to a count: these are its visits; and where its helper tells a machine, the replies
 -- and the guesses are that machine's.
-pub record HasVisits (limit : ℕ) (mark : Course → ℕ → Bool) (start : State) (visits : List Visit) (old new : Aid)
+pub record HasVisits (limit : ℕ) (mark : Course → Marking) (start : State) (visits : List Visit) (old new : Aid)
     (to : ℕ) (run : Course) : Type 0 where
   pub are : AreVisits limit run (mark run) visits to
   pub serial : KeepsMachine limit start visits old new run

@@ -9,6 +9,7 @@ pub mod VisitedBy
 pub mod Way
 pub mod Walk
 pub mod SerialRun
+pub mod Sought
 pub mod SerialHelper
 pub mod SerialInside
 pub mod Laws

@@ -1,11 +1,11 @@
 -- A run without workers: its machine at first, and its numbers.
-use Rattle.std.specs.Prelude.{◌≡◌, ℕ, ◌+◌, Bool, List, None}
+use Rattle.std.specs.Prelude.{◌≡◌, ℕ, ◌+◌, List, None}
 use Rattle.asc_model.specs.Shape.{Shape}
 use Rattle.asc_model.specs.Entry.{Entry}
 use Rattle.asc_find.specs.declared.guessing.Guessing.{Guessing}
 use Rattle.asc_find.specs.Serial.{Serial}
 use Rattle.asc_run.specs.Execution.{run_of}
-use Rattle.asc_run.specs.Visits.{Course, Visit, AreVisits, tally_of}
+use Rattle.asc_run.specs.Visits.{Course, Visit, AreVisits, tally_of, Marking}
 use Rattle.asc_run.specs.Helped.{IsSerial}
 use Rattle.asc_run.specs.Walk.{tally}
 
@@ -25,7 +25,7 @@ pub record Numbers : Type 0 where
 
 -- These are the numbers of a run without workers, with guesses of this kind, which has these entries before its first
 -- visit.
-pub record IsSerialRun (limit : ℕ) (mark : ℕ → Bool) (run : Course) (shape : Shape) (guessing : Guessing)
+pub record IsSerialRun (limit : ℕ) (mark : Marking) (run : Course) (shape : Shape) (guessing : Guessing)
     (first : List Entry) (numbers : Numbers) : Type 0 where
   -- its visits up to the limit: at each the machine learns of the state, and then gives the reply
   pub visits : List Visit

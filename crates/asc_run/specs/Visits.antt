@@ -1,12 +1,15 @@
 -- The marks that a walk leaves on the one plain run: the counts at which its helper is told of the state and asked for
 -- a jump, each with the reply.
-use Rattle.std.specs.Prelude.{◌≡◌, ℕ, zero, suc, ◌+◌, ◌≤◌, ◌<◌, Bool, true, false, nat_le, ◌==◌, ◌&&◌, List, [], ◌∷◌, ◌++◌, Option, Some, None}
+use Rattle.std.specs.Prelude.{◌≡◌, ℕ, zero, suc, ◌+◌, ◌-◌, ◌≤◌, ◌<◌, Bool, true, false, nat_le, ◌==◌, ◌&&◌, List, [], ◌∷◌, ◌++◌, Option, Some, None}
 use Rattle.asc_model.specs.State.{State}
 use Rattle.asc_model.specs.Machine.{view_of}
 use Rattle.asc_model.specs.Step.{At}
 use Rattle.asc_model.specs.Plain.{plain}
 use Rattle.asc_find.specs.Finder.{Tally, tally_after}
 use Rattle.asc_guess.specs.Choice.{chosen_address}
+use Rattle.asc_seek.specs.Heads.{Path}
+use Rattle.asc_seek.specs.Seek.{IsSeeking, Seek, new_seek, seek_along, seek_visit, watched_in}
+use Rattle.asc_seek.specs.declared.seeker.Seeking.{Seeking}
 use Rattle.asc_run.specs.declared.recognised.Recognised.{Recognised}
 use Rattle.asc_run.specs.declared.recognised.Recognised.TheVariants as recognised
 use Rattle.asc_run.specs.Execution.{Progress, On, Off}
@@ -45,20 +48,14 @@ abbrev pub noted_counts : Recognised → ℕ
 noted_counts recognised.Nowhere = 0
 noted_counts (recognised.At address) = 0
 noted_counts (recognised.Chosen profile least) = profile
+noted_counts (recognised.Sought seeking) = 0
 
--- the bounds of what is noted, and of how often an address has to stand there
+-- the bounds of what is noted or sought, and of how often an address has to stand there
 abbrev pub HasBounds : Recognised → Type 0
 HasBounds recognised.Nowhere = Unit {0}
 HasBounds (recognised.At address) = Unit {0}
 HasBounds (recognised.Chosen profile least) = (2 ≤ profile) × (profile ≤ 65536) × (2 ≤ least) × (least ≤ 65536)
-
--- Whether a count of a run is a mark, at which its helper is visited: the run goes on there at the address that is
--- recognised. One that is chosen of the first counts is looked for behind these.
-abbrev pub is_mark : Recognised → Course → ℕ → Bool
-is_mark recognised.Nowhere run count = false
-is_mark (recognised.At address) run count = goes_on_at (Some address) (run count)
-is_mark (recognised.Chosen profile least) run count =
-    nat_le profile count && goes_on_at (chosen_address (profile_of run profile) least) (run count)
+HasBounds (recognised.Sought seeking) = IsSeeking seeking
 
 pub record Visit : Type 0 where
   -- at which count
@@ -68,6 +65,35 @@ pub record Visit : Type 0 where
 -- where a walk lands after a visit: behind the jump, or one step on
 abbrev pub landing : Visit → ℕ
 landing v = v.at + elim v.reply [ Some n ↦ n | None ↦ 1 ]
+
+-- the address at which a run stands, while it goes on
+abbrev pub stands_at : Progress → Option ℕ
+stands_at (On position) = Some (view_of position.state).pc
+stands_at (Off count ended last) = None
+
+abbrev pub path_of : Course → Path
+path_of run count = stands_at (run count)
+
+-- Where a search for the address stands at a count, behind the visits so far, of which the newest comes first: it learns of
+-- each visit, and goes on from its landing.
+unfoldable pub seek_at : Seeking → Course → List Visit → (count : ℕ) → Seek
+seek_at s run [] count = seek_along (path_of run) 0 count (new_seek s)
+seek_at s run (v ∷ before) count = seek_along (path_of run) (landing v) (count - landing v)
+    (seek_visit v.at v.reply (seek_at s run before v.at))
+
+-- which counts of a run are marks, behind the visits so far, of which the newest comes first
+abbrev pub Marking : Type 0
+Marking = List Visit → ℕ → Bool
+
+-- Whether a count of a run is a mark, at which its helper is visited: the run goes on there at the address that is
+-- recognised. One that is chosen of the first counts is looked for behind these, and one that is sought may change.
+abbrev pub is_mark : Recognised → Course → Marking
+is_mark recognised.Nowhere run visits count = false
+is_mark (recognised.At address) run visits count = goes_on_at (Some address) (run count)
+is_mark (recognised.Chosen profile least) run visits count =
+    nat_le profile count && goes_on_at (chosen_address (profile_of run profile) least) (run count)
+is_mark (recognised.Sought seeking) run visits count =
+    goes_on_at (watched_in (seek_at seeking run visits count).phase) (run count)
 
 -- a run goes on at a count, and n plain steps go on from there
 abbrev pub GoesPlain : (n : ℕ) → Progress → Type 0
@@ -83,17 +109,20 @@ Fits limit run count (Some n) = (1 ≤ n) × ((count + n ≤ limit) × GoesPlain
 abbrev pub HasNoMark : (ℕ → Bool) → (a b : ℕ) → Type 0
 HasNoMark mark a b = (count : ℕ) → a ≤ count → count < b → mark count ≡ false
 
--- Up to a count a run has no mark. From there on, below a limit, it has one wherever it goes on at this address.
-pub record IsMarkedFrom (limit from : ℕ) (address : Option ℕ) (mark : ℕ → Bool) (run : Course) : Type 0 where
-  pub none : HasNoMark mark 0 from
-  pub later : (count : ℕ) → from ≤ count → count < limit → mark count ≡ goes_on_at address (run count)
+-- Up to a count a run has no mark. From there on, below a limit, it has one wherever it goes on at this address, whatever
+-- its visits are.
+pub record IsMarkedFrom (limit from : ℕ) (address : Option ℕ) (mark : Marking) (run : Course) : Type 0 where
+  pub none : HasNoMark (mark []) 0 from
+  pub later : (visits : List Visit) (count : ℕ) → from ≤ count → count < limit
+      → mark visits count ≡ goes_on_at address (run count)
 
--- These are the visits of a walk up to a count, the newest first: each is at a mark, its reply fits, and between its
--- landing and the next visit, or the count, there is no mark. Before the first visit there is none either.
-abbrev pub AreVisits : (limit : ℕ) → Course → (mark : ℕ → Bool) → List Visit → (to : ℕ) → Type 0
-AreVisits limit run mark [] to = HasNoMark mark 0 to
-AreVisits limit run mark (v ∷ before) to = AreVisits limit run mark before v.at × ((mark v.at ≡ true)
-    × (Fits limit run v.at v.reply × ((landing v ≤ to) × HasNoMark mark (landing v) to)))
+-- These are the visits of a walk up to a count, the newest first: each is at a mark behind those before it, its reply
+-- fits, and between its landing and the next visit, or the count, there is no mark. Before the first visit there is none
+-- either.
+abbrev pub AreVisits : (limit : ℕ) → Course → Marking → List Visit → (to : ℕ) → Type 0
+AreVisits limit run mark [] to = HasNoMark (mark []) 0 to
+AreVisits limit run mark (v ∷ before) to = AreVisits limit run mark before v.at × ((mark before v.at ≡ true)
+    × (Fits limit run v.at v.reply × ((landing v ≤ to) × HasNoMark (mark (v ∷ before)) (landing v) to)))
 
 -- their replies, in the order in which they were given
 abbrev pub replies_of : List Visit → List (Option ℕ)

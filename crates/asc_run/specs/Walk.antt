@@ -1,5 +1,5 @@
 -- What a walk does to the world.
-use Rattle.std.specs.Prelude.{◌≡◌, ℕ, ◌+◌, ◌<◌, Bool, List, ◌++◌, Option, Some, None, false}
+use Rattle.std.specs.Prelude.{◌≡◌, ℕ, ◌+◌, ◌<◌, List, ◌++◌, Option, Some, None, false}
 use Rattle.asc_model.specs.State.{State}
 use Rattle.asc_elf.specs.Image.{Image, high_of}
 use Rattle.asc_calls.specs.GuestCall.{Io, then_io, IsBeginning, Device}
@@ -11,7 +11,7 @@ use Rattle.asc_run.specs.declared.recognised.Recognised.{Recognised}
 use Rattle.asc_run.specs.declared.recognised.Recognised.TheVariants.{Nowhere}
 use Rattle.asc_run.specs.declared.walk.Ended.TheVariants.{Limit}
 use Rattle.asc_run.specs.Execution.{Run, exec, Progress, progress, first_position, device_of, StandsAtFailure}
-use Rattle.asc_run.specs.Visits.{Course, Visit, is_mark}
+use Rattle.asc_run.specs.Visits.{Course, Visit, is_mark, Marking}
 use Rattle.asc_run.specs.Seen.{SeesAll}
 use Rattle.asc_run.specs.Helped.{Aid, Helped, HasVisits}
 
@@ -102,7 +102,7 @@ pub record Goes (limit : ℕ) (Says : (to : ℕ) → Course → Type 0) (old new
       → StopsAt limit (Says (count + 1)) old new count skipped device
 
 -- It went so with a helper, which was asked at the marks, and came from first to last.
-pub record GoesHelped (limit : ℕ) (mark : Course → ℕ → Bool) (old new : World) (first last : Aid) (count skipped : ℕ)
+pub record GoesHelped (limit : ℕ) (mark : Course → Marking) (old new : World) (first last : Aid) (count skipped : ℕ)
     (ended : Ended) : Type 0 where
   pub visits : List Visit
   pub helped : Helped visits first last

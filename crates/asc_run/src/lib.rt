@@ -12,6 +12,7 @@ mod recognised;
 mod serial;
 #[cfg(test)]
 mod serial_tests;
+mod sought;
 #[cfg(test)]
 mod tests;
 mod visited;

@@ -15,6 +15,7 @@ impl Process {
     ghost use Rattle.asc_run.specs.declared.recognised.Recognised.TheVariants.{Chosen};
     ghost use Rattle.asc_run.specs.Execution.{device_of};
     ghost use Rattle.asc_run.specs.Turn.{device_of_turn};
+    ghost use Rattle.asc_run.specs.Sought.{HasSeeker};
     ghost use Rattle.asc_run.specs.Visits.{HasBounds, is_mark, noted_counts, profile_of};
     ghost use Rattle.asc_run.specs.Helped.{Aid};
     ghost use Rattle.asc_run.specs.Way.{ComesUnmarked, Reaches};
@@ -32,6 +33,7 @@ impl Process {
         steps: &mut Steps<L>,
     ) -> Result<Option<u32>, Ended>
         requires bounds { HasBounds settings.recognised }
+        requires sought { HasSeeker settings.recognised None }
         requires start { HasNotBegun self.old.count self.old.calls }
         requires none_noted { notes.old.items ≡ [] }
         requires room { noted_counts settings.recognised ≤ vec_capacity notes.old }
@@ -67,6 +69,7 @@ impl Process {
                     None => Ok(choose(notes.as_mut_slice(), u64::from(least))),
                 }
             }
+            Recognised::Sought(_) => unreachable!(),
         }
     }
 

@@ -7,6 +7,7 @@ use asc_depvec::Tracer;
 use asc_elf::read;
 use asc_find::{Finder, ListFinder, Noted, Nothing};
 use asc_outside::{CountSink, SureSource};
+use asc_seek::Seeking;
 use asc_shape::{Guess, Shape, Snapshot, State, Steps, Version};
 use asc_step::{Fault, FaultKind};
 use asc_traj::{Entry, Never, Stop, trace};
@@ -43,6 +44,17 @@ pub(crate) const COUNTING: [u32; 7] = [
     0x0000_0073,
 ];
 
+/// The same from 0 to 131,072, which is longer than the first stretch of a search.
+const COUNTING_LONG: [u32; 7] = [
+    0x0000_0293,
+    0x0002_0337,
+    0x0012_8293,
+    0xFE62_9EE3,
+    0x05D0_0893,
+    0x0000_0513,
+    0x0000_0073,
+];
+
 /// Fails where what is to be noted is out of its bounds.
 fn check_bounds<R: Abort>(rt: &R, recognised: Recognised)
     ensures { HasBounds recognised }
@@ -54,6 +66,14 @@ fn check_bounds<R: Abort>(rt: &R, recognised: Recognised)
             assert!(rt; profile <= 65_536);
             assert!(rt; least >= 2);
             assert!(rt; least <= 65_536);
+        }
+        Recognised::Sought(seeking) => {
+            assert!(rt; seeking.least >= 2);
+            assert!(rt; seeking.least <= 65_536);
+            assert!(rt; seeking.lap >= 1);
+            assert!(rt; seeking.lap <= 1 << 40);
+            assert!(rt; seeking.ahead >= 1);
+            assert!(rt; seeking.ahead <= 64);
         }
     }
 }
@@ -104,6 +124,11 @@ fn runs(rt: HostRuntime) {
     let nowhere = Recognised::Nowhere;
     let at = Recognised::At(0x10008);
     let chosen = |least| Recognised::Chosen { profile: 6, least };
+    let sought = Recognised::Sought(Seeking {
+        least: 2,
+        lap: 2,
+        ahead: 1,
+    });
     // The code, the limit and the address, and then how the run ends, its count, and how often a jump was asked for.
     for (words, limit, recognised, ended, count, asked) in [
         (EXIT_SEVEN, MOST_STEPS, nowhere, Ended::Exit(7), 3, 0),
@@ -129,6 +154,17 @@ fn runs(rt: HostRuntime) {
         (COUNTING, MOST_STEPS, chosen(3), Ended::Exit(0), 13, 0),
         (COUNTING, 7, chosen(2), Ended::Limit, 7, 1),
         (COUNTING, 5, chosen(2), Ended::Limit, 5, 0),
+        // The loop is tried from count 65,536 on, for two laps, behind which each visit can have been guessed, and 4,096 steps.
+        (
+            COUNTING_LONG,
+            MOST_STEPS,
+            sought,
+            Ended::Exit(0),
+            262_149,
+            2_050,
+        ),
+        (COUNTING_LONG, 65_550, sought, Ended::Limit, 65_550, 7),
+        (COUNTING_LONG, 65_536, sought, Ended::Limit, 65_536, 0),
     ] {
         let mut helper = Bare::new(Nothing::new());
         let settings = Settings { limit, recognised };

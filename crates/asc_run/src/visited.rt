@@ -28,7 +28,7 @@ impl Visited {
     ghost use Rattle.asc_calls.specs.World.{World, world, faults, BlamesOnly};
     ghost use Rattle.asc_traj.specs.Jump.{IsJump};
     ghost use Rattle.asc_run.specs.Execution.{device_of};
-    ghost use Rattle.asc_run.specs.Visits.{Course, is_at, with_landing};
+    ghost use Rattle.asc_run.specs.Visits.{Course, Marking, is_at, with_landing};
     ghost use Rattle.asc_run.specs.Helped.{HasRoom, Helped, Lands};
     ghost use Rattle.asc_run.specs.Seen.{SeesAll};
     ghost use Rattle.asc_run.specs.Way.{ComesUnmarked};
@@ -60,7 +60,7 @@ impl Visited {
         requires none_told { tally self.old.asked self.old.skipped self.old.hits ≡ tally 0 0 0 }
         requires room { HasRoom (2 ^ 61)
             (aid (H.tally helper.old) (H.replies helper.old) (H.plan helper.old) (H.machine helper.old)) }
-        ensures run { (mark : Course → ℕ → Bool) (start : World) → ComesUnmarked limit mark pc start
+        ensures run { (mark : Course → Marking) (start : World) → ComesUnmarked limit mark pc start
             (world self.old.process.state self.old.process.calls (I.left input.old) (O.given out.old) (E.given err.old) steps.old
             (faults (I.faults input.old) (O.faults out.old) (E.faults err.old))) self.old.process.count
             → GoesHelped limit mark start
@@ -101,7 +101,7 @@ impl Visited {
     }
 
     /// Where the program stands at `pc`, tells the helper of its state, and asks for a jump.
-    fn land<H: Finder, V: Fn(&mut H, &mut State, u64)>(
+    pub(crate) fn land<H: Finder, V: Fn(&mut H, &mut State, u64)>(
         &mut self,
         pc: Option<u32>,
         helper: &mut H,

@@ -7,6 +7,7 @@ use crate::visited::Visited;
 use asc_elf::Image;
 use asc_find::Finder;
 use asc_outside::{Memory, Sink, Source};
+use asc_seek::Seeker;
 use asc_shape::{Shape, State, Steps};
 use asc_step::Fault;
 use std::alloc::Global;
@@ -79,12 +80,15 @@ pub struct Walk {
     settings: Settings,
     /// Where the program stood in its first steps, of which an address is chosen.
     notes: Vec<(u32, u64)>,
+    /// The search for an address, where one is sought.
+    seeker: Option<Seeker>,
     ended: Option<Ended>,
 }
 
 impl Model for Walk {
     ghost use Rattle.std.specs.Prelude.{◌≡◌, ◌≤◌, ◌^◌, [], None, vec_capacity};
     ghost use Rattle.asc_run.specs.Visits.{HasBounds, noted_counts};
+    ghost use Rattle.asc_run.specs.Sought.{HasNewSeeker, HasSeeker};
     ghost use Rattle.asc_run.specs.Walk as model;
 
     ghost Value = { model.Walk };
@@ -101,9 +105,10 @@ impl Model for Walk {
     ghost invariant = { λ w. (w.settings.limit ≤ 2 ^ 40) × (w.visited.process.count ≤ w.settings.limit)
         × (w.visited.skipped ≤ w.visited.process.count) × HasBounds w.settings.recognised
         × (noted_counts w.settings.recognised ≤ vec_capacity w.notes)
+        × HasSeeker w.settings.recognised w.seeker
         × (w.ended ≡ None → model.HasNotBegun w.visited.process.count w.visited.process.calls
         × (model.tally w.visited.asked w.visited.skipped w.visited.hits ≡ model.tally 0 0 0)
-        × (w.notes.items ≡ [])) };
+        × (w.notes.items ≡ []) × HasNewSeeker w.seeker) };
 }
 
 impl Walk {
@@ -115,7 +120,8 @@ impl Walk {
     ghost use Rattle.asc_model.specs.State.{IsState};
     ghost use Rattle.asc_run.specs.Walk.{new_walk, device_in, GoesFirst, HelpsFirst};
 
-    /// A walk that has not begun. It takes the memory of one state, and of what is noted where an address is to be chosen.
+    /// A walk that has not begun. It takes the memory of one state, and of what is noted where an address is to be chosen or
+    /// sought.
     pub fn new(alloc: Global, image: &Image<'_>, settings: Settings) -> Result<Walk, Memory>
         requires limit { settings.limit ≤ 2 ^ 40 }
         requires bounds { HasBounds settings.recognised }
@@ -124,6 +130,7 @@ impl Walk {
     {
         let process = Process::new(alloc, image)?;
         let notes = Vec::with_capacity(alloc, settings.recognised.noted_counts() as usize)?;
+        let seeker = settings.recognised.seeker(alloc)?;
         Ok(Walk {
             visited: Visited {
                 process,
@@ -133,6 +140,7 @@ impl Walk {
             },
             settings,
             notes,
+            seeker,
             ended: None,
         })
     }
@@ -145,6 +153,9 @@ impl Walk {
         ensures new { IsNone self.new.ended }
     {
         self.notes.clear();
+        if let Some(seeker) = &mut self.seeker {
+            seeker.begin();
+        }
         let visited = &mut self.visited;
         visited.process.again(image);
         visited.skipped = 0;
@@ -156,8 +167,8 @@ impl Walk {
     /// Runs the program to its end, its limit, or a call in which a device fails. No allocator is handed in.
     ///
     /// Wherever the program stands at the recognised address, the helper is visited and then asked for a jump, each
-    /// once. Where the address is to be chosen, that begins when the steps are done of which it is. Where none is
-    /// recognised the helper is neither visited nor asked.
+    /// once. Where the address is to be chosen, that begins when the steps are done of which it is. Where it is sought, it
+    /// may change between two visits. Where none is recognised the helper is neither visited nor asked.
     ///
     /// A second call answers as the first did, and changes nothing, unless the walk began anew.
     pub fn go<H: Helper, I: Source, O: Sink, E: Sink, L: Ledger>(
@@ -257,6 +268,20 @@ impl Walk {
         }
         let settings = self.settings;
         let visited = &mut self.visited;
+        if let Some(seeker) = &mut self.seeker {
+            let ended = visited.seek(
+                settings.limit,
+                seeker,
+                helper,
+                visit,
+                input,
+                out,
+                err,
+                steps,
+            );
+            self.ended = Some(ended);
+            return ended;
+        }
         let process = &mut visited.process;
         let address = match process.recognise(settings, &mut self.notes, input, out, err, steps) {
             Ok(address) => address,

@@ -1,5 +1,5 @@
 -- Steps one after another: one more, and what they pass.
-use Rattle.std.proofs.Common.{◌≡◌, ◌+◌, ℕ, sym, ap, ◌∙◌, arith, inl, inr}
+use Rattle.std.proofs.Common.{◌≡◌, ◌+◌, ◌-◌, ◌≤◌, ◌<◌, ℕ, sym, ap, ◌∙◌, arith, inl, inr}
 use Rattle.std.proofs.lemmas.Bool.{cases_lt}
 use Rattle.std.specs.Prelude.{◌≢◌}
 use Rattle.asc_model.specs.State.{State}
@@ -7,7 +7,7 @@ use Rattle.asc_model.specs.Machine.{view_of}
 use Rattle.asc_model.specs.Plain.{plain}
 use Rattle.asc_model.specs.Step.{Next, At, Call, Bad, next}
 use Rattle.asc_model.proofs.PlainSteps.{plain-zero, plain_steps_join, plain-suc_next}
-use Rattle.asc_step.specs.Step.{PassesBy, stepped_of, state_after_step}
+use Rattle.asc_step.specs.Step.{Climbs, Lowers, PassesBy, stepped_of, state_after_step}
 use Rattle.asc_step.specs.declared.stepped.Stepped.{Stepped}
 use Rattle.asc_step.specs.declared.stepped.Stepped.TheVariants.{Went}
 
@@ -39,3 +39,30 @@ PassesBy-more start after pc count so_far goes past k least below last went at =
       let same : last ≡ after = same_state last after (sym went ∙ ap (λ n. plain n start) e ∙ goes) in
       past (ap (λ (s : State). (view_of s).pc) (sym same) ∙ at)
 ]
+
+abbrev pub pc_of : State → ℕ
+pc_of s = (view_of s).pc
+
+-- one step more, which does not lower the pc
+pub Climbs-more : (start before after : State) (count : ℕ) → Climbs start (count + 1) → plain count start ≡ At before
+    → plain (count + 1) start ≡ At after → pc_of before ≤ pc_of after → Climbs start (count + 1 + 1)
+Climbs-more start before after count so_far went goes up k below first last at_first at_last = elim (cases_lt k count) [
+  | inl x ↦ so_far k (omega (arith, x)) first last at_first at_last
+  | inr x ↦
+      let e : k ≡ count = omega arith in
+      let first_is : first ≡ before = same_state first before (sym at_first ∙ ap (λ n. plain n start) e ∙ went) in
+      let last_is : last ≡ after = same_state last after (sym at_last ∙ ap (λ n. plain (n + 1) start) e ∙ goes) in
+      omega (arith, up, ap pc_of first_is, ap pc_of last_is)
+]
+
+-- one step more, which lowers the pc
+pub Lowers-more : (start before after : State) (count : ℕ) → plain count start ≡ At before
+    → plain (count + 1) start ≡ At after → pc_of after < pc_of before → Lowers start (count + 1)
+Lowers-more start before after count went goes down = (
+  omega arith,
+  λ first last at_first at_last.
+      let e : count + 1 - 1 ≡ count = omega arith in
+      let first_is : first ≡ before = same_state first before (sym at_first ∙ ap (λ n. plain n start) e ∙ went) in
+      let last_is : last ≡ after = same_state last after (sym at_last ∙ goes) in
+      omega (arith, down, ap pc_of first_is, ap pc_of last_is),
+)

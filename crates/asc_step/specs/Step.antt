@@ -1,5 +1,5 @@
 -- What a step answers, and what it leaves.
-use Rattle.std.specs.Prelude.{◌≡◌, ◌≢◌, ℕ, ◌+◌, ◌≤◌, ◌<◌}
+use Rattle.std.specs.Prelude.{◌≡◌, ◌≢◌, ℕ, ◌+◌, ◌-◌, ◌≤◌, ◌<◌}
 use Rattle.asc_model.specs.State.{State}
 use Rattle.asc_model.specs.Machine.{view_of}
 use Rattle.asc_model.specs.Plain.{plain}
@@ -45,3 +45,13 @@ counted_steps (answers.Fault fault) = 0
 abbrev pub PassesBy : State → (pc count : ℕ) → Type 0
 PassesBy s pc count =
     (k : ℕ) → 0 < k → k < count → (after : State) → plain k s ≡ At after → (view_of after).pc ≢ pc
+
+-- of so many steps of a state, none but the last lowers the pc
+abbrev pub Climbs : State → (count : ℕ) → Type 0
+Climbs s count = (k : ℕ) → k + 1 < count → (before after : State) → plain k s ≡ At before → plain (k + 1) s ≡ At after
+    → (view_of before).pc ≤ (view_of after).pc
+
+-- of so many steps of a state, of which there are some, the last lowers the pc
+abbrev pub Lowers : State → (count : ℕ) → Type 0
+Lowers s count = (0 < count) × ((before after : State) → plain (count - 1) s ≡ At before → plain count s ≡ At after
+    → (view_of after).pc < (view_of before).pc)

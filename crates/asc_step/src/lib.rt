@@ -16,6 +16,6 @@ mod tests;
 mod version;
 
 pub use asc_model::{Fault, FaultKind};
-pub use many::{step_many, step_until};
+pub use many::{step_down, step_many, step_until};
 pub use stepped::Stepped;
 pub use stepping::{step, step_anew, step_settled, try_step};

@@ -1,9 +1,9 @@
 //! Many steps of a state, one after another.
-ghost use Rattle.std.specs.Prelude.{◌≡◌, ◌≢◌, ◌⊎◌, ◌+◌, ◌≤◌, ◌<◌};
+ghost use Rattle.std.specs.Prelude.{◌≡◌, ◌≢◌, ◌⊎◌, ◌+◌, ◌≤◌, ◌<◌, true, false};
 ghost use Rattle.asc_model.specs.Machine.{view_of};
 ghost use Rattle.asc_model.specs.Plain.{plain};
 ghost use Rattle.asc_model.specs.Step.{At, next};
-ghost use Rattle.asc_step.specs.Step.{PassesBy, stepped_of};
+ghost use Rattle.asc_step.specs.Step.{Climbs, Lowers, PassesBy, stepped_of};
 ghost use Rattle.asc_step.specs.declared.stepped.Stepped.TheVariants.{Went};
 
 use crate::Stepped;
@@ -16,6 +16,9 @@ struct Many;
 
 /// The loop of `step_until`.
 struct Until;
+
+/// The loop of `step_down`.
+struct Down;
 
 /// Takes steps of a state until `most` are done, or the next one would be a guest call or a fault. It answers how many
 /// were done, and what the last attempt answered: `Went` where all were.
@@ -70,4 +73,39 @@ pub fn step_until<L: Ledger>(
         }
     }
     (done, Stepped::Went)
+}
+
+/// Takes steps of a state as `step_many` does, but no further than the first one that lowers the pc. It answers how many
+/// were done, whether the last of them lowered it, and what the last attempt answered.
+#[inline(never)]
+pub fn step_down<L: Ledger>(
+    state: &mut State,
+    most: u64,
+    steps: &mut Steps<L>,
+) -> (u64, bool, Stepped)
+    ensures goes { plain result.0 state.old ≡ At state.new }
+    ensures climbs { Climbs state.old result.0 }
+    ensures down { result.1 ≡ true → Lowers state.old result.0 }
+    ensures up { result.1 ≡ false → Climbs state.old (result.0 + 1) }
+    ensures counter { steps.new ≡ steps.old + result.0 }
+    ensures most { result.0 ≤ most }
+    ensures all { result.2 ≡ Went → (result.0 ≡ most) ⊎ (result.1 ≡ true) }
+    ensures fewer { result.2 ≢ Went → result.0 < most }
+    ensures ends { result.2 ≢ Went → result.2 ≡ stepped_of (next state.new) }
+{
+    let shape = state.shape();
+    let mut done = 0;
+    let mut from = state.pc();
+    while done < most {
+        match step_of::<State, L, Down>(state, shape, steps) {
+            Stepped::Went => done += 1,
+            ended => return (done, false, ended),
+        }
+        let pc = state.pc();
+        if pc < from {
+            return (done, true, Stepped::Went);
+        }
+        from = pc;
+    }
+    (done, false, Stepped::Went)
 }

@@ -1,6 +1,6 @@
 ghost use Rattle.std.specs.Prelude.{◌≡◌, ◌<◌};
 
-use crate::{Fault, FaultKind, Stepped, step, step_many, step_until, try_step};
+use crate::{Fault, FaultKind, Stepped, step, step_down, step_many, step_until, try_step};
 use asc_shape::{Shape, State, Steps};
 use std::alloc::Global;
 use std::marker::Brand;
@@ -63,6 +63,46 @@ fn run_three<L: Ledger, R: Abort>(rt: &R, blank: Blank, state: &mut State)
         (1, Stepped::Call)
     );
     counts_four(&steps);
+}
+
+#[test]
+fn steps_back(rt: HostRuntime) {
+    // ADDI x10, x10, 1; JAL x0, -4
+    let words = [0x0015_0513, 0xFFDF_F06F];
+    let mut state = state_of(&rt, rt.alloc(), shape_at(&rt, 0x10000), 0x10000, &words);
+    run_back::<Brand, _>(&rt, Blank::new(1), &mut state);
+    // JAL x0, 0, which leads back to itself, and no lower.
+    let words = [0x0000_006F];
+    let mut state = state_of(&rt, rt.alloc(), shape_at(&rt, 0x10000), 0x10000, &words);
+    run_on::<Brand, _>(&rt, Blank::new(1), &mut state);
+}
+
+/// A loop of two steps: each second one leads back.
+fn run_back<L: Ledger, R: Abort>(rt: &R, blank: Blank, state: &mut State)
+    requires name { blank.name ≡ L.name }
+    requires parts { blank.parts ≡ L.parts }
+    requires some { 0 < L.parts }
+{
+    let mut steps = Steps::<L>::new(blank);
+    assert_eq!(rt; step_down(state, 9, &mut steps), (2, true, Stepped::Went));
+    assert_eq!(rt; step_down(state, 1, &mut steps), (1, false, Stepped::Went));
+    assert_eq!(rt; step_down(state, 1, &mut steps), (1, true, Stepped::Went));
+    assert_eq!(rt; (state.reg(10), state.pc()), (2, 0x10000));
+    // A word of zeros is no instruction.
+    state.set_pc(0x10010);
+    assert_eq!(rt;
+        step_down(state, 9, &mut steps),
+        (0, false, fault(FaultKind::Illegal, 0x10010, 0))
+    );
+}
+
+fn run_on<L: Ledger, R: Abort>(rt: &R, blank: Blank, state: &mut State)
+    requires name { blank.name ≡ L.name }
+    requires parts { blank.parts ≡ L.parts }
+    requires some { 0 < L.parts }
+{
+    let mut steps = Steps::<L>::new(blank);
+    assert_eq!(rt; step_down(state, 5, &mut steps), (5, false, Stepped::Went));
 }
 
 fn counts_four<L: Ledger>(_steps: &Steps<L>)

@@ -1,6 +1,7 @@
 //! Batches: one image over several inputs.
 use crate::images::wrap;
 use crate::outside::{Devices, QUIET, SOUND, Want, check, run_gated};
+use crate::sought::COUNTS;
 use asc_outside::Open;
 use asc_top::{Answer, Bad};
 use std::alloc::{AllocError, Global};
@@ -105,7 +106,7 @@ const DONE: Want = Want {
     ..QUIET
 };
 
-static ROWS: [Row; 15] = [
+static ROWS: [Row; 16] = [
     // What the first run has learnt holds in the second.
     Row {
         line: "asc batch image 0 1 --pc 10020 --ahead 2 --report",
@@ -130,6 +131,21 @@ static ROWS: [Row; 15] = [
             asked: 2,
             report: "asc: run 0: exit 0 after 15\n\
                 asc: executed 15 skipped 0 asked 2 hits 0 made 2 refused 0\n",
+            ..DONE
+        },
+    },
+    // Each run seeks its address anew.
+    Row {
+        line: "asc batch image 0 1 --seek --report",
+        program: COUNTS,
+        inputs: &["", ""],
+        devices: SOUND,
+        want: Want {
+            asked: 3,
+            report: "asc: run 0: exit 0 after 262149\n\
+                asc: executed 65541 skipped 196608 asked 98305 hits 98303 made 98307 refused 0\n\
+                asc: run 1: exit 0 after 262149\n\
+                asc: executed 65541 skipped 196608 asked 98305 hits 98303 made 98307 refused 0\n",
             ..DONE
         },
     },

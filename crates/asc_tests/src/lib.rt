@@ -21,6 +21,8 @@ mod saved_entries;
 #[cfg(test)]
 mod single_steps;
 #[cfg(test)]
+mod sought;
+#[cfg(test)]
 mod traces;
 #[cfg(test)]
 mod whole_runs;

@@ -134,9 +134,10 @@ pub(crate) fn check<R: Abort + Threads + Wait + Sync + Copy + Drop + Send>(
 }
 
 /// What is added to the words of a line: guesses, with two workers and without any, and the numbers.
-static GUESSING: [&str; 3] = [
+static GUESSING: [&str; 4] = [
     " --guess both --workers 2",
     " --guess both --report",
+    " --seek --report",
     " --guess both --workers 2 --report",
 ];
 

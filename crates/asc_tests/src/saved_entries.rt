@@ -40,12 +40,21 @@ const REPORTED: Row = Row {
     ..SAVED
 };
 
-static ROWS: [Row; 19] = [
+static ROWS: [Row; 20] = [
     SAVED,
     REPORTED,
     Row {
         line: "asc run image --pc 10008 --guess none --load saved --report --workers 2",
         report: "asc: executed 7 skipped 6 asked 4 hits 2 made 0 refused 0\n\
+            asc: ran 0 left 0 stored 0 known 0 empty 0 dropped 0 stopped 0 full 0\n",
+        ..SAVED
+    },
+    // The first entry alone.
+    Row {
+        line: "asc run image --pc 10008 --guess none --load saved --report --workers 2",
+        bytes: &[(16, 1)],
+        length: 176,
+        report: "asc: executed 11 skipped 2 asked 4 hits 1 made 0 refused 0\n\
             asc: ran 0 left 0 stored 0 known 0 empty 0 dropped 0 stopped 0 full 0\n",
         ..SAVED
     },

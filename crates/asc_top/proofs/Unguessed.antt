@@ -11,7 +11,8 @@ use Rattle.asc_run.specs.declared.walk.Ended.{Ended}
 use Rattle.asc_run.specs.declared.recognised.Recognised.{Recognised}
 use Rattle.asc_run.specs.declared.recognised.Recognised.TheVariants as recognised
 use Rattle.asc_run.specs.Execution.{Position, Progress, On, Off}
-use Rattle.asc_run.specs.Visits.{AreVisits, Course, Visit, goes_on_at, is_mark, profile_of, tally_of}
+use Rattle.asc_seek.specs.Seek.{watched_in}
+use Rattle.asc_run.specs.Visits.{AreVisits, Course, Visit, goes_on_at, is_mark, profile_of, tally_of, seek_at}
 use Rattle.asc_run.specs.Serial.{Task, add_guess, after_tasks, kinds_of, made_at, tasks_of, visited}
 use Rattle.asc_run.specs.Helped.{IsSerial, SerialAt}
 
@@ -82,18 +83,20 @@ and_false true = refl
 and_false false = refl
 
 -- where a run has ended there is no mark
-off_unmarked : (r : Recognised) (run : Course) (count n : ℕ) (ended : Ended) (last : Position) → run count ≡ Off n ended last → is_mark r run count ≡ false
-off_unmarked recognised.Nowhere run count n ended last is = refl
-off_unmarked (recognised.At address) run count n ended last is = ap (λ (p : Progress). goes_on_at (Some address) p) is
-off_unmarked (recognised.Chosen profile least) run count n ended last is =
+off_unmarked : (r : Recognised) (run : Course) (visits : List Visit) (count n : ℕ) (ended : Ended) (last : Position) → run count ≡ Off n ended last → is_mark r run visits count ≡ false
+off_unmarked recognised.Nowhere run visits count n ended last is = refl
+off_unmarked (recognised.At address) run visits count n ended last is = ap (λ (p : Progress). goes_on_at (Some address) p) is
+off_unmarked (recognised.Chosen profile least) run visits count n ended last is =
     ap (λ (p : Progress). nat_le profile count && goes_on_at (chosen_address (profile_of run profile) least) p) is ∙ and_false (nat_le profile count)
+off_unmarked (recognised.Sought seeking) run visits count n ended last is =
+    ap (λ (p : Progress). goes_on_at (watched_in (seek_at seeking run visits count).phase) p) is
 
 module _ (limit : ℕ) (run : Course) (address : Recognised) (first : Serial) (idle : IsIdle first) where
   pub idles : (visits : List Visit) (to : ℕ) → AreVisits limit run (is_mark address run) visits to → NoneGiven visits → Idles limit run first visits
   idles [] to are none = record { now = first; serial = (refl, refl); idle = idle }
   idles (v ∷ before) to are none = at (run v.at) refl are.1.0 (idles before v.at are.0 none.1)
     where
-      at : (stands : Progress) → run v.at ≡ stands → is_mark address run v.at ≡ true → Idles limit run first before → Idles limit run first (v ∷ before)
+      at : (stands : Progress) → run v.at ≡ stands → is_mark address run before v.at ≡ true → Idles limit run first before → Idles limit run first (v ∷ before)
       at (On p) is marked earlier =
           let number = length before + 1 in
           let now = visited number p.state earlier.now in
@@ -104,4 +107,4 @@ module _ (limit : ℕ) (run : Course) (address : Recognised) (first : Serial) (i
             serial = (earlier.now, 0, earlier.serial, (subst (λ (s : Progress). SerialAt limit number v s earlier.now now) (sym is) here, omega (arith, none_made number earlier.now earlier.idle)));
             idle = idle_now;
           }
-      at (Off count ended last) is marked earlier = let no : false ≡ true = sym (off_unmarked address run v.at count ended last is) ∙ marked in absurd (cc)
+      at (Off count ended last) is marked earlier = let no : false ≡ true = sym (off_unmarked address run before v.at count ended last is) ∙ marked in absurd (cc)

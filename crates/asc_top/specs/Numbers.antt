@@ -16,9 +16,10 @@ use Rattle.asc_run.specs.declared.walk.Ended.{Ended}
 use Rattle.asc_run.specs.declared.walk.Ended.TheVariants as ends
 use Rattle.asc_run.specs.declared.walk.Settings.{Settings}
 use Rattle.asc_run.specs.declared.recognised.Recognised.{Recognised}
-use Rattle.asc_run.specs.declared.recognised.Recognised.TheVariants.{At, Chosen, Nowhere}
+use Rattle.asc_run.specs.declared.recognised.Recognised.TheVariants.{At, Chosen, Nowhere, Sought}
+use Rattle.asc_seek.specs.declared.seeker.Seeking.{Seeking}
 use Rattle.asc_run.specs.Execution.{progress, first_position}
-use Rattle.asc_run.specs.Visits.{AreVisits, Course, Visit, is_mark, tally_of}
+use Rattle.asc_run.specs.Visits.{AreVisits, Course, Marking, Visit, is_mark, tally_of}
 use Rattle.asc_run.specs.SerialRun.{Numbers, IsSerialRun}
 use Rattle.asc_run.specs.Seen.{guesses_until}
 use Rattle.asc_run.specs.Walk.{tally}
@@ -76,12 +77,27 @@ has_visits line = line.report || has_workers line || is_some line.load
 abbrev pub keeps_entries : RunLine → Bool
 keeps_entries line = is_some line.load || (line.report && (line.last || line.stride))
 
--- the recognised address: the line's own, or, where a kind of guess is on, one that is chosen of the first steps
+-- the steps that the laps of a sought address have to have beside workers: a jump over fewer gains less than a visit takes
+abbrev pub worth_steps : ℕ
+worth_steps = 500
+
+-- what is sought, where a line has no address
+abbrev pub seeking_of : RunLine → Seeking
+seeking_of line = record {
+  least = line.least;
+  lap = if has_workers line then worth_steps else 1;
+  ahead = line.ahead;
+}
+
+-- The recognised address: the line's own, or, where a kind of guess is on, one that is sought while the run goes on, or
+-- chosen of the first steps.
 abbrev pub recognised_by : RunLine → Recognised
 recognised_by line =
     elim line.pc [
       | Some address ↦ At address
-      | None ↦ if line.last || line.stride then Chosen line.profile line.least else Nowhere
+      | None ↦ if line.last || line.stride
+          then (if line.seek then Sought (seeking_of line) else Chosen line.profile line.least)
+          else Nowhere
     ]
 
 -- how far a line's image is run, and where it is visited
@@ -133,7 +149,7 @@ numbers_of counts = record {
 
 -- These are how many visits a run has up to its limit, how many steps their jumps gave, and how many jumps there were. The
 -- visits are those that the replies leave.
-pub record AreOfVisits (limit : ℕ) (mark : ℕ → Bool) (run : Course) (counts : Counts) : Type 0 where
+pub record AreOfVisits (limit : ℕ) (mark : Marking) (run : Course) (counts : Counts) : Type 0 where
   pub visits : List Visit
   pub are : AreVisits limit run mark visits limit
   pub tally : tally_of visits (tally 0 0 0) ≡ tally counts.asked counts.skipped counts.hits

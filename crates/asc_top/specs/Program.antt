@@ -187,6 +187,7 @@ trial_run workers = record {
   lanes = 0;
   queue = 256;
   join = false;
+  seek = false;
   report = true;
   load = None;
 }

@@ -1,14 +1,19 @@
 //! How a line is run.
-ghost use Rattle.std.specs.Prelude.{◌≡◌};
+ghost use Rattle.std.specs.Prelude.{◌≡◌, if◌then◌else◌};
+ghost use Rattle.asc_run.specs.declared.recognised.Recognised.TheVariants.{Chosen, Sought};
 ghost use Rattle.asc_run.specs.Visits.{HasBounds};
 ghost use Rattle.asc_words.specs.Line.{IsRunWithin};
-ghost use Rattle.asc_top.specs.Numbers.{guessing_of, has_visits, keeps_entries, recognised_by, settings_of, visited_settings};
+ghost use Rattle.asc_top.specs.Numbers.{guessing_of, has_visits, keeps_entries, recognised_by, seeking_of, settings_of, visited_settings};
 ghost use Rattle.asc_top.specs.Workers.{crew_of};
 
 use asc_find::Guessing;
 use asc_live::Crew;
 use asc_run::{Recognised, Settings};
+use asc_seek::Seeking;
 use asc_words::RunLine;
+
+/// The steps that the laps of a sought address have to have beside workers: a jump over fewer gains less than a visit takes.
+const WORTH_STEPS: u64 = 500;
 
 /// Whether a line without workers has entries kept.
 pub(crate) fn keeps_entries(line: &RunLine) -> bool
@@ -84,10 +89,27 @@ fn recognised_by(line: &RunLine) -> Recognised
 {
     match line.pc {
         Some(address) => Recognised::At(address),
-        None if line.last || line.stride => Recognised::Chosen {
-            profile: line.profile,
-            least: line.least,
-        },
+        None if line.last || line.stride => sought_or_chosen(line),
         None => Recognised::Nowhere,
+    }
+}
+
+/// How a line that gives no address has one recognised.
+fn sought_or_chosen(line: &RunLine) -> Recognised
+    requires { IsRunWithin line.now }
+    ensures recognised { result ≡ (if line.now.seek then Sought (seeking_of line.now)
+        else Chosen line.now.profile line.now.least) }
+    ensures bounds { HasBounds result }
+{
+    if line.seek {
+        return Recognised::Sought(Seeking {
+            least: line.least,
+            lap: if line.workers > 0 { WORTH_STEPS } else { 1 },
+            ahead: line.ahead,
+        });
+    }
+    Recognised::Chosen {
+        profile: line.profile,
+        least: line.least,
     }
 }

@@ -175,6 +175,7 @@ fn trial_run(alloc: Global, workers: usize) -> RunLine
         lanes: 0,
         queue: 256,
         join: false,
+        seek: false,
         report: true,
         load: None,
     }

@@ -144,6 +144,9 @@ guess = filled (text_with_default (codes "guess") (codes "stride"))
 abbrev join : Rule
 join = filled (flag (codes "join"))
 
+abbrev seek : Rule
+seek = filled (flag (codes "seek"))
+
 abbrev rounds : Rule
 rounds = filled rounds_flag
 
@@ -182,6 +185,7 @@ module _ (s : Shape) (more : List Rule) (shared : s.rules ≡ built_save.rules +
     ahead = shared_number (codes "ahead") 1 64 (codes "4") refl;
     queue = shared_number (codes "queue") 1 1024 (codes "256") refl;
     join = has_flag join (rows_found s words) refl (of_default s once options distinct words level join (rule_is (codes "join") _ refl) refl);
+    seek = has_flag seek (rows_found s words) refl (of_default s once options distinct words level seek (rule_is (codes "seek") _ refl) refl);
   }
 
 run_options : AreOptions built_run.rules

@@ -57,6 +57,7 @@ shared_arguments =
     ∷ number_option (codes "ahead") 1 64 (codes "4")
     ∷ number_option (codes "queue") 1 1024 (codes "256")
     ∷ flag (codes "join")
+    ∷ flag (codes "seek")
     ∷ []
 
 -- what `asc run` takes: workers, rounds, a file of saved entries and a report besides

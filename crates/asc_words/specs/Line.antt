@@ -94,6 +94,7 @@ shared_with rows guesses pc = record {
   lanes = 0;
   queue = number_in (codes "queue") rows;
   join = flag_in (codes "join") rows;
+  seek = flag_in (codes "seek") rows;
   report = false;
   load = None;
 }

@@ -44,6 +44,7 @@ pub record HasShared (rows : List Row) : Type 0 where
   pub ahead : HasNumber (codes "ahead") 1 64 rows
   pub queue : HasNumber (codes "queue") 1 1024 rows
   pub join : HasFlag (codes "join") rows
+  pub seek : HasFlag (codes "seek") rows
 
 -- what `asc run` takes has its values
 pub record IsRun (rows : List Row) : Type 0 where

@@ -58,7 +58,8 @@ fn shared_command<'a>(alloc: Global, name: &'a str) -> Result<Command<'a>, Alloc
         .arg(number(alloc, "span", 1, 1_000_000_000, "1000000"))?
         .arg(number(alloc, "ahead", 1, 64, "4"))?
         .arg(number(alloc, "queue", 1, 1024, "256"))?
-        .arg(flag(alloc, "join"))
+        .arg(flag(alloc, "join"))?
+        .arg(flag(alloc, "seek"))
 }
 
 /// `asc make`.

@@ -85,6 +85,8 @@ pub struct RunLine {
     pub queue: usize,
     /// Whether the entry of a guess is also joined with an earlier one that it may follow.
     pub join: bool,
+    /// Whether the recognised address is sought while the run goes on, where none is given.
+    pub seek: bool,
     /// Whether the numbers of the run are reported.
     pub report: bool,
     /// The file of saved entries that is loaded before the run.
@@ -293,6 +295,7 @@ fn shared_line(alloc: Global, found: &ArgMatches<'_>) -> Result<RunLine, LineFau
         lanes: 0,
         queue: number(found, "queue") as usize,
         join: flag(found, "join"),
+        seek: flag(found, "seek"),
         report: false,
         load: None,
     })

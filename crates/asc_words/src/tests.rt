@@ -127,7 +127,7 @@ static LINES: [(&str, &str); 87] = [
 ];
 
 /// The same of options that say how guesses are made and followed.
-static GUESS_LINES: [(&str, &str); 59] = [
+static GUESS_LINES: [(&str, &str); 66] = [
     // which guesses are made
     ("asc run a --guess none", "a 1024 1099511627776 2 none"),
     ("asc run a --guess last", "a 1024 1099511627776 2 last"),
@@ -217,6 +217,17 @@ static GUESS_LINES: [(&str, &str); 59] = [
     ("asc save i --join=1", "refused"),
     ("asc make 0 --join", "refused"),
     ("asc trial 0 --join", "refused"),
+    // whether the address is sought: a flag, on a run, on a save, and on a batch
+    ("asc run a --seek", "a 1024 1099511627776 2 seek"),
+    (
+        "asc run --seek a --pc 1f --join --workers 2",
+        "a 1024 1099511627776 2 pc 31 workers 2 seek join",
+    ),
+    ("asc save i --seek", "save i 1024 1099511627776 2 seek"),
+    ("asc run a --seek --seek", "refused"),
+    ("asc run a --seek=1", "refused"),
+    ("asc make 0 --seek", "refused"),
+    ("asc trial 0 --seek", "refused"),
 ];
 
 /// The same of saved entries, of other subcommands, and of help.
@@ -297,7 +308,7 @@ static OTHER_LINES: [(&str, &str); 57] = [
 
 // The same of batches: words, how many inputs named `x` stand behind them, and what they mean. The inputs are told by their
 // number and by those of other names.
-static BATCH_LINES: [(&str, usize, &str); 15] = [
+static BATCH_LINES: [(&str, usize, &str); 16] = [
     // the inputs in their order, and options between them
     (
         "asc batch i a b c",
@@ -318,6 +329,11 @@ static BATCH_LINES: [(&str, usize, &str); 15] = [
         "asc batch i a --join --pc 1f -- --report b",
         0,
         "batch i 1024 1099511627776 2 pc 31 join of 3 a --report b",
+    ),
+    (
+        "asc batch i a --seek",
+        0,
+        "batch i 1024 1099511627776 2 seek of 1 a",
     ),
     // none, as many as may be, and one more
     ("asc batch", 0, "refused"),
@@ -373,6 +389,9 @@ fn run_text(alloc: Global, line: &RunLine) -> Result<String, AllocError> {
         if number != default {
             meaning.push_str(format!(in alloc; " {name} {number}")?.as_str())?;
         }
+    }
+    if line.seek {
+        meaning.push_str(" seek")?;
     }
     if line.join {
         meaning.push_str(" join")?;

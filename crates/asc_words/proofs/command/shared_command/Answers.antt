@@ -17,4 +17,5 @@ returns c =
     let ten = with_arg _ _ _ _ _ nine c.in_ok-arg-10.ensures c.number-7.ensures.rule c.number-7.ensures.local in
     let eleven = with_arg _ _ _ _ _ ten c.in_ok-arg-11.ensures c.number-8.ensures.rule c.number-8.ensures.local in
     let twelve = with_arg _ _ _ _ _ eleven c.in_ok-arg-12.ensures c.number-9.ensures.rule c.number-9.ensures.local in
-    IfOk-weaker c.arg-13.result _ _ (λ new adds. with_arg _ new _ _ _ twelve adds c.flag.ensures.rule c.flag.ensures.local) c.arg-13.ensures
+    let thirteen = with_arg _ _ _ _ _ twelve c.in_ok-arg-13.ensures c.flag.ensures.rule c.flag.ensures.local in
+    IfOk-weaker c.arg-14.result _ _ (λ new adds. with_arg _ new _ _ _ thirteen adds c.flag-2.ensures.rule c.flag-2.ensures.local) c.arg-14.ensures

@@ -31,6 +31,9 @@ unwrap-requires-2 c =
 pub flag-requires : goal.flag-requires
 flag-requires c = c.requires.join
 
+pub flag-requires-2 : goal.flag-requires-2
+flag-requires-2 c = c.requires.seek
+
 pub returns-clause-line : goal.returns-clause-line
 returns-clause-line c =
     let found = found_of c.args.found.now in
@@ -45,9 +48,9 @@ returns-clause-line c =
     let text = c.in_ok-from_str.ensures.ok in
     let image : c.new.result ≡ text_in (codes "image") rows = cc (text, name, c.new.ensures) in
     let version : c.version_numbered.result ≡ version_numbered (number_in (codes "machine") rows) = c.version_numbered.ensures ∙ ap version_numbered c.number-3.ensures in
-    let made : record { image = c.new.result; memory = c.number.result; limit = c.number-2.result; version = c.version_numbered.result; last = c.in_ok-guesses.guesses.last; stride = c.in_ok-guesses.guesses.stride; pc = c.in_ok-pc.pc; profile = c.number-4.result; least = c.number-5.result; laps = c.number-6.result; span = c.number-7.result; ahead = c.number-8.result; workers = 0; lanes = 0; queue = c.number-9.result; join = c.flag.result; report = false; load = None }
+    let made : record { image = c.new.result; memory = c.number.result; limit = c.number-2.result; version = c.version_numbered.result; last = c.in_ok-guesses.guesses.last; stride = c.in_ok-guesses.guesses.stride; pc = c.in_ok-pc.pc; profile = c.number-4.result; least = c.number-5.result; laps = c.number-6.result; span = c.number-7.result; ahead = c.number-8.result; workers = 0; lanes = 0; queue = c.number-9.result; join = c.flag.result; seek = c.flag-2.result; report = false; load = None }
     ≡ shared_with rows c.in_ok-guesses.guesses c.in_ok-pc.pc =
-    λ i. record { image = image i; memory = c.number.ensures i; limit = c.number-2.ensures i; version = version i; last = c.in_ok-guesses.guesses.last; stride = c.in_ok-guesses.guesses.stride; pc = c.in_ok-pc.pc; profile = c.number-4.ensures i; least = c.number-5.ensures i; laps = c.number-6.ensures i; span = c.number-7.ensures i; ahead = c.number-8.ensures i; workers = 0; lanes = 0; queue = c.number-9.ensures i; join = c.flag.ensures i; report = false; load = None } in
+    λ i. record { image = image i; memory = c.number.ensures i; limit = c.number-2.ensures i; version = version i; last = c.in_ok-guesses.guesses.last; stride = c.in_ok-guesses.guesses.stride; pc = c.in_ok-pc.pc; profile = c.number-4.ensures i; least = c.number-5.ensures i; laps = c.number-6.ensures i; span = c.number-7.ensures i; ahead = c.number-8.ensures i; workers = 0; lanes = 0; queue = c.number-9.ensures i; join = c.flag.ensures i; seek = c.flag-2.ensures i; report = false; load = None } in
     ap (λ (g : Result Guesses Bad). shared_at rows g (address_of (first_of (codes "pc") rows))) guesses
     ∙ ap (shared_at rows (Ok c.in_ok-guesses.guesses)) address ∙ ap (λ (line : RunLine). Ok line) (sym made)
 

@@ -1,7 +1,7 @@
 -- Where the program has come from a start as plain execution does, it has come on so, with the visits so far.
-use Rattle.std.proofs.Common.{◌≡◌, ◌+◌, ◌-◌, ◌≤◌, ℕ, Bool, IsNone}
+use Rattle.std.proofs.Common.{◌≡◌, ◌+◌, ◌-◌, ◌≤◌, IsNone}
 use Rattle.asc_calls.specs.World.{World, world, faults}
-use Rattle.asc_run.specs.Visits.{Course}
+use Rattle.asc_run.specs.Visits.{Course, Marking}
 use Rattle.asc_run.specs.Helped.{aid, Plans}
 use Rattle.asc_run.specs.Seen.{SeesAll}
 use Rattle.asc_run.specs.Way.{ComesUnmarked}
@@ -10,7 +10,7 @@ use Rattle.asc_run.proofs.visited.Visited.run.Given as goal
 
 abbrev pub invariant-loop-self : goal.invariant-loop-self
 invariant-loop-self g l = record {
-  walk : (mark : Course → ℕ → Bool) (start : World)
+  walk : (mark : Course → Marking) (start : World)
       → ComesUnmarked l.limit mark l.pc start (world l.fn.self.process.state l.fn.self.process.calls (g.I.Source.left l.fn.input) (g.O.Sink.given l.fn.out) (g.E.Sink.given l.fn.err) l.fn.steps
       (faults (g.I.Source.faults l.fn.input) (g.O.Sink.faults l.fn.out) (g.E.Sink.faults l.fn.err))) l.fn.self.process.count
       → WalksOn l.limit mark l.pc l.fn.self.process.count start

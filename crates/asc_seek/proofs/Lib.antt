@@ -1,0 +1,4 @@
+pub mod Along
+mod Candidates
+mod Searched
+mod Tables

@@ -1,0 +1,29 @@
+-- A search of the tests, and how far the run has come.
+use Rattle.std.proofs.Common.{◌≡◌, ℕ, ◌+◌, ◌^◌, ◌≤◌, false, Option, refl, sym, subst, arith}
+use Rattle.asc_seek.specs.declared.seeker.Seeking.{Seeking}
+use Rattle.asc_seek.specs.Heads.{AreEarlier, no_heads}
+use Rattle.asc_seek.specs.Seek.{IsBehind, Seek, is_over, new_seek, seek_turn, seek_visit}
+use Rattle.asc_seek.proofs.Along.{AreEarlier-later, AreEarlier-seek_turn, seek_visit-is}
+use Rattle.asc_seek.proofs.Tables.{empty}
+
+abbrev pub IsSearched : ℕ → Seek → Type 0
+IsSearched count m = (IsBehind count m) × (is_over count m ≡ false) × (AreEarlier (count + 1) m.table) × (count ≤ 2 ^ 41)
+
+pub IsSearched-new_seek : (s : Seeking) (m : Seek) → m ≡ new_seek s → IsSearched 0 m
+IsSearched-new_seek s m is = subst (IsSearched 0) (sym is) (omega arith, refl, (empty no_heads refl).early 1, omega arith)
+
+pub IsSearched-seek_turn : (before count : ℕ) (m now : Seek) → now ≡ seek_turn count m → AreEarlier (before + 1) m.table
+    → before ≤ count → count ≤ 2 ^ 41 → IsBehind count now → is_over count now ≡ false → IsSearched count now
+IsSearched-seek_turn before count m now is early le most behind goes_on = (
+  behind,
+  goes_on,
+  subst (λ (n : Seek). AreEarlier (count + 1) n.table) (sym is)
+      (AreEarlier-later (before + 1) (count + 1) (seek_turn count m).table (omega arith) (AreEarlier-seek_turn (before + 1) count m early)),
+  most,
+)
+
+pub AreEarlier-seek_visit : (bound at : ℕ) (reply : Option ℕ) (m now : Seek) → now ≡ seek_visit at reply m → AreEarlier bound m.table
+    → AreEarlier bound now.table
+AreEarlier-seek_visit bound at reply m now is early =
+    subst (λ (n : Seek). AreEarlier bound n.table) (sym is)
+    (subst (λ (n : Seek). AreEarlier bound n.table) (sym (seek_visit-is at reply m)) early)

@@ -1,0 +1,12 @@
+-- The visit and the turn keep the heads, or take all out.
+use Rattle.std.proofs.Common.{◌+◌, arith}
+use Rattle.asc_seek.proofs.Searched.{AreEarlier-seek_visit, IsSearched-seek_turn}
+use Rattle.asc_seek.proofs.tests.Searched.visit.Goals as goal
+
+pub invariant_of-self : goal.invariant_of-self
+invariant_of-self g c =
+    let at = c.self.inside.count in
+    let count = at + c.unwrap_or-steps.result in
+    let early = AreEarlier-seek_visit (at + 1) at c.args.jumped c.self.inside.seeker c.visit.new.self c.visit.ensures.seek c.self.invariant.2 in
+    IsSearched-seek_turn at count c.visit.new.self c.turn.new.self c.turn.ensures.seek
+    early (omega arith) (omega arith) c.turn.ensures.behind c.turn.ensures.going

@@ -1,0 +1,247 @@
+-- A run that seeks the address at which it is visited.
+use Rattle.std.specs.Prelude.{ℕ, zero, suc, ◌+◌, ◌-◌, ◌*◌, ◌/◌, ◌^◌, ◌≤◌, max, Bool, true, nat_lt, nat_le, ◌==◌, ◌&&◌, List, fold, Option, Some, None, if◌then◌else◌}
+use Rattle.asc_seek.specs.declared.heads.Head.{Head}
+use Rattle.asc_seek.specs.declared.seeker.Seeking.{Seeking}
+use Rattle.asc_seek.specs.declared.seeker.Scored.{Scored}
+use Rattle.asc_seek.specs.declared.seeker.Trial.{Trial}
+use Rattle.asc_seek.specs.declared.seeker.Service.{Service}
+use Rattle.asc_seek.specs.declared.seeker.Phase.{Phase}
+use Rattle.asc_seek.specs.declared.seeker.Phase.TheVariants as phase
+use Rattle.asc_seek.specs.Heads.{Path, comes_before, heads_of, lap_of, no_heads}
+
+-- what is sought has bounds
+pub record IsSeeking (s : Seeking) : Type 0 where
+  pub least : 2 ≤ s.least
+  pub most : s.least ≤ 65536
+  pub lap : 1 ≤ s.lap
+  pub long : s.lap ≤ 2 ^ 40
+  pub ahead : 1 ≤ s.ahead
+  pub far : s.ahead ≤ 64
+
+-- the steps of the first stretch, and the least that an address is kept or a rest lasts
+abbrev pub first_stretch : ℕ
+first_stretch = 65536
+
+-- no further head is tried once the trials of a search took so many stretches
+abbrev pub tried_stretches : ℕ
+tried_stretches = 8
+
+-- of a thousand steps, how many have to be jumped over for an address to be kept, and for one to be kept at once
+abbrev pub kept_score : ℕ
+kept_score = 250
+
+abbrev pub sure_score : ℕ
+sure_score = 900
+
+-- how many times as many steps as all searches took a run has to have come, before it searches anew
+abbrev pub rest_ratio : ℕ
+rest_ratio = 8
+
+-- how long a trial is scored: so many laps, and at least this part of the stretch
+abbrev pub scored_steps : (lap stretch : ℕ) → ℕ
+scored_steps lap stretch = max (12 * lap) (stretch / 4)
+
+-- how long it is tried where no step is jumped over
+abbrev pub hopeless_steps : (lap stretch : ℕ) → ℕ
+hopeless_steps lap stretch = max (4 * lap) (stretch / 16)
+
+-- how long an address is kept before it is looked at
+abbrev pub looked_steps : (lap : ℕ) → ℕ
+looked_steps lap = max (64 * lap) first_stretch
+
+-- the count from which on each visit can have been guessed, where an address was new at this count
+abbrev pub reached_from : Seeking → (from lap : ℕ) → ℕ
+reached_from s from lap = from + (s.ahead + 1) * lap
+
+pub record Seek : Type 0 where
+  pub seeking : Seeking
+  -- since which count it searches, and how long its stretch is
+  pub since : ℕ
+  pub stretch : ℕ
+  -- how many steps all searches took that have ended
+  pub spent : ℕ
+  -- the heads of the stretch
+  pub table : List (Option Head)
+  -- the best that was tried of those that may be kept
+  pub best : Option Scored
+  pub phase : Phase
+
+-- before the first step
+abbrev pub new_seek : Seeking → Seek
+new_seek seeking = record {
+  seeking = seeking;
+  since = 0;
+  stretch = first_stretch;
+  spent = 0;
+  table = no_heads;
+  best = None;
+  phase = phase.Profile;
+}
+
+-- the address at which the run is visited
+abbrev pub watched_in : Phase → Option ℕ
+watched_in phase.Profile = None
+watched_in (phase.Trial t) = Some t.head.address
+watched_in (phase.Service s) = s.address
+
+-- ---- visits
+
+-- the steps that a visit jumped over
+abbrev pub steps_of : (reply : Option ℕ) → ℕ
+steps_of None = 0
+steps_of (Some n) = n
+
+-- what counts of a visit: the steps that it jumped over from that count on
+abbrev pub given_at : (reached at : ℕ) → (reply : Option ℕ) → ℕ
+given_at reached at reply = at + steps_of reply - max at reached
+
+abbrev pub visit_in : Seeking → (at : ℕ) → (reply : Option ℕ) → Phase → Phase
+visit_in s at reply phase.Profile = phase.Profile
+visit_in s at reply (phase.Trial t) =
+    phase.Trial (record t { given = t.given + given_at (reached_from s t.from (lap_of t.head)) at reply })
+visit_in s at reply (phase.Service v) =
+    phase.Service (record v { given = v.given + given_at (reached_from s v.from v.lap) at reply })
+
+-- behind a visit at a count
+unfoldable pub seek_visit : (at : ℕ) → (reply : Option ℕ) → Seek → Seek
+seek_visit at reply m = record m { phase = visit_in m.seeking at reply m.phase }
+
+-- ---- what is tried next
+
+-- whether a head may be tried: it was met often enough, and its laps are long enough
+abbrev pub is_candidate : Seeking → Head → Bool
+is_candidate s h = nat_le s.least h.times && nat_le s.lap (lap_of h)
+
+-- whether a head comes behind one that was tried
+abbrev pub is_behind : (tried : Option Head) → Head → Bool
+is_behind None h = true
+is_behind (Some t) h = comes_before t h
+
+-- the first of a head and of another, where there is one
+abbrev pub first_with : Option Head → Head → Head
+first_with None h = h
+first_with (Some other) h = if comes_before h other then h else other
+
+-- the first candidate so far, with what stands at one more place of a table
+abbrev pub first_candidate : Seeking → (tried : Option Head) → (so_far met : Option Head) → Option Head
+first_candidate s tried so_far None = so_far
+first_candidate s tried so_far (Some h) =
+    if is_candidate s h && is_behind tried h then Some (first_with so_far h) else so_far
+
+-- the first of the candidates in a table that come behind one that was tried
+abbrev pub candidate_behind : Seeking → (tried : Option Head) → List (Option Head) → Option Head
+candidate_behind s tried table = fold (first_candidate s tried) None table
+
+-- the same, at a count up to which heads are tried
+abbrev pub next_candidate : (count : ℕ) → (tried : Option Head) → Seek → Option Head
+next_candidate count tried m =
+    if nat_lt count (m.since + (1 + tried_stretches) * m.stretch) then candidate_behind m.seeking tried m.table else None
+
+-- a head is tried from a count on
+abbrev pub trying : (count : ℕ) → Head → Seek → Seek
+trying count h m = record m { phase = phase.Trial (record { head = h; from = count; given = 0 }) }
+
+-- the best address is kept from a count on, or there is a rest
+abbrev pub serving : (count : ℕ) → Option Scored → (spent : ℕ) → Service
+serving count (Some b) spent = record {
+  address = Some b.address;
+  lap = b.lap;
+  from = count;
+  given = 0;
+  until = max (rest_ratio * spent) (count + looked_steps b.lap);
+}
+serving count None spent = record {
+  address = None;
+  lap = 0;
+  from = count;
+  given = 0;
+  until = max (rest_ratio * spent) (count + looked_steps 0);
+}
+
+-- a search ends at a count
+abbrev pub settled : (count : ℕ) → Seek → Seek
+settled count m = let spent = m.spent + (count - m.since) in
+    record m { spent = spent; phase = phase.Service (serving count m.best spent) }
+
+-- the candidate behind one that was tried is tried, if there is one
+abbrev pub try_next : (count : ℕ) → (tried : Option Head) → Seek → Seek
+try_next count tried m = elim (next_candidate count tried m) [
+  | Some h ↦ trying count h m
+  | None ↦ settled count m
+]
+
+-- ---- the end of a phase
+
+-- at which count a trial is over
+abbrev pub trial_end : Seeking → (stretch : ℕ) → Trial → ℕ
+trial_end s stretch t = let lap = lap_of t.head in reached_from s t.from lap
+    + (if t.given == 0 then hopeless_steps lap stretch else scored_steps lap stretch)
+
+-- at which count a phase is over
+abbrev pub end_in : Seek → Phase → ℕ
+end_in m phase.Profile = m.since + m.stretch
+end_in m (phase.Trial t) = trial_end m.seeking m.stretch t
+end_in m (phase.Service v) = v.until
+
+abbrev pub is_over : (count : ℕ) → Seek → Bool
+is_over count m = nat_le (end_in m m.phase) count
+
+-- how many of a thousand steps a trial that ends at a count jumped over, from where each visit can have been guessed
+abbrev pub score_at : Seeking → (count : ℕ) → Trial → ℕ
+score_at s count t = 1000 * t.given / (count - reached_from s t.from (lap_of t.head))
+
+-- the best with a head of this score: it has to be better than the others, and good enough to be kept
+abbrev pub best_with : Head → (score : ℕ) → Option Scored → Option Scored
+best_with h score best =
+    if nat_lt (elim best [ Some b ↦ b.score | None ↦ kept_score - 1 ]) score
+    then Some (record { address = h.address; lap = lap_of h; score = score })
+    else best
+
+-- whether a kept address pays at a count: of the steps since it was kept, from where each visit can have been guessed,
+-- three quarters were jumped over
+abbrev pub pays : Seeking → (count : ℕ) → Service → Bool
+pays s count v = nat_le (3 * (count - reached_from s v.from v.lap)) (4 * v.given)
+
+-- a search begins at a count, with a stretch that is twice as long
+abbrev pub searching : (count : ℕ) → Seek → Seek
+searching count m =
+    record m { since = count; stretch = 2 * m.stretch; table = no_heads; phase = phase.Profile }
+
+-- the phase behind one that ends at a count
+abbrev pub turn_from : (count : ℕ) → Seek → Phase → Seek
+turn_from count m phase.Profile = try_next count None (record m { best = None })
+turn_from count m (phase.Trial t) = let score = score_at m.seeking count t in
+    let scored = record m { best = best_with t.head score m.best } in
+    if nat_le sure_score score then settled count scored else try_next count (Some t.head) scored
+turn_from count m (phase.Service v) = if pays m.seeking count v
+    then record m { phase = phase.Service (record v { until = count + looked_steps v.lap }) }
+    else searching count m
+
+-- at a count: where its phase is over, it goes on to the next
+unfoldable pub seek_turn : (count : ℕ) → Seek → Seek
+seek_turn count m = if is_over count m then turn_from count m m.phase else m
+
+-- a count is not before a phase began, nor before what was jumped over in it
+abbrev pub IsBehindIn : (count : ℕ) → Seek → Phase → Type 0
+IsBehindIn count m phase.Profile = m.since ≤ count
+IsBehindIn count m (phase.Trial t) = t.from + t.given ≤ count
+IsBehindIn count m (phase.Service v) = v.from + v.given ≤ count
+
+abbrev pub IsBehind : (count : ℕ) → Seek → Type 0
+IsBehind count m = IsBehindIn count m m.phase
+
+-- ---- along a path
+
+-- with the heads of the path since the search began, while they are noted
+abbrev pub profiled : Path → (count : ℕ) → Seek → Phase → Seek
+profiled path count m phase.Profile = record m { table = heads_of path m.since (count - m.since) }
+profiled path count m (phase.Trial t) = m
+profiled path count m (phase.Service v) = m
+
+-- So many steps behind a count, none of which is a visit. At each count a phase that is over ends.
+unfoldable pub seek_along : Path → (from steps : ℕ) → Seek → Seek
+seek_along path from zero m = seek_turn from (profiled path from m m.phase)
+seek_along path from (suc n) m =
+    let before = seek_along path from n m in
+    let count = from + suc n in
+    seek_turn count (profiled path count before before.phase)

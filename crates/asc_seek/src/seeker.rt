@@ -1,0 +1,471 @@
+//! A search for the address at which a run is visited.
+ghost use Rattle.std.specs.Prelude.{◌≡◌, ◌+◌, ◌*◌, ◌<◌, ◌≤◌, ◌^◌, max, ℕ, None, Some, true, false, IfOk};
+ghost use Rattle.asc_seek.specs.Heads.{AreEarlier, no_heads, note};
+ghost use Rattle.asc_seek.specs.Inside.{HasLaps, HasShortLap, MayFollow};
+ghost use Rattle.asc_seek.specs.Seek.{IsBehind, IsSeeking, candidate_behind, end_in, first_candidate, first_stretch, given_at, is_candidate, is_over, looked_steps, new_seek, next_candidate, pays, reached_from, score_at, seek_turn, seek_visit, serving, settled, steps_of, trial_end, turn_from, try_next, watched_in};
+
+use crate::heads::{Head, clear, no_heads, note};
+use std::alloc::{AllocError, Global};
+use std::marker::Model;
+
+/// The steps of the first stretch, and the least that an address is kept or a rest lasts.
+const FIRST_STRETCH: u64 = 65_536;
+
+/// No further head is tried once the trials of a search took so many stretches.
+const TRIED_STRETCHES: u64 = 8;
+
+/// Of a thousand steps, how many have to be jumped over for an address to be kept.
+const KEPT_SCORE: u64 = 250;
+
+/// Of a thousand steps, how many have to be jumped over for an address to be kept at once.
+const SURE_SCORE: u64 = 900;
+
+/// How many times as many steps as all searches took a run has to have come, before it searches anew.
+const REST_RATIO: u64 = 8;
+
+/// What is sought.
+#[derive(Clone, Copy, Debug, PartialEq, Eq)]
+pub struct Seeking {
+    /// How often a step has to lead back to an address in a stretch: 2 to 65,536.
+    pub least: u32,
+    /// How many steps a lap has to have on average: 1 to 2^40.
+    pub lap: u64,
+    /// How many visits ahead are guessed: 1 to 64.
+    pub ahead: u32,
+}
+
+impl Seeking {
+    // The count from which on each visit can have been guessed, where an address was new at this count.
+    fn reached_from(&self, from: u64, lap: u64) -> u64
+        requires ahead { self.now.ahead ≤ 64 }
+        requires from { from ≤ 2 ^ 41 }
+        requires lap { lap ≤ 2 ^ 41 }
+        ensures { result ≡ reached_from self.now from lap }
+    {
+        from + (u64::from(self.ahead) + 1) * lap
+    }
+}
+
+/// An address that was tried, and how well it did.
+#[derive(Clone, Copy, Debug, PartialEq, Eq)]
+pub struct Scored {
+    /// The address.
+    pub address: u32,
+    /// The steps of its laps on average.
+    pub lap: u64,
+    /// How many of a thousand steps were jumped over.
+    pub score: u64,
+}
+
+/// A head that is tried.
+#[derive(Clone, Copy, Debug, PartialEq, Eq)]
+pub struct Trial {
+    /// The head.
+    pub head: Head,
+    /// Since which count of steps.
+    pub from: u64,
+    /// How many steps were jumped over from where each visit can have been guessed.
+    pub given: u64,
+}
+
+/// An address that is kept, or a rest.
+#[derive(Clone, Copy, Debug, PartialEq, Eq)]
+pub struct Service {
+    /// The address: none in a rest.
+    pub address: Option<u32>,
+    /// The steps of its laps on average.
+    pub lap: u64,
+    /// Since which count of steps.
+    pub from: u64,
+    /// How many steps were jumped over from where each visit can have been guessed.
+    pub given: u64,
+    /// At which count it is looked at whether it pays, or the rest ends.
+    pub until: u64,
+}
+
+/// What a search does.
+#[derive(Clone, Copy, Debug, PartialEq, Eq)]
+pub enum Phase {
+    /// It notes the heads of a stretch. Nothing is visited.
+    Profile,
+    /// A head is tried.
+    Trial(Trial),
+    /// The best is kept for a while, or none is.
+    Service(Service),
+}
+
+/// A search for the address at which a run is visited.
+///
+/// Contracts see it as the `Seek` of `specs/`.
+#[derive(Drop)]
+pub struct Seeker {
+    seeking: Seeking,
+    since: u64,
+    stretch: u64,
+    spent: u64,
+    table: Vec<Option<Head>>,
+    best: Option<Scored>,
+    phase: Phase,
+}
+
+impl Model for Seeker {
+    ghost use Rattle.asc_seek.specs.Seek as model;
+    ghost use Rattle.asc_seek.specs.Inside.{IsSeek};
+
+    ghost Value = { model.Seek };
+
+    ghost view = { λ s. record {
+      seeking = s.seeking;
+      since = s.since;
+      stretch = s.stretch;
+      spent = s.spent;
+      table = s.table.items;
+      best = s.best;
+      phase = s.phase;
+    } };
+
+    ghost invariant = { λ s. IsSeek (record {
+      seeking = s.seeking;
+      since = s.since;
+      stretch = s.stretch;
+      spent = s.spent;
+      table = s.table.items;
+      best = s.best;
+      phase = s.phase;
+    }) };
+}
+
+impl Seeker {
+    /// A search that begins with the first step. All memory that it needs is taken here.
+    pub fn new(alloc: Global, seeking: Seeking) -> Result<Seeker, AllocError>
+        requires { IsSeeking seeking }
+        ensures { IfOk result (λ seeker. seeker ≡ new_seek seeking) }
+    {
+        Ok(Seeker {
+            seeking,
+            since: 0,
+            stretch: FIRST_STRETCH,
+            spent: 0,
+            table: no_heads(alloc)?,
+            best: None,
+            phase: Phase::Profile,
+        })
+    }
+
+    /// Begins anew, with the first step.
+    pub fn begin(&mut self)
+        ensures { self.new ≡ new_seek self.old.seeking }
+    {
+        self.spent = 0;
+        self.search_from(0, FIRST_STRETCH);
+        self.best = None;
+    }
+
+    /// The address at which the run is visited.
+    pub fn watched(&self) -> Option<u32>
+        ensures { result ≡ watched_in self.now.phase }
+    {
+        match self.phase {
+            Phase::Profile => None,
+            Phase::Trial(trial) => Some(trial.head.address),
+            Phase::Service(service) => service.address,
+        }
+    }
+
+    /// Whether the addresses are noted that steps lead back to.
+    pub fn notes(&self) -> bool
+        ensures { (result ≡ true → self.now.phase ≡ Phase.Profile) × (self.now.phase ≡ Phase.Profile → result ≡ true) }
+    {
+        matches!(self.phase, Phase::Profile)
+    }
+
+    /// At which count of steps its phase is over. A visit may move that.
+    pub fn end(&self) -> u64
+        ensures { result ≡ end_in self.now self.now.phase }
+    {
+        match self.phase {
+            Phase::Profile => self.since + self.stretch,
+            Phase::Trial(trial) => trial.end(self.seeking, self.stretch),
+            Phase::Service(service) => service.until,
+        }
+    }
+
+    /// Notes that a step led back to an address, while heads are noted. Its count comes behind those that were noted
+    /// before.
+    pub fn note(&mut self, address: u32, count: u64)
+        requires phase { self.old.phase ≡ Phase.Profile }
+        requires earlier { AreEarlier count self.old.table }
+        requires count { (1 ≤ count) × (count ≤ 2 ^ 41) }
+        ensures seek { self.new ≡ record self.old { table = note count (Some address) self.old.table } }
+        ensures earlier { AreEarlier (count + 1) self.new.table }
+    {
+        note(self.table.as_mut_slice(), address, count);
+    }
+
+    /// Learns of a visit at a count, and of how many steps it jumped over, if it did.
+    #[tactic(auto, unfolding(crate::specs::Seek::seek_visit))]
+    pub fn visit(&mut self, at: u64, reply: Option<u64>)
+        requires behind { IsBehind at self.old }
+        requires most { at + steps_of reply ≤ 2 ^ 41 }
+        ensures seek { self.new ≡ seek_visit at reply self.old }
+        ensures behind { (count : ℕ) → at + steps_of reply ≤ count → IsBehind count self.new }
+    {
+        let seeking = self.seeking;
+        match &mut self.phase {
+            Phase::Profile => {}
+            Phase::Trial(trial) => {
+                let reached = seeking.reached_from(trial.from, trial.head.lap());
+                trial.given += given_at(reached, at, reply);
+            }
+            Phase::Service(service) => {
+                let reached = seeking.reached_from(service.from, service.lap);
+                service.given += given_at(reached, at, reply);
+            }
+        }
+    }
+
+    /// At a count of steps, which is not before its phase began: where the phase is over, the next begins.
+    #[tactic(auto, unfolding(crate::specs::Seek::seek_turn))]
+    pub fn turn(&mut self, count: u64)
+        requires behind { IsBehind count self.old }
+        requires count { count ≤ 2 ^ 41 }
+        ensures seek { self.new ≡ seek_turn count self.old }
+        ensures going { is_over count self.new ≡ false }
+        ensures behind { IsBehind count self.new }
+    {
+        if count < self.end() {
+            return;
+        }
+        match self.phase {
+            Phase::Profile => {
+                self.best = None;
+                self.try_next(count, None);
+            }
+            Phase::Trial(trial) => self.end_trial(count, &trial),
+            Phase::Service(service) => self.look_at(count, &service),
+        }
+    }
+
+    // A search begins at a count, with a stretch.
+    fn search_from(&mut self, count: u64, stretch: u64)
+        requires count { count ≤ 2 ^ 41 }
+        requires spent { self.old.spent ≤ count }
+        requires stretch { (1 ≤ stretch) × (stretch ≤ first_stretch + count) }
+        ensures { self.new
+            ≡ record self.old { since = count; stretch = stretch; table = no_heads; phase = Phase.Profile } }
+    {
+        self.since = count;
+        self.stretch = stretch;
+        clear(self.table.as_mut_slice());
+        self.phase = Phase::Profile;
+    }
+
+    // How many of a thousand steps a trial that ends at a count jumped over.
+    fn score(&self, trial: &Trial, count: u64) -> u64
+        requires trial { self.now.phase ≡ Phase.Trial trial.now }
+        requires over { is_over count self.now ≡ true }
+        ensures { result ≡ score_at self.now.seeking count trial.now }
+    {
+        let reached = self.seeking.reached_from(trial.from, trial.head.lap());
+        1000 * trial.given / (count - reached)
+    }
+
+    // A trial ends at a count. Its head is the best where none before it was better.
+    fn end_trial(&mut self, count: u64, trial: &Trial)
+        requires trial { self.old.phase ≡ Phase.Trial trial.now }
+        requires over { is_over count self.old ≡ true }
+        requires behind { IsBehind count self.old }
+        requires count { count ≤ 2 ^ 41 }
+        ensures seek { self.new ≡ turn_from count self.old (Phase.Trial trial.now) }
+        ensures going { is_over count self.new ≡ false }
+        ensures behind { IsBehind count self.new }
+    {
+        let score = self.score(trial, count);
+        let best = self.best.map_or(KEPT_SCORE - 1, |best| best.score);
+        if best < score {
+            self.best = Some(Scored {
+                address: trial.head.address,
+                lap: trial.head.lap(),
+                score,
+            });
+        }
+        if SURE_SCORE <= score {
+            self.settle(count);
+        } else {
+            self.try_next(count, Some(trial.head));
+        }
+    }
+
+    // A kept address is looked at, or a rest ends: what pays goes on, and else a search begins.
+    fn look_at(&mut self, count: u64, service: &Service)
+        requires service { self.old.phase ≡ Phase.Service service.now }
+        requires over { is_over count self.old ≡ true }
+        requires behind { IsBehind count self.old }
+        requires count { count ≤ 2 ^ 41 }
+        ensures seek { self.new ≡ turn_from count self.old (Phase.Service service.now) }
+        ensures going { is_over count self.new ≡ false }
+        ensures behind { IsBehind count self.new }
+    {
+        if self.pays(count, service) {
+            self.phase = Phase::Service(Service {
+                until: count + looked_steps(service.lap),
+                ..*service
+            });
+        } else {
+            self.search_from(count, 2 * self.stretch);
+        }
+    }
+
+    // Whether a kept address pays.
+    fn pays(&self, count: u64, service: &Service) -> bool
+        requires service { self.now.phase ≡ Phase.Service service.now }
+        requires count { count ≤ 2 ^ 41 }
+        ensures { result ≡ pays self.now.seeking count service.now }
+    {
+        let reached = self.seeking.reached_from(service.from, service.lap);
+        3 * count.saturating_sub(reached) <= 4 * service.given
+    }
+
+    // The candidate behind one that was tried is tried, if there is one.
+    fn try_next(&mut self, count: u64, tried: Option<Head>)
+        requires count { (self.old.since + self.old.stretch ≤ count) × (count ≤ 2 ^ 41) }
+        requires spent { self.old.spent ≤ self.old.since }
+        requires tried { HasLaps tried }
+        ensures seek { self.new ≡ try_next count tried self.old }
+        ensures going { is_over count self.new ≡ false }
+        ensures behind { IsBehind count self.new }
+    {
+        match self.next_candidate(count, tried) {
+            Some(head) => {
+                self.phase = Phase::Trial(Trial {
+                    head,
+                    from: count,
+                    given: 0,
+                });
+            }
+            None => self.settle(count),
+        }
+    }
+
+    // The candidate behind one that was tried, if there is one and the trials did not take too long.
+    fn next_candidate(&self, count: u64, tried: Option<Head>) -> Option<Head>
+        requires { HasLaps tried }
+        ensures next { result ≡ next_candidate count tried self.now }
+        ensures fit { MayFollow self.now result }
+    {
+        if count < self.since + (1 + TRIED_STRETCHES) * self.stretch {
+            self.candidate_behind(tried)
+        } else {
+            None
+        }
+    }
+
+    // The best address is kept, or there is a rest.
+    fn settle(&mut self, count: u64)
+        requires count { (self.old.since + self.old.stretch ≤ count) × (count ≤ 2 ^ 41) }
+        requires spent { self.old.spent ≤ self.old.since }
+        ensures seek { self.new ≡ settled count self.old }
+        ensures going { is_over count self.new ≡ false }
+        ensures behind { IsBehind count self.new }
+    {
+        self.spent += count - self.since;
+        self.phase = Phase::Service(serving(count, self.best, self.spent));
+    }
+
+    // The first of the candidates that come behind one that was tried.
+    fn candidate_behind(&self, tried: Option<Head>) -> Option<Head>
+        requires { HasLaps tried }
+        ensures first { result ≡ candidate_behind self.now.seeking tried self.now.table }
+    {
+        let mut first = None;
+        for met in &self.table {
+            if let Some(head) = met {
+                first = self.first_candidate(tried, first, head);
+            }
+        }
+        first
+    }
+
+    // The first candidate so far, with one more head.
+    fn first_candidate(
+        &self,
+        tried: Option<Head>,
+        so_far: Option<Head>,
+        head: &Head,
+    ) -> Option<Head>
+        requires tried { HasLaps tried }
+        requires so_far { HasLaps so_far }
+        ensures first { result ≡ first_candidate self.now.seeking tried so_far (Some head.now) }
+        ensures laps { HasLaps result }
+    {
+        if !self.is_candidate(head) || !head.is_behind(tried) {
+            return so_far;
+        }
+        match so_far {
+            Some(other) if !head.comes_before(&other) => Some(other),
+            _ => Some(*head),
+        }
+    }
+
+    // Whether a head may be tried.
+    fn is_candidate(&self, head: &Head) -> bool
+        ensures candidate { result ≡ is_candidate self.now.seeking head.now }
+        ensures times { result ≡ true → 2 ≤ head.now.times }
+    {
+        u64::from(self.seeking.least) <= head.times && self.seeking.lap <= head.lap()
+    }
+}
+
+impl Trial {
+    // At which count it is over.
+    fn end(&self, seeking: Seeking, stretch: u64) -> u64
+        requires ahead { seeking.ahead ≤ 64 }
+        requires stretch { stretch ≤ 2 ^ 43 }
+        requires times { 2 ≤ self.now.head.times }
+        requires last { self.now.head.last ≤ 2 ^ 41 }
+        requires from { self.now.from ≤ 2 ^ 41 }
+        ensures { result ≡ trial_end seeking stretch self.now }
+    {
+        let lap = self.head.lap();
+        let more = if self.given == 0 {
+            (4 * lap).max(stretch / 16)
+        } else {
+            (12 * lap).max(stretch / 4)
+        };
+        seeking.reached_from(self.from, lap) + more
+    }
+}
+
+// How long an address is kept before it is looked at.
+fn looked_steps(lap: u64) -> u64
+    requires { lap ≤ 2 ^ 41 }
+    ensures { result ≡ looked_steps lap }
+{
+    (64 * lap).max(FIRST_STRETCH)
+}
+
+// What counts of a visit: the steps that it jumped over from a count on.
+fn given_at(reached: u64, at: u64, reply: Option<u64>) -> u64
+    requires most { at + steps_of reply ≤ 2 ^ 41 }
+    ensures given { result ≡ given_at reached at reply }
+    ensures most { result ≤ steps_of reply }
+{
+    (at + reply.unwrap_or(0)).saturating_sub(at.max(reached))
+}
+
+// The best address is kept from a count on, or there is a rest, where all searches took so many steps.
+fn serving(count: u64, best: Option<Scored>, spent: u64) -> Service
+    requires best { HasShortLap best }
+    requires count { count ≤ 2 ^ 41 }
+    requires spent { spent ≤ 2 ^ 41 }
+    ensures { result ≡ serving count best spent }
+{
+    let lap = best.map_or(0, |best| best.lap);
+    Service {
+        address: best.map(|best| best.address),
+        lap,
+        from: count,
+        given: 0,
+        until: (REST_RATIO * spent).max(count + looked_steps(lap)),
+    }
+}
