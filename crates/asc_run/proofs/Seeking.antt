@@ -13,8 +13,9 @@ use Rattle.asc_seek.specs.declared.seeker.Trial.{Trial}
 use Rattle.asc_seek.specs.declared.seeker.Phase.{Phase}
 use Rattle.asc_seek.specs.declared.seeker.Phase.TheVariants as phase
 use Rattle.asc_seek.specs.Heads.{AreEarlier, Path, head_at, heads_of, led_back, no_heads, note}
-use Rattle.asc_seek.specs.Seek.{IsBehind, IsBehindIn, Seek, best_with, end_in, is_over, looked_steps, new_seek, next_candidate, pays, score_at, searching, seek_along, seek_turn, seek_visit, settled, sure_score, try_next, trying, turn_from, visit_in, watched_in}
-use Rattle.asc_seek.proofs.Along.{AreEarlier-heads_of, AreEarlier-later, heads_of-next, heads_of-zero, profiled-same, seek_along-heads, seek_along-profiled, seek_along-same, seek_along-turn, seek_along-zero, seek_visit-is, table-seek_along, with_heads}
+use Rattle.asc_seek.specs.Inside.{IsBehind, IsBehindIn}
+use Rattle.asc_seek.specs.Seek.{Seek, end_in, is_over, looked_steps, new_seek, pays, searching, seek_along, advanced, seek_visit, advanced_from, visit_in, watched_in}
+use Rattle.asc_seek.proofs.Along.{AreEarlier-heads_of, AreEarlier-later, heads_of-next, heads_of-zero, profiled-same, seek_along-heads, seek_along-profiled, seek_along-same, seek_along-turn, seek_along-zero, advanced-seeking, seek_visit-is, table-seek_along, try_next-other, advanced_from-other, with_heads}
 use Rattle.asc_run.specs.Execution.{Position, Progress, On, Off}
 use Rattle.asc_run.specs.Sought.{NotesAlong, learning, noting, pc_in}
 use Rattle.asc_run.specs.Visits.{Course, Visit, goes_on_at, is_at, landing, path_of, seek_at, stands_at, with_landing}
@@ -28,6 +29,7 @@ visit_in-other : (s : Seeking) (at : ℕ) (reply : Option ℕ) (p : Phase) → p
 visit_in-other s at reply phase.Profile other is = other refl
 visit_in-other s at reply (phase.Trial t) other is = cc
 visit_in-other s at reply (phase.Service v) other is = cc
+visit_in-other s at reply (phase.Rest until) other is = cc
 
 pub visit-other : (at : ℕ) (reply : Option ℕ) (m : Seek) → m.phase ≢ phase.Profile → (seek_visit at reply m).phase ≢ phase.Profile
 visit-other at reply m other is = visit_in-other m.seeking at reply m.phase other (sym (ap (λ (x : Seek). x.phase) (seek_visit-is at reply m)) ∙ is)
@@ -36,12 +38,14 @@ visited-notes : (s : Seeking) (at : ℕ) (reply : Option ℕ) (p : Phase) → vi
 visited-notes s at reply phase.Profile is = refl
 visited-notes s at reply (phase.Trial t) is = cc
 visited-notes s at reply (phase.Service v) is = cc
+visited-notes s at reply (phase.Rest until) is = cc
 
 -- while heads are noted no state stands at the address
 pub watched-other : (p : Phase) (s : State) → is_at (watched_in p) s ≡ true → p ≢ phase.Profile
 watched-other phase.Profile s at is = absurd (false≢true at)
 watched-other (phase.Trial t) s at is = cc
 watched-other (phase.Service v) s at is = cc
+watched-other (phase.Rest until) s at is = cc
 
 watched-none : (p : Phase) → p ≡ phase.Profile → watched_in p ≡ None
 watched-none p is = ap watched_in is
@@ -56,26 +60,6 @@ goes_on_at-none (Off count ended last) = refl
 abbrev pub IsEarly : (count : ℕ) → Seek → Type 0
 IsEarly count m = m.phase ≡ phase.Profile → AreEarlier count m.table
 
-abbrev chosen : (count : ℕ) (m : Seek) → Option Head → Seek
-chosen count m next = elim next [ Some h ↦ trying count h m | None ↦ settled count m ]
-
-chosen-other : (count : ℕ) (m : Seek) (next : Option Head) → (chosen count m next).phase ≢ phase.Profile
-chosen-other count m None is = cc
-chosen-other count m (Some h) is = cc
-
-try_next-other : (count : ℕ) (tried : Option Head) (m : Seek) → (try_next count tried m).phase ≢ phase.Profile
-try_next-other count tried m = chosen-other count m (next_candidate count tried m)
-
-either-other : (b : Bool) (m n : Seek) → m.phase ≢ phase.Profile → n.phase ≢ phase.Profile → (if b then m else n).phase ≢ phase.Profile
-either-other true m n a b = a
-either-other false m n a b = b
-
-trial-other : (count : ℕ) (m : Seek) (t : Trial) → (turn_from count m (phase.Trial t)).phase ≢ phase.Profile
-trial-other count m t =
-    let score = score_at m.seeking count t in
-    let scored = record m { best = best_with t.head score m.best } in
-    either-other (nat_le sure_score score) (settled count scored) (try_next count (Some t.head) scored) (chosen-other count scored None) (try_next-other count (Some t.head) scored)
-
 -- a table without heads has none that was met later
 none-early : (count : ℕ) → AreEarlier (count + 1) no_heads
 none-early count =
@@ -89,15 +73,16 @@ early-looked : (count : ℕ) (b : Bool) (m : Seek) (v : Service)
 early-looked count true m v = λ notes. absurd (cc)
 early-looked count false m v = λ notes. none-early count
 
-early-turned : (count : ℕ) (over : Bool) (m : Seek) (p : Phase) → IsEarly (count + 1) m → IsEarly (count + 1) (if over then turn_from count m p else m)
+early-turned : (count : ℕ) (over : Bool) (m : Seek) (p : Phase) → IsEarly (count + 1) m → IsEarly (count + 1) (if over then advanced_from count m p else m)
 early-turned count false m p early = early
-early-turned count true m phase.Profile early = λ notes. absurd (try_next-other count None (record m { best = None }) notes)
-early-turned count true m (phase.Trial t) early = λ notes. absurd (trial-other count m t notes)
+early-turned count true m phase.Profile early = λ notes. absurd (try_next-other count None m notes)
+early-turned count true m (phase.Trial t) early = λ notes. absurd (advanced_from-other count m t notes)
 early-turned count true m (phase.Service v) early = early-looked count (pays m.seeking count v) m v
+early-turned count true m (phase.Rest until) early = λ notes. none-early count
 
 -- a turn that begins with the notes of heads begins with none
-IsEarly-turn : (count : ℕ) (m : Seek) → IsEarly (count + 1) m → IsEarly (count + 1) (seek_turn count m)
-unfolding seek_turn
+IsEarly-turn : (count : ℕ) (m : Seek) → IsEarly (count + 1) m → IsEarly (count + 1) (advanced count m)
+unfolding advanced
 IsEarly-turn count m early = early-turned count (is_over count m) m m.phase early
 
 IsEarly-learning : (is : Bool) (at bound : ℕ) (reply : Option ℕ) (m : Seek) → IsEarly bound m → IsEarly bound (learning is at reply m)
@@ -105,9 +90,9 @@ IsEarly-learning true at bound reply m early = λ notes. subst (λ (x : Seek). A
 IsEarly-learning false at bound reply m early = early
 
 -- behind a turn and a landing
-pub IsEarly-learnt : (is : Bool) (c c' : ℕ) (reply : Option ℕ) (m m' m'' : Seek) → m' ≡ seek_turn c m → m'' ≡ learning is c reply m' → c' ≡ c → IsEarly (c + 1) m → IsEarly (c' + 1) m''
+pub IsEarly-learnt : (is : Bool) (c c' : ℕ) (reply : Option ℕ) (m m' m'' : Seek) → m' ≡ advanced c m → m'' ≡ learning is c reply m' → c' ≡ c → IsEarly (c + 1) m → IsEarly (c' + 1) m''
 IsEarly-learnt is c c' reply m m' m'' turned learnt same early =
-    rw (same, learnt, turned) (IsEarly-learning is c (c + 1) reply (seek_turn c m) (IsEarly-turn c m early))
+    rw (same, learnt, turned) (IsEarly-learning is c (c + 1) reply (advanced c m) (IsEarly-turn c m early))
 
 pub IsEarly-later : (a b : ℕ) (m : Seek) → a ≤ b → IsEarly a m → IsEarly b m
 IsEarly-later a b m le early = λ notes. AreEarlier-later a b m.table le (early notes)
@@ -121,38 +106,13 @@ behind-first c m new = subst (IsBehind c) (sym new) (omega arith)
 
 -- ---- what is sought stays
 
-chosen-seeking : (count : ℕ) (m : Seek) (next : Option Head) → (chosen count m next).seeking ≡ m.seeking
-chosen-seeking count m None = refl
-chosen-seeking count m (Some h) = refl
-
-try_next-seeking : (count : ℕ) (tried : Option Head) (m : Seek) → (try_next count tried m).seeking ≡ m.seeking
-try_next-seeking count tried m = chosen-seeking count m (next_candidate count tried m)
-
-either-seeking : (b : Bool) (m n : Seek) (s : Seeking) → m.seeking ≡ s → n.seeking ≡ s → (if b then m else n).seeking ≡ s
-either-seeking true m n s a b = a
-either-seeking false m n s a b = b
-
-from-seeking : (count : ℕ) (m : Seek) (p : Phase) → (turn_from count m p).seeking ≡ m.seeking
-from-seeking count m phase.Profile = try_next-seeking count None (record m { best = None })
-from-seeking count m (phase.Trial t) =
-    let score = score_at m.seeking count t in
-    let scored = record m { best = best_with t.head score m.best } in
-    either-seeking (nat_le sure_score score) (settled count scored) (try_next count (Some t.head) scored) m.seeking refl (try_next-seeking count (Some t.head) scored)
-from-seeking count m (phase.Service v) =
-    either-seeking (pays m.seeking count v) (record m { phase = phase.Service (record v { until = count + looked_steps v.lap }) }) (searching count m)
-    m.seeking refl refl
-
-turn-seeking : (count : ℕ) (m : Seek) → (seek_turn count m).seeking ≡ m.seeking
-unfolding seek_turn
-turn-seeking count m = either-seeking (is_over count m) (turn_from count m m.phase) m m.seeking (from-seeking count m m.phase) refl
-
 learning-seeking : (is : Bool) (at : ℕ) (reply : Option ℕ) (m : Seek) → (learning is at reply m).seeking ≡ m.seeking
 learning-seeking true at reply m = ap (λ (x : Seek). x.seeking) (seek_visit-is at reply m)
 learning-seeking false at reply m = refl
 
-pub learnt-seeking : (is : Bool) (c : ℕ) (reply : Option ℕ) (m m' m'' : Seek) → m' ≡ seek_turn c m → m'' ≡ learning is c reply m' → m''.seeking ≡ m.seeking
+pub learnt-seeking : (is : Bool) (c : ℕ) (reply : Option ℕ) (m m' m'' : Seek) → m' ≡ advanced c m → m'' ≡ learning is c reply m' → m''.seeking ≡ m.seeking
 learnt-seeking is c reply m m' m'' turned learnt =
-    ap (λ (x : Seek). x.seeking) learnt ∙ learning-seeking is c reply m' ∙ ap (λ (x : Seek). x.seeking) turned ∙ turn-seeking c m
+    ap (λ (x : Seek). x.seeking) learnt ∙ learning-seeking is c reply m' ∙ ap (λ (x : Seek). x.seeking) turned ∙ advanced-seeking c m
 
 -- ---- behind a landing
 
@@ -213,7 +173,7 @@ seek_at-base s run (v ∷ before) count = refl
 
 -- at a landing it has learnt of the visit
 pub seek_at-landed : (s : Seeking) (run : Course) (v : Visit) (before : List Visit) (m : Seek) → seek_at s run before v.at ≡ m → m.phase ≢ phase.Profile
-    → seek_at s run (v ∷ before) (landing v) ≡ seek_turn (landing v) (seek_visit v.at v.reply m)
+    → seek_at s run (v ∷ before) (landing v) ≡ advanced (landing v) (seek_visit v.at v.reply m)
 unfolding seek_at
 seek_at-landed s run v before m is other =
     let path = path_of run in
@@ -222,19 +182,19 @@ seek_at-landed s run v before m is other =
     ap (λ n. seek_along path (landing v) n (seek_visit v.at v.reply (seek_at s run before v.at))) none
     ∙ ap (λ x. seek_along path (landing v) 0 (seek_visit v.at v.reply x)) is
     ∙ seek_along-zero path (landing v) told
-    ∙ ap (seek_turn (landing v)) (profiled-same path (landing v) told told.phase (visit-other v.at v.reply m other))
+    ∙ ap (advanced (landing v)) (profiled-same path (landing v) told told.phase (visit-other v.at v.reply m other))
 
 -- before the first step
 same_table : (m : Seek) (t : List (Option Head)) → t ≡ m.table → record m { table = t } ≡ m
 same_table m t is = ap (λ (x : List (Option Head)). record m { table = x }) is
 
-pub seek_at-first : (s : Seeking) (run : Course) → seek_at s run [] 0 ≡ seek_turn 0 (new_seek s)
+pub seek_at-first : (s : Seeking) (run : Course) → seek_at s run [] 0 ≡ advanced 0 (new_seek s)
 unfolding seek_at
 seek_at-first s run =
     let path = path_of run in
     let none : 0 - 0 ≡ 0 = omega arith in
     seek_along-zero path 0 (new_seek s)
-    ∙ ap (λ t. seek_turn 0 (record (new_seek s) { table = t })) (ap (heads_of path 0) none ∙ heads_of-zero path 0)
+    ∙ ap (λ t. advanced 0 (record (new_seek s) { table = t })) (ap (heads_of path 0) none ∙ heads_of-zero path 0)
 
 module _ (s : Seeking) (run : Course) (visits : List Visit) (c n : ℕ) (m : Seek) (behind : floor visits ≤ c) (is : seek_at s run visits c ≡ m) where
   from_base : seek_along (path_of run) (floor visits) (c - floor visits) (base s run visits) ≡ m
@@ -254,11 +214,11 @@ module _ (s : Seeking) (run : Course) (visits : List Visit) (c n : ℕ) (m : See
       let e = sum in
       at_later ∙ seek_along-same (path_of run) (floor visits) (c - floor visits) n (base s run visits) m from_base other (omega arith)
 
-  pub seek_at-turns : m.phase ≢ phase.Profile → 0 < n → c + n ≤ end_in m m.phase → seek_at s run visits (c + n) ≡ seek_turn (c + n) m
+  pub seek_at-turns : m.phase ≢ phase.Profile → 0 < n → c + n ≤ end_in m m.phase → seek_at s run visits (c + n) ≡ advanced (c + n) m
   seek_at-turns other some early =
       let e = sum in
       at_later ∙ seek_along-turn (path_of run) (floor visits) (c - floor visits) n (base s run visits) m from_base other some (omega arith)
-      ∙ ap (λ k. seek_turn k m) sum
+      ∙ ap (λ k. advanced k m) sum
 
   -- while heads are noted
   end_profile : m.phase ≡ phase.Profile → end_in m m.phase ≡ m.since + m.stretch
@@ -270,11 +230,11 @@ module _ (s : Seeking) (run : Course) (visits : List Visit) (c n : ℕ) (m : See
       at_later ∙ seek_along-heads (path_of run) (floor visits) (c - floor visits) n (base s run visits) m from_base notes (omega arith)
       ∙ ap (λ k. with_heads (path_of run) k m) sum
 
-  pub seek_at-noted : m.phase ≡ phase.Profile → 0 < n → c + n ≤ end_in m m.phase → seek_at s run visits (c + n) ≡ seek_turn (c + n) (with_heads (path_of run) (c + n) m)
+  pub seek_at-noted : m.phase ≡ phase.Profile → 0 < n → c + n ≤ end_in m m.phase → seek_at s run visits (c + n) ≡ advanced (c + n) (with_heads (path_of run) (c + n) m)
   seek_at-noted notes some early =
       let e = sum in let f = end_profile notes in
       at_later ∙ seek_along-profiled (path_of run) (floor visits) (c - floor visits) n (base s run visits) m from_base notes some (omega arith)
-      ∙ ap (λ k. seek_turn k (with_heads (path_of run) k m)) sum
+      ∙ ap (λ k. advanced k (with_heads (path_of run) k m)) sum
 
   pub table-seek_at : m.phase ≡ phase.Profile → m.table ≡ heads_of (path_of run) m.since (c - m.since)
   table-seek_at notes =

@@ -8,7 +8,7 @@ use Rattle.asc_seek.specs.declared.seeker.Seeking.{Seeking}
 use Rattle.asc_seek.specs.declared.seeker.Phase.{Phase}
 use Rattle.asc_seek.specs.declared.seeker.Phase.TheVariants as phase
 use Rattle.asc_seek.specs.Heads.{head_at, led_back, note}
-use Rattle.asc_seek.specs.Seek.{Seek, end_in, is_over, new_seek, seek_turn, watched_in}
+use Rattle.asc_seek.specs.Seek.{Seek, end_in, is_over, new_seek, advanced, watched_in}
 use Rattle.asc_run.specs.declared.recognised.Recognised.TheVariants.{Sought}
 use Rattle.asc_run.specs.Execution.{Position, On}
 use Rattle.asc_run.specs.Sought.{NotesAlong, learning, noting, pc_in}
@@ -24,10 +24,11 @@ pub phase-cases : (p : Phase) → (p ≡ phase.Profile) ⊎ (p ≢ phase.Profile
 phase-cases phase.Profile = inl refl
 phase-cases (phase.Trial t) = inr (λ is. cc)
 phase-cases (phase.Service v) = inr (λ is. cc)
+phase-cases (phase.Rest until) = inr (λ is. cc)
 
 -- where the search stands behind a landing from which the walk does not jump: behind a visit it learnt of that
 abbrev StandsBehind : Seeking → (is_visit : Bool) → List Visit → (c : ℕ) → Seek → Course → Type 0
-StandsBehind s true visits c m run = (seek_at s run visits (c + 1) ≡ seek_turn (c + 1) m) × (m.phase ≢ phase.Profile)
+StandsBehind s true visits c m run = (seek_at s run visits (c + 1) ≡ advanced (c + 1) m) × (m.phase ≢ phase.Profile)
 StandsBehind s false visits c m run = (seek_at s run visits c ≡ m) × (is_over c m ≡ false) × (floor visits ≤ c)
 
 -- From a landing a walk goes on for n steps, and the search from m to m': up to the end of its phase at most, and for one
@@ -47,7 +48,7 @@ module _ (limit : ℕ) (s : Seeking) (start : State) where
   -- So far a walk has these visits, and its search stands behind m, whose phase may be over.
   pub record Seeks (visits : List Visit) (old now : Aid) (to : ℕ) (m : Seek) (run : Course) : Type 0 where
     pub has : HasVisits limit (is_mark (Sought s)) start visits old now to run
-    pub stands : seek_at s run visits to ≡ seek_turn to m
+    pub stands : seek_at s run visits to ≡ advanced to m
 
   -- the same behind a landing from which it does not jump
   pub record Landed (is_visit : Bool) (visits : List Visit) (old now : Aid) (c : ℕ) (m : Seek) (run : Course) : Type 0 where
@@ -65,20 +66,20 @@ module _ (limit : ℕ) (s : Seeking) (start : State) where
   }
 
   module _ (st : State) (c k : ℕ) (visits : List Visit) (old now new : Aid) (m m' : Seek) (is : Bool) (shape : st.shape ≡ start.shape) (number : k ≡ length visits) (earlier : old.plan.refused ≤ now.plan.refused) (later : now.plan.refused ≤ new.plan.refused)
-      (turned : m' ≡ seek_turn c m) (going : is_over c m' ≡ false) (at_address : is_at (watched_in m'.phase) st ≡ is) where
+      (turned : m' ≡ advanced c m) (going : is_over c m' ≡ false) (at_address : is_at (watched_in m'.phase) st ≡ is) where
     -- a count is a mark if the state stands at the address of the search
-    mark-is : (run : Course) (r : Position) → r.state ≡ st → run c ≡ On r → seek_at s run visits c ≡ seek_turn c m → is_mark (Sought s) run visits c ≡ is
+    mark-is : (run : Course) (r : Position) → r.state ≡ st → run c ≡ On r → seek_at s run visits c ≡ advanced c m → is_mark (Sought s) run visits c ≡ is
     mark-is run r e at stands =
         ap (λ (x : Seek). goes_on_at (watched_in x.phase) (run c)) (stands ∙ sym turned) ∙ goes_on_at-on (watched_in m'.phase) (run c) r st e at ∙ at_address
 
-    stands-landed : (b : Bool) (run : Course) → is_at (watched_in m'.phase) st ≡ b → seek_at s run visits c ≡ seek_turn c m → floor visits ≤ c → StandsBehind s b (with_landing b c None visits) c (learning b c None m') run
+    stands-landed : (b : Bool) (run : Course) → is_at (watched_in m'.phase) st ≡ b → seek_at s run visits c ≡ advanced c m → floor visits ≤ c → StandsBehind s b (with_landing b c None visits) c (learning b c None m') run
     stands-landed true run at stands behind =
         let other = watched-other m'.phase st at in
         (seek_at-landed s run (record { at = c; reply = None }) visits m' (stands ∙ sym turned) other, visit-other c None m' other)
     stands-landed false run at stands behind = (stands ∙ sym turned, going, behind)
 
-    stands-jumped : (n : ℕ) (b : Bool) (run : Course) → is_at (watched_in m'.phase) st ≡ b → (b ≡ false → Some n ≡ None) → seek_at s run visits c ≡ seek_turn c m
-        → seek_at s run (with_landing b c (Some n) visits) (c + n) ≡ seek_turn (c + n) (learning b c (Some n) m')
+    stands-jumped : (n : ℕ) (b : Bool) (run : Course) → is_at (watched_in m'.phase) st ≡ b → (b ≡ false → Some n ≡ None) → seek_at s run visits c ≡ advanced c m
+        → seek_at s run (with_landing b c (Some n) visits) (c + n) ≡ advanced (c + n) (learning b c (Some n) m')
     stands-jumped n true run at passed stands =
         seek_at-landed s run (record { at = c; reply = Some n }) visits m' (stands ∙ sym turned) (watched-other m'.phase st at)
     stands-jumped n false run at passed stands = let none = passed refl in cc
@@ -123,7 +124,7 @@ module _ (limit : ℕ) (s : Seeking) (start : State) where
           has = more-visits q moves.some (λ i some fewer.
               ap (λ (x : Seek). goes_on_at (watched_in x.phase) (run (c + i))) (seek_at-stays s run visits c i m q.stands.2 q.stands.0 other (omega (arith, early, fewer)))
               ∙ moves.passes refl other i some fewer);
-          stands = seek_at-turns s run visits c n m q.stands.2 q.stands.0 other moves.some early ∙ ap (seek_turn (c + n)) (sym (moves.other other));
+          stands = seek_at-turns s run visits c n m q.stands.2 q.stands.0 other moves.some early ∙ ap (advanced (c + n)) (sym (moves.other other));
         }
 
     moves-noting : m.phase ≡ phase.Profile → Landed false visits old now c m run → Moves false c n m m' run → Seeks visits old now (c + n) m' run
@@ -136,8 +137,8 @@ module _ (limit : ℕ) (s : Seeking) (start : State) where
               ap (λ (x : Seek). goes_on_at (watched_in x.phase) (run (c + i))) (seek_at-notes s run visits c i m q.stands.2 q.stands.0 notes (omega (arith, early, fewer)))
               ∙ ap (λ a. goes_on_at a (run (c + i))) none ∙ goes_on_at-none (run (c + i)));
           stands = seek_at-noted s run visits c n m q.stands.2 q.stands.0 notes moves.some early
-              ∙ ap (λ t. seek_turn (c + n) (record m { table = t })) table
-              ∙ ap (seek_turn (c + n)) (sym (moves.noted notes));
+              ∙ ap (λ t. advanced (c + n) (record m { table = t })) table
+              ∙ ap (advanced (c + n)) (sym (moves.noted notes));
         }
 
     moves-by : (is : Bool) → Landed is visits old now c m run → Moves is c n m m' run → Seeks visits old now (c + n) m' run

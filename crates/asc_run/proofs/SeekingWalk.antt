@@ -11,7 +11,7 @@ use Rattle.asc_calls.specs.World.{CallState, Faults, World, world}
 use Rattle.asc_seek.specs.declared.seeker.Seeking.{Seeking}
 use Rattle.asc_seek.specs.declared.seeker.Phase.TheVariants as phase
 use Rattle.asc_seek.specs.Heads.{led_back}
-use Rattle.asc_seek.specs.Seek.{Seek, is_over, new_seek, seek_turn, watched_in}
+use Rattle.asc_seek.specs.Seek.{Seek, is_over, new_seek, advanced, watched_in}
 use Rattle.asc_run.specs.declared.recognised.Recognised.TheVariants.{Sought}
 use Rattle.asc_run.specs.declared.walk.Ended.{Ended}
 use Rattle.asc_run.specs.declared.walk.Ended.TheVariants.{Limit}
@@ -51,7 +51,7 @@ module _ (limit : ℕ) (s : Seeking) (old : World) where
   )
 
   module _ (st t : State) (calls calls' : CallState) (left : Option (List ℕ)) (out err : Given) (steps : ℕ) (faults : Faults) (c c' k k' number number' : ℕ) (m m' m'' : Seek) (address : Option ℕ) (first now new : Aid)
-      (same_calls : calls' ≡ calls) (same_count : c' ≡ c) (same_skipped : k' ≡ k) (turned : m' ≡ seek_turn c m) (going : is_over c m' ≡ false) (watched : address ≡ watched_in m'.phase) (below : c < limit) where
+      (same_calls : calls' ≡ calls) (same_count : c' ≡ c) (same_skipped : k' ≡ k) (turned : m' ≡ advanced c m) (going : is_over c m' ≡ false) (watched : address ≡ watched_in m'.phase) (below : c < limit) where
     -- a landing that jumps
     pub seeks-jump : (n : ℕ) → m'' ≡ learning (is_at address st) c (Some n) m' → IsJump (Some n) (limit - c) st t → (is_at address st ≡ false → Some n ≡ None) → SeeksOn (world st calls left out err steps faults) c k number m first now
         → number' ≡ number + length (with_landing (is_at address st) c (Some n) []) → Helped (with_landing (is_at address st) c (Some n) []) now new → Lands (is_at address st) number st (limit - c) (Some n) now new

@@ -1,23 +1,25 @@
 -- A walk's search for the address at which it is visited.
 use Rattle.std.specs.Prelude.{◌≡◌, ◌⊎◌, ℕ, ◌+◌, Bool, true, false, Option, Some, None}
+use Rattle.std.specs.Option.{option_map}
 use Rattle.asc_model.specs.State.{State}
 use Rattle.asc_model.specs.Machine.{view_of}
 use Rattle.asc_step.specs.Step.{Climbs, Lowers}
 use Rattle.asc_seek.specs.Heads.{note}
+use Rattle.asc_seek.specs.declared.seeker.Seeking.{Seeking}
 use Rattle.asc_seek.specs.Seek.{Seek, new_seek, seek_visit}
 use Rattle.asc_run.specs.declared.recognised.Recognised.{Recognised}
 use Rattle.asc_run.specs.declared.recognised.Recognised.TheVariants as recognised
 
--- there is a search where an address is sought, and only there
+-- what is sought, where an address is
+abbrev pub sought_by : Recognised → Option Seeking
+sought_by recognised.Nowhere = None
+sought_by (recognised.At address) = None
+sought_by (recognised.Chosen profile least) = None
+sought_by (recognised.Sought seeking) = Some seeking
+
+-- there is a search for that, and for nothing else
 abbrev pub HasSeeker : Recognised → Option Seek → Type 0
-HasSeeker (recognised.Sought seeking) (Some m) = m.seeking ≡ seeking
-HasSeeker (recognised.Sought seeking) None = ⊥
-HasSeeker recognised.Nowhere (Some m) = ⊥
-HasSeeker recognised.Nowhere None = Unit {0}
-HasSeeker (recognised.At address) (Some m) = ⊥
-HasSeeker (recognised.At address) None = Unit {0}
-HasSeeker (recognised.Chosen profile least) (Some m) = ⊥
-HasSeeker (recognised.Chosen profile least) None = Unit {0}
+HasSeeker by seeker = option_map (λ m. m.seeking) seeker ≡ sought_by by
 
 -- a search has not begun
 abbrev pub HasNewSeeker : Option Seek → Type 0

@@ -11,7 +11,8 @@ ghost use Rattle.asc_run.specs.Turn.{Turns, TurnFails, device_of_turn};
 ghost use Rattle.asc_run.specs.VisitedBy.{Visits};
 ghost use Rattle.asc_run.specs.Visits.{Passes};
 ghost use Rattle.asc_seek.specs.Heads.{AreEarlier, led_back};
-ghost use Rattle.asc_seek.specs.Seek.{IsBehind, end_in, is_over, new_seek, steps_of};
+ghost use Rattle.asc_seek.specs.Inside.{IsBehind};
+ghost use Rattle.asc_seek.specs.Seek.{end_in, is_over, new_seek, steps_of};
 ghost use Rattle.asc_seek.specs.declared.seeker.Phase.TheVariants.{Profile};
 
 use crate::process::Process;
@@ -84,7 +85,7 @@ impl Visited {
             if at == limit {
                 return Ended::Limit;
             }
-            seeker.turn(at);
+            seeker.advance(at);
             let (pc, asked) = (seeker.watched(), self.asked);
             let reply = self.land(pc, helper, visit, limit - at);
             let most = learn(seeker, asked < self.asked, at, reply, limit);
@@ -156,7 +157,7 @@ impl Process {
         ensures ends { result ≢ Stepped.Went → result ≡ stepped_of (next self.new.state) }
         ensures kept { self.new ≡ record self.old { state = self.new.state; count = self.new.count } }
     {
-        if !seeker.notes() {
+        if !seeker.is_noting() {
             return self.go_on(pc, most, steps);
         }
         let (done, down, stepped) = step_down(&mut self.state, most, steps);
@@ -209,7 +210,7 @@ impl Process {
     {
         let from = self.state.pc();
         let ended = self.stop(stopped, input, out, err, steps);
-        if ended.is_none() && seeker.notes() && self.state.pc() < from {
+        if ended.is_none() && seeker.is_noting() && self.state.pc() < from {
             seeker.note(self.state.pc(), self.count);
         }
         ended

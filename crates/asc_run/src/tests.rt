@@ -70,8 +70,8 @@ fn check_bounds<R: Abort>(rt: &R, recognised: Recognised)
         Recognised::Sought(seeking) => {
             assert!(rt; seeking.least >= 2);
             assert!(rt; seeking.least <= 65_536);
-            assert!(rt; seeking.lap >= 1);
-            assert!(rt; seeking.lap <= 1 << 40);
+            assert!(rt; seeking.least_lap >= 1);
+            assert!(rt; seeking.least_lap <= 1 << 40);
             assert!(rt; seeking.ahead >= 1);
             assert!(rt; seeking.ahead <= 64);
         }
@@ -126,7 +126,7 @@ fn runs(rt: HostRuntime) {
     let chosen = |least| Recognised::Chosen { profile: 6, least };
     let sought = Recognised::Sought(Seeking {
         least: 2,
-        lap: 2,
+        least_lap: 2,
         ahead: 1,
     });
     // The code, the limit and the address, and then how the run ends, its count, and how often a jump was asked for.

@@ -1,10 +1,10 @@
 -- The candidate that is found in a table.
-use Rattle.std.proofs.Common.{◌≡◌, ℕ, zero, suc, ◌+◌, ◌^◌, ◌<◌, Bool, true, false, ◌&&◌, List, [], ◌∷◌, fold, Option, Some, None, if◌then◌else◌, refl, sym, subst, arith}
+use Rattle.std.proofs.Common.{◌≡◌, ℕ, zero, suc, ◌+◌, ◌^◌, ◌<◌, Bool, true, false, ◌&&◌, List, [], ◌∷◌, filter, fold, Option, Some, None, if◌then◌else◌, refl, sym, ◌∙◌, subst, arith}
 use Rattle.asc_seek.specs.declared.heads.Head.{Head}
 use Rattle.asc_seek.specs.declared.seeker.Seeking.{Seeking}
 use Rattle.asc_seek.specs.Heads.{AreEarlier, comes_before}
-use Rattle.asc_seek.specs.Inside.{MayFollow}
-use Rattle.asc_seek.specs.Seek.{Seek, candidate_behind, first_candidate, first_with, is_behind, is_candidate}
+use Rattle.asc_seek.specs.Inside.{MayFollow, first_candidate}
+use Rattle.asc_seek.specs.Seek.{Seek, candidate_behind, first_with, heads_in, is_behind, is_candidate}
 
 -- it may be tried, and was met before a count
 pub record IsFound (s : Seeking) (count : ℕ) (h : Head) : Type 0 where
@@ -48,9 +48,34 @@ fold_found s tried so_far count (Some h ∷ rest) all early =
     fold_found s tried (first_candidate s tried so_far (Some h)) count rest
     (first_found s tried so_far count h all (early zero h refl)) (λ k. early (suc k))
 
+-- the first of the candidates is found place by place
+module _ (s : Seeking) (tried : Option Head) where
+  abbrev may : Head → Bool
+  may h = is_candidate s h && is_behind tried h
+
+  abbrev taking : Option Head → Head → Option Head
+  taking first h = Some (first_with first h)
+
+  one_more : (b : Bool) (first : Option Head) (h : Head) (rest : List Head)
+      → fold taking first (if b then h ∷ filter may rest else filter may rest) ≡ fold taking (if b then taking first h else first) (filter may rest)
+  one_more true first h rest = refl
+  one_more false first h rest = refl
+
+  by_places : (first : Option Head) (table : List (Option Head))
+      → fold taking first (filter may (heads_in table)) ≡ fold (first_candidate s tried) first table
+  by_places first [] = refl
+  by_places first (None ∷ rest) = by_places first rest
+  by_places first (Some h ∷ rest) =
+      one_more (may h) first h (heads_in rest) ∙ by_places (first_candidate s tried first (Some h)) rest
+
+pub candidate_behind-is : (s : Seeking) (tried : Option Head) (table : List (Option Head))
+    → candidate_behind s tried table ≡ fold (first_candidate s tried) None table
+candidate_behind-is s tried table = by_places s tried None table
+
 found : (s : Seeking) (tried : Option Head) (count : ℕ) (table : List (Option Head)) (h : Head) → AreEarlier count table
     → candidate_behind s tried table ≡ Some h → IsFound s count h
-found s tried count table h early is = fold_found s tried None count table (λ g e. absurd (cc)) early h is
+found s tried count table h early is =
+    fold_found s tried None count table (λ g e. absurd (cc)) early h (sym (candidate_behind-is s tried table) ∙ is)
 
 pub MayFollow-candidate_behind : (m : Seek) (tried next : Option Head) → AreEarlier (2 ^ 41 + 1) m.table
     → next ≡ candidate_behind m.seeking tried m.table → MayFollow m next

@@ -2,8 +2,9 @@
 use Rattle.std.proofs.Common.{◌≡◌, ℕ, ◌+◌, ◌^◌, ◌≤◌, false, Option, refl, sym, subst, arith}
 use Rattle.asc_seek.specs.declared.seeker.Seeking.{Seeking}
 use Rattle.asc_seek.specs.Heads.{AreEarlier, no_heads}
-use Rattle.asc_seek.specs.Seek.{IsBehind, Seek, is_over, new_seek, seek_turn, seek_visit}
-use Rattle.asc_seek.proofs.Along.{AreEarlier-later, AreEarlier-seek_turn, seek_visit-is}
+use Rattle.asc_seek.specs.Inside.{IsBehind}
+use Rattle.asc_seek.specs.Seek.{Seek, is_over, new_seek, advanced, seek_visit}
+use Rattle.asc_seek.proofs.Along.{AreEarlier-later, AreEarlier-advanced, seek_visit-is}
 use Rattle.asc_seek.proofs.Tables.{empty}
 
 abbrev pub IsSearched : ℕ → Seek → Type 0
@@ -12,13 +13,13 @@ IsSearched count m = (IsBehind count m) × (is_over count m ≡ false) × (AreEa
 pub IsSearched-new_seek : (s : Seeking) (m : Seek) → m ≡ new_seek s → IsSearched 0 m
 IsSearched-new_seek s m is = subst (IsSearched 0) (sym is) (omega arith, refl, (empty no_heads refl).early 1, omega arith)
 
-pub IsSearched-seek_turn : (before count : ℕ) (m now : Seek) → now ≡ seek_turn count m → AreEarlier (before + 1) m.table
+pub IsSearched-advanced : (before count : ℕ) (m now : Seek) → now ≡ advanced count m → AreEarlier (before + 1) m.table
     → before ≤ count → count ≤ 2 ^ 41 → IsBehind count now → is_over count now ≡ false → IsSearched count now
-IsSearched-seek_turn before count m now is early le most behind goes_on = (
+IsSearched-advanced before count m now is early le most behind goes_on = (
   behind,
   goes_on,
   subst (λ (n : Seek). AreEarlier (count + 1) n.table) (sym is)
-      (AreEarlier-later (before + 1) (count + 1) (seek_turn count m).table (omega arith) (AreEarlier-seek_turn (before + 1) count m early)),
+      (AreEarlier-later (before + 1) (count + 1) (advanced count m).table (omega arith) (AreEarlier-advanced (before + 1) count m early)),
   most,
 )
 

@@ -4,7 +4,8 @@ use Rattle.std.specs.Prelude.{List, Vec, replicate, slice_index_or}
 use Rattle.std.proofs.lemmas.List.{length-replicate, with_items_is}
 use Rattle.std.specs.Vec.{with_items}
 use Rattle.asc_seek.specs.declared.heads.Head.{Head}
-use Rattle.asc_seek.specs.Heads.{AreEarlier, AreMetSeldom, no_heads, table_places}
+use Rattle.asc_seek.specs.Heads.{AreEarlier, no_heads, table_places}
+use Rattle.asc_seek.specs.Inside.{AreMetSeldom}
 
 -- nothing stands in it
 none_at : (n k : ℕ) → slice_index_or (replicate {A = Option Head} n None) k None ≡ None

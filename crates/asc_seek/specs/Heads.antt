@@ -58,7 +58,3 @@ comes_before a b = nat_lt (lap_of a) (lap_of b) || ((lap_of a == lap_of b) && na
 -- each of its heads was met before a count
 abbrev pub AreEarlier : (count : ℕ) → List (Option Head) → Type 0
 AreEarlier count table = (k : ℕ) (h : Head) → slice_index_or table k None ≡ Some h → h.last < count
-
--- each was met no more often than there were counts
-abbrev pub AreMetSeldom : List (Option Head) → Type 0
-AreMetSeldom table = (k : ℕ) (h : Head) → slice_index_or table k None ≡ Some h → h.times ≤ h.last

@@ -1,8 +1,8 @@
 //! The heads of a stretch of a run.
 ghost use Rattle.std.specs.Prelude.{◌≡◌, ◌+◌, ◌≤◌, Some, IfOk, length};
-ghost use Rattle.asc_seek.specs.Inside.{HasLaps};
+ghost use Rattle.asc_seek.specs.Inside.{AreMetSeldom, HasLaps};
 ghost use Rattle.asc_seek.specs.Seek.{is_behind};
-ghost use Rattle.asc_seek.specs.Heads.{AreEarlier, AreMetSeldom, comes_before, lap_of, no_heads, note, table_places};
+ghost use Rattle.asc_seek.specs.Heads.{AreEarlier, comes_before, lap_of, no_heads, note, table_places};
 
 use std::alloc::{AllocError, Global};
 

@@ -1,8 +1,9 @@
 //! Where a run is best visited, as it shows while the run goes on.
 //!
 //! In a stretch of the run it is noted which addresses a step led back to: the heads of its loops. They are tried one after
-//! the other, from the shortest laps on, until one pays well; else the best is kept. Where what is kept no longer pays, a
-//! stretch twice as long is looked at.
+//! the other, from the shortest laps on, until one pays well or eight stretches have passed. Else the best is kept, or there
+//! is a rest where none is good enough. Where what is kept no longer pays, or a rest ends, a stretch twice as long is looked
+//! at.
 #![tactic(auto)]
 
 mod heads;
@@ -11,4 +12,4 @@ mod seeker;
 mod tests;
 
 pub use heads::Head;
-pub use seeker::{Phase, Seeker, Seeking, Service, Trial};
+pub use seeker::{Phase, Scored, Seeker, Seeking, Service, Trial};

@@ -1,15 +1,18 @@
 //! A search for the address at which a run is visited.
 ghost use Rattle.std.specs.Prelude.{◌≡◌, ◌+◌, ◌*◌, ◌<◌, ◌≤◌, ◌^◌, max, ℕ, None, Some, true, false, IfOk};
 ghost use Rattle.asc_seek.specs.Heads.{AreEarlier, no_heads, note};
-ghost use Rattle.asc_seek.specs.Inside.{HasLaps, HasShortLap, MayFollow};
-ghost use Rattle.asc_seek.specs.Seek.{IsBehind, IsSeeking, candidate_behind, end_in, first_candidate, first_stretch, given_at, is_candidate, is_over, looked_steps, new_seek, next_candidate, pays, reached_from, score_at, seek_turn, seek_visit, serving, settled, steps_of, trial_end, turn_from, try_next, watched_in};
+ghost use Rattle.asc_seek.specs.Inside.{HasLaps, HasShortLap, IsBehind, MayFollow, first_candidate};
+ghost use Rattle.asc_seek.specs.Seek.{IsSeeking, candidate_behind, end_in, first_stretch, given_at, hopeless_steps, is_better, is_candidate, is_over, looked_steps, new_seek, next_candidate, pays, reached_from, score_at, scored_steps, advanced, seek_visit, serving, settled, steps_of, trial_end, advanced_from, try_next, watched_in};
 
 use crate::heads::{Head, clear, no_heads, note};
 use std::alloc::{AllocError, Global};
 use std::marker::Model;
 
-/// The steps of the first stretch, and the least that an address is kept or a rest lasts.
+/// The steps of the first stretch.
 const FIRST_STRETCH: u64 = 65_536;
+
+/// The least steps that an address is kept, or that a rest lasts.
+const LEAST_KEPT: u64 = 65_536;
 
 /// No further head is tried once the trials of a search took so many stretches.
 const TRIED_STRETCHES: u64 = 8;
@@ -28,8 +31,8 @@ const REST_RATIO: u64 = 8;
 pub struct Seeking {
     /// How often a step has to lead back to an address in a stretch: 2 to 65,536.
     pub least: u32,
-    /// How many steps a lap has to have on average: 1 to 2^40.
-    pub lap: u64,
+    /// How many steps its laps have to have on average: 1 to 2^40.
+    pub least_lap: u64,
     /// How many visits ahead are guessed: 1 to 64.
     pub ahead: u32,
 }
@@ -68,18 +71,18 @@ pub struct Trial {
     pub given: u64,
 }
 
-/// An address that is kept, or a rest.
+/// An address that is kept.
 #[derive(Clone, Copy, Debug, PartialEq, Eq)]
 pub struct Service {
-    /// The address: none in a rest.
-    pub address: Option<u32>,
+    /// The address.
+    pub address: u32,
     /// The steps of its laps on average.
     pub lap: u64,
     /// Since which count of steps.
     pub from: u64,
     /// How many steps were jumped over from where each visit can have been guessed.
     pub given: u64,
-    /// At which count it is looked at whether it pays, or the rest ends.
+    /// At which count it is looked at whether it pays.
     pub until: u64,
 }
 
@@ -90,8 +93,13 @@ pub enum Phase {
     Profile,
     /// A head is tried.
     Trial(Trial),
-    /// The best is kept for a while, or none is.
+    /// The best is kept for a while.
     Service(Service),
+    /// None is kept. Nothing is visited.
+    Rest {
+        /// At which count another search begins.
+        until: u64,
+    },
 }
 
 /// A search for the address at which a run is visited.
@@ -158,7 +166,6 @@ impl Seeker {
     {
         self.spent = 0;
         self.search_from(0, FIRST_STRETCH);
-        self.best = None;
     }
 
     /// The address at which the run is visited.
@@ -166,14 +173,14 @@ impl Seeker {
         ensures { result ≡ watched_in self.now.phase }
     {
         match self.phase {
-            Phase::Profile => None,
+            Phase::Profile | Phase::Rest { .. } => None,
             Phase::Trial(trial) => Some(trial.head.address),
-            Phase::Service(service) => service.address,
+            Phase::Service(service) => Some(service.address),
         }
     }
 
     /// Whether the addresses are noted that steps lead back to.
-    pub fn notes(&self) -> bool
+    pub fn is_noting(&self) -> bool
         ensures { (result ≡ true → self.now.phase ≡ Phase.Profile) × (self.now.phase ≡ Phase.Profile → result ≡ true) }
     {
         matches!(self.phase, Phase::Profile)
@@ -187,6 +194,7 @@ impl Seeker {
             Phase::Profile => self.since + self.stretch,
             Phase::Trial(trial) => trial.end(self.seeking, self.stretch),
             Phase::Service(service) => service.until,
+            Phase::Rest { until } => until,
         }
     }
 
@@ -212,7 +220,7 @@ impl Seeker {
     {
         let seeking = self.seeking;
         match &mut self.phase {
-            Phase::Profile => {}
+            Phase::Profile | Phase::Rest { .. } => {}
             Phase::Trial(trial) => {
                 let reached = seeking.reached_from(trial.from, trial.head.lap());
                 trial.given += given_at(reached, at, reply);
@@ -225,11 +233,11 @@ impl Seeker {
     }
 
     /// At a count of steps, which is not before its phase began: where the phase is over, the next begins.
-    #[tactic(auto, unfolding(crate::specs::Seek::seek_turn))]
-    pub fn turn(&mut self, count: u64)
+    #[tactic(auto, unfolding(crate::specs::Seek::advanced))]
+    pub fn advance(&mut self, count: u64)
         requires behind { IsBehind count self.old }
         requires count { count ≤ 2 ^ 41 }
-        ensures seek { self.new ≡ seek_turn count self.old }
+        ensures seek { self.new ≡ advanced count self.old }
         ensures going { is_over count self.new ≡ false }
         ensures behind { IsBehind count self.new }
     {
@@ -237,12 +245,10 @@ impl Seeker {
             return;
         }
         match self.phase {
-            Phase::Profile => {
-                self.best = None;
-                self.try_next(count, None);
-            }
+            Phase::Profile => self.try_next(count, None),
             Phase::Trial(trial) => self.end_trial(count, &trial),
             Phase::Service(service) => self.look_at(count, &service),
+            Phase::Rest { .. } => self.search_from(count, 2 * self.stretch),
         }
     }
 
@@ -252,11 +258,12 @@ impl Seeker {
         requires spent { self.old.spent ≤ count }
         requires stretch { (1 ≤ stretch) × (stretch ≤ first_stretch + count) }
         ensures { self.new
-            ≡ record self.old { since = count; stretch = stretch; table = no_heads; phase = Phase.Profile } }
+            ≡ record self.old { since = count; stretch = stretch; table = no_heads; best = None; phase = Phase.Profile } }
     {
         self.since = count;
         self.stretch = stretch;
         clear(self.table.as_mut_slice());
+        self.best = None;
         self.phase = Phase::Profile;
     }
 
@@ -276,13 +283,12 @@ impl Seeker {
         requires over { is_over count self.old ≡ true }
         requires behind { IsBehind count self.old }
         requires count { count ≤ 2 ^ 41 }
-        ensures seek { self.new ≡ turn_from count self.old (Phase.Trial trial.now) }
+        ensures seek { self.new ≡ advanced_from count self.old (Phase.Trial trial.now) }
         ensures going { is_over count self.new ≡ false }
         ensures behind { IsBehind count self.new }
     {
         let score = self.score(trial, count);
-        let best = self.best.map_or(KEPT_SCORE - 1, |best| best.score);
-        if best < score {
+        if self.is_better(score) {
             self.best = Some(Scored {
                 address: trial.head.address,
                 lap: trial.head.lap(),
@@ -296,13 +302,23 @@ impl Seeker {
         }
     }
 
-    // A kept address is looked at, or a rest ends: what pays goes on, and else a search begins.
+    // Whether a score is good enough to be kept, and better than the best so far.
+    fn is_better(&self, score: u64) -> bool
+        ensures { result ≡ is_better score self.now.best }
+    {
+        match self.best {
+            None => KEPT_SCORE <= score,
+            Some(best) => best.score < score,
+        }
+    }
+
+    // A kept address is looked at: where it pays it goes on, and else a search begins.
     fn look_at(&mut self, count: u64, service: &Service)
         requires service { self.old.phase ≡ Phase.Service service.now }
         requires over { is_over count self.old ≡ true }
         requires behind { IsBehind count self.old }
         requires count { count ≤ 2 ^ 41 }
-        ensures seek { self.new ≡ turn_from count self.old (Phase.Service service.now) }
+        ensures seek { self.new ≡ advanced_from count self.old (Phase.Service service.now) }
         ensures going { is_over count self.new ≡ false }
         ensures behind { IsBehind count self.new }
     {
@@ -368,8 +384,34 @@ impl Seeker {
         ensures going { is_over count self.new ≡ false }
         ensures behind { IsBehind count self.new }
     {
-        self.spent += count - self.since;
-        self.phase = Phase::Service(serving(count, self.best, self.spent));
+        let spent = self.spent + (count - self.since);
+        self.phase = self.serving(count, spent);
+        self.spent = spent;
+    }
+
+    // Behind a search that ended at a count, where all searches took so many steps: the best address is kept, or there is a
+    // rest.
+    fn serving(&self, count: u64, spent: u64) -> Phase
+        requires count { count ≤ 2 ^ 41 }
+        requires spent { spent ≤ 2 ^ 41 }
+        ensures { result ≡ serving self.now.seeking count self.now.best spent }
+    {
+        let rested = REST_RATIO * spent;
+        match self.best {
+            Some(best) => {
+                let reached = self.seeking.reached_from(count, best.lap);
+                Phase::Service(Service {
+                    address: best.address,
+                    lap: best.lap,
+                    from: count,
+                    given: 0,
+                    until: rested.max(reached + looked_steps(best.lap)),
+                })
+            }
+            None => Phase::Rest {
+                until: rested.max(count + LEAST_KEPT),
+            },
+        }
     }
 
     // The first of the candidates that come behind one that was tried.
@@ -412,7 +454,7 @@ impl Seeker {
         ensures candidate { result ≡ is_candidate self.now.seeking head.now }
         ensures times { result ≡ true → 2 ≤ head.now.times }
     {
-        u64::from(self.seeking.least) <= head.times && self.seeking.lap <= head.lap()
+        u64::from(self.seeking.least) <= head.times && self.seeking.least_lap <= head.lap()
     }
 }
 
@@ -428,20 +470,36 @@ impl Trial {
     {
         let lap = self.head.lap();
         let more = if self.given == 0 {
-            (4 * lap).max(stretch / 16)
+            hopeless_steps(lap, stretch)
         } else {
-            (12 * lap).max(stretch / 4)
+            scored_steps(lap, stretch)
         };
         seeking.reached_from(self.from, lap) + more
     }
 }
 
-// How long an address is kept before it is looked at.
+// How long a trial is scored.
+fn scored_steps(lap: u64, stretch: u64) -> u64
+    requires lap { lap ≤ 2 ^ 41 }
+    ensures { result ≡ scored_steps lap stretch }
+{
+    (12 * lap).max(stretch / 4)
+}
+
+// How long a head is tried where no step is jumped over.
+fn hopeless_steps(lap: u64, stretch: u64) -> u64
+    requires lap { lap ≤ 2 ^ 41 }
+    ensures { result ≡ hopeless_steps lap stretch }
+{
+    (4 * lap).max(stretch / 16)
+}
+
+// How long an address is kept, from where each visit can have been guessed, before it is looked at.
 fn looked_steps(lap: u64) -> u64
     requires { lap ≤ 2 ^ 41 }
     ensures { result ≡ looked_steps lap }
 {
-    (64 * lap).max(FIRST_STRETCH)
+    (64 * lap).max(LEAST_KEPT)
 }
 
 // What counts of a visit: the steps that it jumped over from a count on.
@@ -451,21 +509,4 @@ fn given_at(reached: u64, at: u64, reply: Option<u64>) -> u64
     ensures most { result ≤ steps_of reply }
 {
     (at + reply.unwrap_or(0)).saturating_sub(at.max(reached))
-}
-
-// The best address is kept from a count on, or there is a rest, where all searches took so many steps.
-fn serving(count: u64, best: Option<Scored>, spent: u64) -> Service
-    requires best { HasShortLap best }
-    requires count { count ≤ 2 ^ 41 }
-    requires spent { spent ≤ 2 ^ 41 }
-    ensures { result ≡ serving count best spent }
-{
-    let lap = best.map_or(0, |best| best.lap);
-    Service {
-        address: best.map(|best| best.address),
-        lap,
-        from: count,
-        given: 0,
-        until: (REST_RATIO * spent).max(count + looked_steps(lap)),
-    }
 }

@@ -1,7 +1,8 @@
 //! Tests.
 ghost use Rattle.std.specs.Prelude.{◌≡◌, ◌+◌, ◌≤◌, ◌^◌, ℕ, false};
 ghost use Rattle.asc_seek.specs.Heads.{AreEarlier};
-ghost use Rattle.asc_seek.specs.Seek.{Seek, IsBehind, is_over};
+ghost use Rattle.asc_seek.specs.Inside.{IsBehind};
+ghost use Rattle.asc_seek.specs.Seek.{Seek, is_over};
 
 use crate::{Seeker, Seeking};
 use std::alloc::Global;
@@ -27,7 +28,7 @@ impl Model for Searched {
 impl Searched {
     fn new<R: Abort>(rt: &R, alloc: Global, seeking: Seeking) -> Searched {
         assert!(rt; seeking.least >= 2 && seeking.least < 10);
-        assert!(rt; seeking.lap >= 1 && seeking.lap < 1000);
+        assert!(rt; seeking.least_lap >= 1 && seeking.least_lap < 1000);
         assert!(rt; seeking.ahead >= 1 && seeking.ahead < 10);
         Searched {
             seeker: Seeker::new(alloc, seeking).expect(rt, "memory"),
@@ -43,7 +44,7 @@ impl Searched {
     // Steps led back to these addresses at these counts.
     fn note<R: Abort>(&mut self, rt: &R, heads: &[(u32, u64)]) {
         for &(address, count) in heads {
-            assert!(rt; self.seeker.notes());
+            assert!(rt; self.seeker.is_noting());
             assert!(rt; self.count < count && count < self.seeker.end() && count < 1 << 40);
             self.seeker.note(address, count);
             self.count = count;
@@ -54,7 +55,7 @@ impl Searched {
     fn go<R: Abort>(&mut self, rt: &R, count: u64) {
         assert!(rt; self.count <= count);
         assert!(rt; count < 1 << 40);
-        self.seeker.turn(count);
+        self.seeker.advance(count);
         self.count = count;
     }
 
@@ -66,7 +67,7 @@ impl Searched {
         assert!(rt; self.count < 1 << 40);
         let count = self.count + steps;
         self.seeker.visit(self.count, jumped);
-        self.seeker.turn(count);
+        self.seeker.advance(count);
         self.count = count;
     }
 
@@ -99,7 +100,7 @@ const THIRD: u32 = 0x1008;
 fn heads(rt: HostRuntime) {
     let seeking = Seeking {
         least: 3,
-        lap: 4,
+        least_lap: 4,
         ahead: 1,
     };
     let mut searched = Searched::new(&rt, rt.alloc(), seeking);
@@ -136,14 +137,14 @@ fn heads(rt: HostRuntime) {
         (656_400, None, 787_472),
     ];
     searched.follow(&rt, &rows);
-    assert!(rt; searched.seeker.notes());
+    assert!(rt; searched.seeker.is_noting());
 }
 
 // A search for addresses that were met twice.
 fn twice<R: Abort>(rt: &R, alloc: Global) -> Searched {
     let seeking = Seeking {
         least: 2,
-        lap: 10,
+        least_lap: 10,
         ahead: 1,
     };
     Searched::new(rt, alloc, seeking)

@@ -17,7 +17,6 @@ use Rattle.asc_run.specs.declared.walk.Ended.TheVariants as ends
 use Rattle.asc_run.specs.declared.walk.Settings.{Settings}
 use Rattle.asc_run.specs.declared.recognised.Recognised.{Recognised}
 use Rattle.asc_run.specs.declared.recognised.Recognised.TheVariants.{At, Chosen, Nowhere, Sought}
-use Rattle.asc_seek.specs.declared.seeker.Seeking.{Seeking}
 use Rattle.asc_run.specs.Execution.{progress, first_position}
 use Rattle.asc_run.specs.Visits.{AreVisits, Course, Marking, Visit, is_mark, tally_of}
 use Rattle.asc_run.specs.SerialRun.{Numbers, IsSerialRun}
@@ -33,7 +32,7 @@ use Rattle.asc_words.specs.declared.answer.WorkerCounts.{WorkerCounts}
 use Rattle.asc_words.specs.declared.answer.Outcome.{Outcome}
 use Rattle.asc_words.specs.declared.answer.TrialOutcome.{TrialOutcome}
 use Rattle.asc_words.specs.declared.answer.SavedFault.{SavedFault}
-use Rattle.asc_words.specs.Line.{file_limit}
+use Rattle.asc_words.specs.Line.{file_limit, seeking_of}
 use Rattle.asc_words.specs.Report.{trial_text}
 use Rattle.asc_top.specs.Program.{Files, ProgramResult, Gives, GivesPart, refusal, first_entries, image_alone, load_of, run_of_image, meaning, trial_run}
 
@@ -76,18 +75,6 @@ has_visits line = line.report || has_workers line || is_some line.load
 -- of guess is on.
 abbrev pub keeps_entries : RunLine → Bool
 keeps_entries line = is_some line.load || (line.report && (line.last || line.stride))
-
--- the steps that the laps of a sought address have to have beside workers: a jump over fewer gains less than a visit takes
-abbrev pub worth_steps : ℕ
-worth_steps = 500
-
--- what is sought, where a line has no address
-abbrev pub seeking_of : RunLine → Seeking
-seeking_of line = record {
-  least = line.least;
-  lap = if has_workers line then worth_steps else 1;
-  ahead = line.ahead;
-}
 
 -- The recognised address: the line's own, or, where a kind of guess is on, one that is sought while the run goes on, or
 -- chosen of the first steps.

@@ -16,3 +16,4 @@ mod trial;
 
 pub use asc_words::{Answer, Bad, Line, Outcome, SavedFault};
 pub use program::{outcome_alone, reported, top};
+pub use settings::{guessing_of, visited_settings};

@@ -2,18 +2,14 @@
 ghost use Rattle.std.specs.Prelude.{◌≡◌, if◌then◌else◌};
 ghost use Rattle.asc_run.specs.declared.recognised.Recognised.TheVariants.{Chosen, Sought};
 ghost use Rattle.asc_run.specs.Visits.{HasBounds};
-ghost use Rattle.asc_words.specs.Line.{IsRunWithin};
-ghost use Rattle.asc_top.specs.Numbers.{guessing_of, has_visits, keeps_entries, recognised_by, seeking_of, settings_of, visited_settings};
+ghost use Rattle.asc_words.specs.Line.{IsRunWithin, seeking_of};
+ghost use Rattle.asc_top.specs.Numbers.{guessing_of, has_visits, keeps_entries, recognised_by, settings_of, visited_settings};
 ghost use Rattle.asc_top.specs.Workers.{crew_of};
 
 use asc_find::Guessing;
 use asc_live::Crew;
 use asc_run::{Recognised, Settings};
-use asc_seek::Seeking;
 use asc_words::RunLine;
-
-/// The steps that the laps of a sought address have to have beside workers: a jump over fewer gains less than a visit takes.
-const WORTH_STEPS: u64 = 500;
 
 /// Whether a line without workers has entries kept.
 pub(crate) fn keeps_entries(line: &RunLine) -> bool
@@ -29,8 +25,8 @@ fn has_visits(line: &RunLine) -> bool
     line.report || line.workers > 0 || line.load.is_some()
 }
 
-/// What a line asks to be guessed.
-pub(crate) fn guessing_of(line: &RunLine) -> Guessing
+/// What a line asks to be guessed at a visit.
+pub fn guessing_of(line: &RunLine) -> Guessing
     ensures { result ≡ guessing_of line.now }
 {
     Guessing {
@@ -53,8 +49,8 @@ pub(crate) fn crew_of(line: &RunLine) -> Crew
     }
 }
 
-/// How a line asks for a walk that is visited.
-pub(crate) fn visited_settings(line: &RunLine) -> Settings
+/// How a line asks for a walk that is visited: how far it goes, and at which address.
+pub fn visited_settings(line: &RunLine) -> Settings
     requires { IsRunWithin line.now }
     ensures settings { result ≡ visited_settings line.now }
     ensures bounds { HasBounds result.recognised }
@@ -102,11 +98,7 @@ fn sought_or_chosen(line: &RunLine) -> Recognised
     ensures bounds { HasBounds result }
 {
     if line.seek {
-        return Recognised::Sought(Seeking {
-            least: line.least,
-            lap: if line.workers > 0 { WORTH_STEPS } else { 1 },
-            ahead: line.ahead,
-        });
+        return Recognised::Sought(line.seeking());
     }
     Recognised::Chosen {
         profile: line.profile,

@@ -1,5 +1,5 @@
 -- What the words of a command line mean.
-use Rattle.std.specs.Prelude.{ℕ, ◌≡◌, ◌^◌, ◌<◌, ◌≤◌, ◌==◌, ◌&&◌, Bool, true, false, codes, nat_le, List, [], length, Option, Some, None, Result, Ok, Err, unwrap_or, if◌then◌else◌}
+use Rattle.std.specs.Prelude.{ℕ, ◌≡◌, ◌^◌, ◌<◌, ◌≤◌, ◌==◌, ◌&&◌, Bool, true, false, codes, nat_le, nat_lt, List, [], length, Option, Some, None, Result, Ok, Err, unwrap_or, if◌then◌else◌}
 use Rattle.std.specs.Char.{is_ascii_hexdigit}
 use Rattle.std.specs.List.{list_all}
 use Rattle.std.specs.Result.{result_map_both}
@@ -10,6 +10,7 @@ use Rattle.clap.specs.Simple.{subcommand_of}
 use Rattle.clap.specs.Faults.{fault_of}
 use Rattle.asc_model.specs.declared.version.Version.{Version}
 use Rattle.asc_model.specs.declared.version.Version.TheVariants.{One, Two}
+use Rattle.asc_seek.specs.declared.seeker.Seeking.{Seeking}
 use Rattle.asc_words.specs.declared.answer.Bad.{Bad}
 use Rattle.asc_words.specs.declared.answer.Bad.TheVariants.{Words, Pc, Inputs}
 use Rattle.asc_words.specs.declared.line.Line.{Line}
@@ -168,6 +169,18 @@ unfoldable pub line_of : List Text → Result Line Bad
 line_of words =
     if is_empty (fault_of asc_command words) then line_found (subcommand_of asc_command words)
     else Err Words
+
+-- the steps that the laps of a sought address have to have beside workers: a jump over fewer gains less than a visit takes
+abbrev pub worth_steps : ℕ
+worth_steps = 500
+
+-- what is sought in a run, where it has no address
+abbrev pub seeking_of : RunLine → Seeking
+seeking_of line = record {
+  least = line.least;
+  least_lap = if nat_lt 0 line.workers then worth_steps else 1;
+  ahead = line.ahead;
+}
 
 -- a number is from least to most
 abbrev pub IsBetween : ℕ → ℕ → ℕ → Type 0

@@ -1,11 +1,13 @@
 ghost use Rattle.std.specs.Prelude.{codes, ℕ, ◌≡◌, ◌<◌, ◌≤◌, IfOk, IfErr, Ok, Err, length, map, option_map};
 ghost use Rattle.std.specs.String.{string_bytes};
 ghost use Rattle.clap.specs.Words.{found_of, rows_of};
+ghost use Rattle.asc_seek.specs.Seek.{IsSeeking};
 ghost use Rattle.asc_words.specs.Rows.{HasFlag, HasNumber, HasShared, IsBatch, IsRun};
-ghost use Rattle.asc_words.specs.Line.{IsWithin, address_of, batch_of, beside_in, flag_in, guesses_of, inputs_in, is_address, lanes_in, line_of, most_inputs, number_in, run_of, shared_of, version_numbered};
+ghost use Rattle.asc_words.specs.Line.{IsRunWithin, IsWithin, address_of, batch_of, beside_in, flag_in, guesses_of, inputs_in, is_address, lanes_in, line_of, most_inputs, number_in, run_of, seeking_of, shared_of, version_numbered};
 
 use crate::answer::Bad;
 use crate::command::asc_command;
+use asc_seek::Seeking;
 use asc_shape::Version;
 use clap::ArgMatches;
 use clap::error::ErrorKind;
@@ -17,6 +19,9 @@ pub const FILE_LIMIT: usize = 67_108_864;
 
 /// The most inputs of a batch.
 const MOST_INPUTS: usize = 64;
+
+/// The steps that the laps of a sought address have to have beside workers: a jump over fewer gains less than a visit takes.
+const WORTH_STEPS: u64 = 500;
 
 /// The name of a file in a store. Contracts see it as its bytes.
 #[derive(Debug, Drop)]
@@ -91,6 +96,21 @@ pub struct RunLine {
     pub report: bool,
     /// The file of saved entries that is loaded before the run.
     pub load: Option<FileName>,
+}
+
+impl RunLine {
+    /// What is sought in the run, where it has no address.
+    pub fn seeking(&self) -> Seeking
+        requires { IsRunWithin self.now }
+        ensures seeking { result ≡ seeking_of self.now }
+        ensures bounds { IsSeeking result }
+    {
+        Seeking {
+            least: self.least,
+            least_lap: if self.workers > 0 { WORTH_STEPS } else { 1 },
+            ahead: self.ahead,
+        }
+    }
 }
 
 /// What `asc batch` is asked for. Contracts see the list of its inputs.

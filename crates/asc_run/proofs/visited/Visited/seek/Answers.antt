@@ -40,7 +40,7 @@ returns-then-at-limit-clause-run g c = seeks-limit c.args.limit c.args.seeker.no
 
 pub loop-limit-preserved-in-Some : goal.loop-limit-preserved-in-Some
 loop-limit-preserved-in-Some g c =
-    let v = c.loop-limit.invariant in let e = c.in-Some.ensures in let l = c.learn-most.ensures in let u = c.turn.ensures in
+    let v = c.loop-limit.invariant in let e = c.in-Some.ensures in let l = c.learn-most.ensures in let u = c.advance.ensures in
     let n = c.in-Some.n in
     let at = c.loop-limit.self.process.count in
     let within = v.within in let not_limit = c.if-at-limit.false in
@@ -55,11 +55,11 @@ loop-limit-preserved-in-Some g c =
     let least = e.jump.least in let most = e.jump.most in
     let is = visit-told b at (Some n) _ _ e.number in
     record {
-      walk = seeks-jump c.args.limit c.args.seeker.now.seeking _ _ _ _ _ _ _ _ _ _ _ _ _ _ _ _ c.loop-limit.seeker c.turn.new.self c.learn-most.new.seeker c.watched-pc.result _ _ _ (ap (λ p. p.process.calls) e.kept) count skipped u.seek u.going c.watched-pc.ensures (omega (arith, within, not_limit)) n
+      walk = seeks-jump c.args.limit c.args.seeker.now.seeking _ _ _ _ _ _ _ _ _ _ _ _ _ _ _ _ c.loop-limit.seeker c.advance.new.self c.learn-most.new.seeker c.watched-pc.result _ _ _ (ap (λ p. p.process.calls) e.kept) count skipped u.seek u.going c.watched-pc.ensures (omega (arith, within, not_limit)) n
           (learnt-is _ b at _ (Some n) _ _ l.seek is c.in-Some.is) e.jump e.passed v.walk e.number e.helped e.machine;
       behind = (let told = ap steps_of c.in-Some.is in l.behind _ (omega (arith, count, least, told)));
-      early = IsEarly-later (c.land-reply.new.self.process.count + 1) _ c.learn-most.new.seeker (omega arith) (IsEarly-learnt _ at c.land-reply.new.self.process.count _ c.loop-limit.seeker c.turn.new.self c.learn-most.new.seeker u.seek l.seek count v.early);
-      seeking = learnt-seeking _ at _ c.loop-limit.seeker c.turn.new.self c.learn-most.new.seeker u.seek l.seek ∙ v.seeking;
+      early = IsEarly-later (c.land-reply.new.self.process.count + 1) _ c.learn-most.new.seeker (omega arith) (IsEarly-learnt _ at c.land-reply.new.self.process.count _ c.loop-limit.seeker c.advance.new.self c.learn-most.new.seeker u.seek l.seek count v.early);
+      seeking = learnt-seeking _ at _ c.loop-limit.seeker c.advance.new.self c.learn-most.new.seeker u.seek l.seek ∙ v.seeking;
       shape = jump-shape (Some n) _ _ _ e.jump ∙ v.shape;
       within = omega (arith, count, most, within);
       given = (let x = v.given in omega (arith, x, given, skipped));
@@ -76,17 +76,17 @@ loop-limit-preserved-in-Some g c =
 pub go_noting-stopped-requires-clause-earlier : goal.go_noting-stopped-requires-clause-earlier
 go_noting-stopped-requires-clause-earlier g c =
     let v = c.loop-limit.invariant in let e = c.in_default.ensures in
-    IsEarly-learnt _ c.loop-limit.self.process.count c.land-reply.new.self.process.count _ c.loop-limit.seeker c.turn.new.self c.learn-most.new.seeker c.turn.ensures.seek c.learn-most.ensures.seek (ap (λ p. p.process.count) e.kept) v.early
+    IsEarly-learnt _ c.loop-limit.self.process.count c.land-reply.new.self.process.count _ c.loop-limit.seeker c.advance.new.self c.learn-most.new.seeker c.advance.ensures.seek c.learn-most.ensures.seek (ap (λ p. p.process.count) e.kept) v.early
 
 pub returns-in-Some-stop_noting-clause-run : goal.returns-in-Some-stop_noting-clause-run
 returns-in-Some-stop_noting-clause-run g c =
-    let v = c.loop-limit.invariant in let e = c.in_default.ensures in let l = c.learn-most.ensures in let u = c.turn.ensures in let p = c.go_noting-stopped.ensures in let t = c.in-Some-stop_noting.ensures in
+    let v = c.loop-limit.invariant in let e = c.in_default.ensures in let l = c.learn-most.ensures in let u = c.advance.ensures in let p = c.go_noting-stopped.ensures in let t = c.in-Some-stop_noting.ensures in
     let at = c.loop-limit.self.process.count in
     let within = v.within in let not_limit = c.if-at-limit.false in let count = ap (λ p. p.process.count) e.kept in let still = c.if-self-at.true in
     let b = is_at c.watched-pc.result c.loop-limit.self.process.state in
     let is = visit-told b at None _ _ e.number in
-    let may = MayGo-learnt _ b at c.land-reply.new.self.process.count c.learn-most.result _ c.watched-pc.result c.turn.new.self c.learn-most.new.seeker l.seek is count l.some l.visit l.phase u.behind c.watched-pc.ensures in
-    let step = seeks-step c.args.limit c.args.seeker.now.seeking _ _ _ _ _ _ _ _ _ _ _ _ _ _ _ _ c.loop-limit.seeker c.turn.new.self c.learn-most.new.seeker c.watched-pc.result _ _ _ (ap (λ p. p.process.calls) e.kept) count (ap (λ p. p.skipped) e.kept) u.seek u.going c.watched-pc.ensures (omega (arith, within, not_limit))
+    let may = MayGo-learnt _ b at c.land-reply.new.self.process.count c.learn-most.result _ c.watched-pc.result c.advance.new.self c.learn-most.new.seeker l.seek is count l.some l.visit l.phase u.behind c.watched-pc.ensures in
+    let step = seeks-step c.args.limit c.args.seeker.now.seeking _ _ _ _ _ _ _ _ _ _ _ _ _ _ _ _ c.loop-limit.seeker c.advance.new.self c.learn-most.new.seeker c.watched-pc.result _ _ _ (ap (λ p. p.process.calls) e.kept) count (ap (λ p. p.skipped) e.kept) u.seek u.going c.watched-pc.ensures (omega (arith, within, not_limit))
     (learnt-is _ b at _ None _ _ l.seek is c.in_default.is) e.jump v.walk e.number e.helped e.machine in
     let mid = seeks-still c.args.limit c.args.seeker.now.seeking _ b _ _ _ _ _ _ _ _ _ _ _ _ _ _ c.learn-most.result c.learn-most.new.seeker c.go_noting-stopped.new.seeker c.watched-pc.result _ _ may (ap (λ p. p.calls) p.kept) p.counter p.goes p.noted p.other (still ∙ sym count) step in
     seeks-end c.args.limit c.args.seeker.now.seeking _ b _ _ _ _ _ _ c.go_noting-stopped.new.seeker _ _ c.in-Some-stop_noting.ended mid.0 (omega (arith, within, not_limit, still)) t.turn t.fails t.count
@@ -104,11 +104,11 @@ returns-in-Some-stop_noting-clause-seen g c =
 pub returns-in-Some-stop_noting-clause-seeking : goal.returns-in-Some-stop_noting-clause-seeking
 returns-in-Some-stop_noting-clause-seeking g c =
     c.in-Some-stop_noting.ensures.seeking ∙ c.go_noting-stopped.ensures.seeking
-    ∙ learnt-seeking _ c.loop-limit.self.process.count _ c.loop-limit.seeker c.turn.new.self c.learn-most.new.seeker c.turn.ensures.seek c.learn-most.ensures.seek ∙ c.loop-limit.invariant.seeking
+    ∙ learnt-seeking _ c.loop-limit.self.process.count _ c.loop-limit.seeker c.advance.new.self c.learn-most.new.seeker c.advance.ensures.seek c.learn-most.ensures.seek ∙ c.loop-limit.invariant.seeking
 
 pub loop-limit-preserved-in_default-stop_noting : goal.loop-limit-preserved-in_default-stop_noting
 loop-limit-preserved-in_default-stop_noting g c =
-    let v = c.loop-limit.invariant in let e = c.in_default.ensures in let l = c.learn-most.ensures in let u = c.turn.ensures in let p = c.go_noting-stopped.ensures in let t = c.in_default-stop_noting.ensures in
+    let v = c.loop-limit.invariant in let e = c.in_default.ensures in let l = c.learn-most.ensures in let u = c.advance.ensures in let p = c.go_noting-stopped.ensures in let t = c.in_default-stop_noting.ensures in
     let at = c.loop-limit.self.process.count in
     let turn = t.turn refl in
     let one = turn.one refl in
@@ -123,14 +123,14 @@ loop-limit-preserved-in_default-stop_noting g c =
     let hits = hits-more b at None _ _ (λ _. refl) e.helped in
     record {
       walk =
-          let may = MayGo-learnt _ b at c.land-reply.new.self.process.count c.learn-most.result _ c.watched-pc.result c.turn.new.self c.learn-most.new.seeker l.seek is count l.some l.visit l.phase u.behind c.watched-pc.ensures in
-          let step = seeks-step c.args.limit c.args.seeker.now.seeking _ _ _ _ _ _ _ _ _ _ _ _ _ _ _ _ c.loop-limit.seeker c.turn.new.self c.learn-most.new.seeker c.watched-pc.result _ _ _ (ap (λ p. p.process.calls) e.kept) count same_given u.seek u.going c.watched-pc.ensures (omega (arith, within, not_limit))
+          let may = MayGo-learnt _ b at c.land-reply.new.self.process.count c.learn-most.result _ c.watched-pc.result c.advance.new.self c.learn-most.new.seeker l.seek is count l.some l.visit l.phase u.behind c.watched-pc.ensures in
+          let step = seeks-step c.args.limit c.args.seeker.now.seeking _ _ _ _ _ _ _ _ _ _ _ _ _ _ _ _ c.loop-limit.seeker c.advance.new.self c.learn-most.new.seeker c.watched-pc.result _ _ _ (ap (λ p. p.process.calls) e.kept) count same_given u.seek u.going c.watched-pc.ensures (omega (arith, within, not_limit))
           (learnt-is _ b at _ None _ _ l.seek is c.in_default.is) e.jump v.walk e.number e.helped e.machine in
           let mid = seeks-still c.args.limit c.args.seeker.now.seeking _ b _ _ _ _ _ _ _ _ _ _ _ _ _ _ c.learn-most.result c.learn-most.new.seeker c.go_noting-stopped.new.seeker c.watched-pc.result _ _ may (ap (λ p. p.calls) p.kept) p.counter p.goes p.noted p.other (still ∙ sym count) step in
           seeks-turn c.args.limit c.args.seeker.now.seeking _ b _ _ _ _ _ _ c.learn-most.result c.go_noting-stopped.new.seeker c.stop_noting.new.seeker c.watched-pc.result _ _ mid.1 mid.0 turn (t.noted refl) t.other;
       behind = (let told = ap steps_of c.in_default.is in t.behind _ (p.behind _ (l.behind _ (omega (arith, one, still, told)))));
       early = t.earlier refl;
-      seeking = t.seeking ∙ p.seeking ∙ learnt-seeking _ at _ c.loop-limit.seeker c.turn.new.self c.learn-most.new.seeker u.seek l.seek ∙ v.seeking;
+      seeking = t.seeking ∙ p.seeking ∙ learnt-seeking _ at _ c.loop-limit.seeker c.advance.new.self c.learn-most.new.seeker u.seek l.seek ∙ v.seeking;
       shape = turn.shape ∙ plain-shape _ _ _ p.goes ∙ jump-shape None 0 _ _ e.jump ∙ v.shape;
       within = omega (arith, within, not_limit, one, still);
       given = (let x = v.given in omega (arith, x, given, same_given));
@@ -146,7 +146,7 @@ loop-limit-preserved-in_default-stop_noting g c =
 
 pub loop-limit-preserved : goal.loop-limit-preserved
 loop-limit-preserved g c =
-    let v = c.loop-limit.invariant in let e = c.in_default.ensures in let l = c.learn-most.ensures in let u = c.turn.ensures in let p = c.go_noting-stopped.ensures in
+    let v = c.loop-limit.invariant in let e = c.in_default.ensures in let l = c.learn-most.ensures in let u = c.advance.ensures in let p = c.go_noting-stopped.ensures in
     let at = c.loop-limit.self.process.count in
     let within = v.within in let more = p.grows in let most = p.most in let fits = l.limit in let not_limit = c.if-at-limit.false in let moved = c.if-self-at.false in
     let count = ap (λ p. p.process.count) e.kept in
@@ -160,13 +160,13 @@ loop-limit-preserved g c =
     let hits = hits-more b at None _ _ (λ _. refl) e.helped in
     record {
       walk =
-          let may = MayGo-learnt _ b at c.land-reply.new.self.process.count c.learn-most.result _ c.watched-pc.result c.turn.new.self c.learn-most.new.seeker l.seek is count l.some l.visit l.phase u.behind c.watched-pc.ensures in
-          let step = seeks-step c.args.limit c.args.seeker.now.seeking _ _ _ _ _ _ _ _ _ _ _ _ _ _ _ _ c.loop-limit.seeker c.turn.new.self c.learn-most.new.seeker c.watched-pc.result _ _ _ (ap (λ p. p.process.calls) e.kept) count same_given u.seek u.going c.watched-pc.ensures (omega (arith, within, not_limit))
+          let may = MayGo-learnt _ b at c.land-reply.new.self.process.count c.learn-most.result _ c.watched-pc.result c.advance.new.self c.learn-most.new.seeker l.seek is count l.some l.visit l.phase u.behind c.watched-pc.ensures in
+          let step = seeks-step c.args.limit c.args.seeker.now.seeking _ _ _ _ _ _ _ _ _ _ _ _ _ _ _ _ c.loop-limit.seeker c.advance.new.self c.learn-most.new.seeker c.watched-pc.result _ _ _ (ap (λ p. p.process.calls) e.kept) count same_given u.seek u.going c.watched-pc.ensures (omega (arith, within, not_limit))
           (learnt-is _ b at _ None _ _ l.seek is c.in_default.is) e.jump v.walk e.number e.helped e.machine in
           seeks-plain c.args.limit c.args.seeker.now.seeking _ b _ _ _ _ _ _ _ _ _ _ _ _ _ _ c.learn-most.result c.learn-most.new.seeker c.go_noting-stopped.new.seeker c.watched-pc.result _ _ may (ap (λ p. p.calls) p.kept) p.counter p.goes p.noted p.other (omega (arith, more, moved, count)) most p.passes step;
       behind = (let told = ap steps_of c.in_default.is in p.behind _ (l.behind _ (omega (arith, more, moved, count, told))));
       early = p.earlier;
-      seeking = p.seeking ∙ learnt-seeking _ at _ c.loop-limit.seeker c.turn.new.self c.learn-most.new.seeker u.seek l.seek ∙ v.seeking;
+      seeking = p.seeking ∙ learnt-seeking _ at _ c.loop-limit.seeker c.advance.new.self c.learn-most.new.seeker u.seek l.seek ∙ v.seeking;
       shape = plain-shape _ _ _ p.goes ∙ jump-shape None 0 _ _ e.jump ∙ v.shape;
       within = omega (arith, within, count, most, fits);
       given = (let x = v.given in omega (arith, x, given, same_given));

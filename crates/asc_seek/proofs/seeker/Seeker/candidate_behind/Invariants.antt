@@ -1,8 +1,7 @@
 -- The first candidate of the places so far.
 use Rattle.std.proofs.Common.{◌≡◌, None}
 use Rattle.std.specs.Prelude.{fold, take}
-use Rattle.asc_seek.specs.Inside.{HasLaps}
-use Rattle.asc_seek.specs.Seek.{first_candidate}
+use Rattle.asc_seek.specs.Inside.{HasLaps, first_candidate}
 use Rattle.asc_seek.proofs.seeker.Seeker.candidate_behind.Given as goal
 
 abbrev pub invariant-loop-met : goal.invariant-loop-met

@@ -1,5 +1,5 @@
 -- The table has no heads any more.
-use Rattle.std.proofs.Common.{◌≤◌, List, Option, ap, sym, subst, ◌∙◌}
+use Rattle.std.proofs.Common.{◌≤◌, List, Option, None, ap, sym, subst, ◌∙◌}
 use Rattle.asc_seek.specs.declared.heads.Head.{Head}
 use Rattle.asc_seek.specs.declared.seeker.Phase.TheVariants as phase
 use Rattle.asc_seek.specs.Heads.{no_heads}
@@ -18,14 +18,14 @@ invariant_of-self c =
       places = none.places;
       seldom = none.seldom;
       early = none.early _;
-      best = c.self.invariant.best;
+      best = tt;
       phase = subst (λ (m : Seek). m.spent ≤ c.args.count) (sym c.self.view_is) c.requires.spent;
     }
 
 pub returns : goal.returns
 returns c =
     let begun = λ (table : List (Option Head)) (m : Seek).
-    record m { since = c.args.count; stretch = c.args.stretch; table = table; phase = phase.Profile } in
+    record m { since = c.args.count; stretch = c.args.stretch; table = table; best = None; phase = phase.Profile } in
     ap (λ (table : List (Option Head)). begun table (the_view c.self.inside))
     (emptied c.self.inside.table c.clear.new.table c.clear.ensures c.self.invariant.places)
     ∙ ap (begun no_heads) c.self.view_is
