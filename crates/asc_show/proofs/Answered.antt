@@ -10,7 +10,7 @@ use Rattle.asc_words.specs.declared.line.RunLine.{RunLine}
 use Rattle.asc_show.specs.declared.answer.Answer.{Answer}
 use Rattle.asc_show.specs.declared.answer.Answer.TheVariants as answers
 use Rattle.asc_show.specs.declared.request.Question.{Question}
-use Rattle.asc_show.specs.declared.request.Question.TheVariants.{Entry, Miss, At, Profile}
+use Rattle.asc_show.specs.declared.request.Question.TheVariants.{Entry, Miss, At, Profile, Seek}
 use Rattle.asc_show.specs.declared.request.Request.{Request}
 use Rattle.asc_show.specs.Asked.{Asks}
 use Rattle.asc_show.specs.Shown.{Answers, HasNoText, Outer, Says, Starts, counted_world, refusal_of}
@@ -47,26 +47,32 @@ no-text line (Entry visit) start left steps answers.Shown none = absurd none
 no-text line (Miss visit) start left steps answers.Shown none = absurd none
 no-text line (At count) start left steps answers.Shown none = absurd none
 no-text line (Profile addresses) start left steps answers.Shown none = absurd none
+no-text line Seek start left steps answers.Shown none = absurd none
 no-text line (Entry visit) start left steps (answers.Image fault) none = absurd none
 no-text line (Miss visit) start left steps (answers.Image fault) none = absurd none
 no-text line (At count) start left steps (answers.Image fault) none = absurd none
 no-text line (Profile addresses) start left steps (answers.Image fault) none = absurd none
+no-text line Seek start left steps (answers.Image fault) none = absurd none
 no-text line (Entry visit) start left steps answers.OutFault none = absurd none
 no-text line (Miss visit) start left steps answers.OutFault none = absurd none
 no-text line (At count) start left steps answers.OutFault none = absurd none
 no-text line (Profile addresses) start left steps answers.OutFault none = absurd none
+no-text line Seek start left steps answers.OutFault none = absurd none
 no-text line (Entry visit) start left steps answers.Usage none = absurd none
 no-text line (Miss visit) start left steps answers.Usage none = absurd none
 no-text line (At count) start left steps answers.Usage none = absurd none
 no-text line (Profile addresses) start left steps answers.Usage none = absurd none
+no-text line Seek start left steps answers.Usage none = absurd none
 no-text line (Entry visit) start left steps answers.TooLong none = absurd none
 no-text line (Miss visit) start left steps answers.TooLong none = absurd none
 no-text line (At count) start left steps answers.TooLong none = absurd none
 no-text line (Profile addresses) start left steps answers.TooLong none = absurd none
+no-text line Seek start left steps answers.TooLong none = absurd none
 no-text line (Entry visit) start left steps answers.StoreFault none = absurd none
 no-text line (Miss visit) start left steps answers.StoreFault none = absurd none
 no-text line (At count) start left steps answers.StoreFault none = absurd none
 no-text line (Profile addresses) start left steps answers.StoreFault none = absurd none
+no-text line Seek start left steps answers.StoreFault none = absurd none
 
 -- why there is no text is the answer
 said : (request : Request) (content : List ℕ) (old new : Outer) (answer : Answer) → IsNoText answer → new.out ≡ old.out → Starts request content old (λ start. HasNoText request.line request.question start new.left new.steps answer)

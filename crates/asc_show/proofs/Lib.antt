@@ -8,6 +8,7 @@ pub mod Missing
 pub mod Noted
 pub mod Profiling
 pub mod Profiles
+pub mod Seekings
 pub mod Questions
 pub mod Answered
 pub mod Handed

@@ -55,7 +55,7 @@ sound-end ended h = elim h [
 ]
 
 -- what is said gives more
-Follows-says : (limit : ℕ) (Q Q' : Course → Type 0) (old new : World) (count skipped : ℕ) (ended : Ended) → ((run : Course) → Q run → Q' run) → Follows limit Q old new count skipped ended
+pub Follows-says : (limit : ℕ) (Q Q' : Course → Type 0) (old new : World) (count skipped : ℕ) (ended : Ended) → ((run : Course) → Q run → Q' run) → Follows limit Q old new count skipped ended
     → Follows limit Q' old new count skipped ended
 Follows-says limit Q Q' old new count skipped ended more f = record {
   io = f.io;
@@ -66,7 +66,7 @@ Follows-says limit Q Q' old new count skipped ended more f = record {
   steps = f.steps;
 }
 
-StopsAt-unsaid : (limit : ℕ) (Q : Course → Type 0) (old new : World) (count skipped : ℕ) (device : Device) → StopsAt limit Q old new count skipped device → StopsAt limit (λ run. Unit {0}) old new count skipped device
+pub StopsAt-unsaid : (limit : ℕ) (Q : Course → Type 0) (old new : World) (count skipped : ℕ) (device : Device) → StopsAt limit Q old new count skipped device → StopsAt limit (λ run. Unit {0}) old new count skipped device
 StopsAt-unsaid limit Q old new count skipped device s = record {
   below = s.below;
   io = s.io;

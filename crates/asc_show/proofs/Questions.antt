@@ -1,60 +1,39 @@
 -- Words that ask no question.
-use Rattle.std.proofs.Common.{◌≡◌, ◌≢◌, ◌<◌, ◌-◌, ℕ, List, [], ◌∷◌, ◌++◌, codes, length, take, drop, map, slice_index_or, lit<, sym, ap, ◌∙◌, arith}
+use Rattle.std.proofs.Common.{◌≡◌, ◌≢◌, ◌<◌, ◌-◌, ℕ, List, [], ◌∷◌, ◌++◌, codes, length, take, drop, map, slice_index, slice_index_or, sym, ap, ◌∙◌, arith}
 use Rattle.std.proofs.lemmas.List.{drop-map, get_or-map, length-drop, take_all}
 use Rattle.std.specs.Str.Parse.{digits_value, without_leading_plus}
 use Rattle.asc_words.specs.declared.line.RunLine.{RunLine}
 use Rattle.asc_show.specs.declared.request.Addresses.{Addresses}
 use Rattle.asc_show.specs.declared.request.Addresses.TheVariants.{Heads, All}
 use Rattle.asc_show.specs.declared.request.Question.{Question}
-use Rattle.asc_show.specs.declared.request.Question.TheVariants.{Entry, Miss, At, Profile}
+use Rattle.asc_show.specs.declared.request.Question.TheVariants.{Entry, Miss, At, Profile, Seek}
 use Rattle.asc_show.specs.declared.request.Visit.{Visit}
 use Rattle.asc_show.specs.Asked.{AsksAddresses, AsksCount, AsksQuestion, AsksVisit, IsNumber, IsRunOf, word_at}
 
--- words of different lengths differ
-differ : (word first second : List ℕ) → word ≡ first → word ≡ second → length first ≡ length second
-differ word first second is other = ap length (sym is ∙ other)
+-- words that begin with different letters differ
+differ : (word first second : List ℕ) → word ≡ first → word ≡ second → slice_index first 0 ≡ slice_index second 0
+differ word first second is other = ap (λ w. slice_index w 0) (sym is ∙ other)
 
 pub entry-none : (words : List (List ℕ)) (line : RunLine) (question : Question) → word_at 1 words ≡ codes "entry" → ((line : RunLine) (visit : Visit) → AsksVisit 1 words line visit → ⊥) → AsksQuestion words line question → ⊥
 entry-none words line (Entry visit) is none asks = none line visit asks.1
-entry-none words line (Miss visit) is none asks = let e : 5 ≡ 4 = differ _ (codes "entry") (codes "miss") is asks.0 in omega (arith, e)
-entry-none words line (At count) is none asks = let e : 5 ≡ 2 = differ _ (codes "entry") (codes "at") is asks.0 in omega (arith, e)
-entry-none words line (Profile addresses) is none asks = let e : 5 ≡ 7 = differ _ (codes "entry") (codes "profile") is asks.0 in omega (arith, e)
+entry-none words line (Miss visit) is none asks = let e : 101 ≡ 109 = differ _ (codes "entry") (codes "miss") is asks.0 in omega (arith, e)
+entry-none words line (At count) is none asks = let e : 101 ≡ 97 = differ _ (codes "entry") (codes "at") is asks.0 in omega (arith, e)
+entry-none words line (Profile addresses) is none asks = let e : 101 ≡ 112 = differ _ (codes "entry") (codes "profile") is asks.0 in omega (arith, e)
+entry-none words line Seek is none asks = let e : 101 ≡ 115 = differ _ (codes "entry") (codes "seek") is asks.0 in omega (arith, e)
 
 pub miss-none : (words : List (List ℕ)) (line : RunLine) (question : Question) → word_at 1 words ≡ codes "miss" → ((line : RunLine) (visit : Visit) → AsksVisit 3 words line visit → ⊥) → AsksQuestion words line question → ⊥
-miss-none words line (Entry visit) is none asks = let e : 4 ≡ 5 = differ _ (codes "miss") (codes "entry") is asks.0 in omega (arith, e)
+miss-none words line (Entry visit) is none asks = let e : 109 ≡ 101 = differ _ (codes "miss") (codes "entry") is asks.0 in omega (arith, e)
 miss-none words line (Miss visit) is none asks = none line visit asks.1
-miss-none words line (At count) is none asks = let e : 4 ≡ 2 = differ _ (codes "miss") (codes "at") is asks.0 in omega (arith, e)
-miss-none words line (Profile addresses) is none asks = let e : 4 ≡ 7 = differ _ (codes "miss") (codes "profile") is asks.0 in omega (arith, e)
+miss-none words line (At count) is none asks = let e : 109 ≡ 97 = differ _ (codes "miss") (codes "at") is asks.0 in omega (arith, e)
+miss-none words line (Profile addresses) is none asks = let e : 109 ≡ 112 = differ _ (codes "miss") (codes "profile") is asks.0 in omega (arith, e)
+miss-none words line Seek is none asks = let e : 109 ≡ 115 = differ _ (codes "miss") (codes "seek") is asks.0 in omega (arith, e)
 
 pub at-none : (words : List (List ℕ)) (line : RunLine) (question : Question) → word_at 1 words ≡ codes "at" → ((line : RunLine) (count : ℕ) → AsksCount words line count → ⊥) → AsksQuestion words line question → ⊥
-at-none words line (Entry visit) is none asks = let e : 2 ≡ 5 = differ _ (codes "at") (codes "entry") is asks.0 in omega (arith, e)
-at-none words line (Miss visit) is none asks = let e : 2 ≡ 4 = differ _ (codes "at") (codes "miss") is asks.0 in omega (arith, e)
+at-none words line (Entry visit) is none asks = let e : 97 ≡ 101 = differ _ (codes "at") (codes "entry") is asks.0 in omega (arith, e)
+at-none words line (Miss visit) is none asks = let e : 97 ≡ 109 = differ _ (codes "at") (codes "miss") is asks.0 in omega (arith, e)
 at-none words line (At count) is none asks = none line count asks.1
-at-none words line (Profile addresses) is none asks = let e : 2 ≡ 7 = differ _ (codes "at") (codes "profile") is asks.0 in omega (arith, e)
-
-pub profile-none : (words : List (List ℕ)) (line : RunLine) (question : Question) → word_at 1 words ≡ codes "profile" → ((line : RunLine) (addresses : Addresses) → AsksAddresses words line addresses → ⊥) → AsksQuestion words line question → ⊥
-profile-none words line (Entry visit) is none asks = let e : 7 ≡ 5 = differ _ (codes "profile") (codes "entry") is asks.0 in omega (arith, e)
-profile-none words line (Miss visit) is none asks = let e : 7 ≡ 4 = differ _ (codes "profile") (codes "miss") is asks.0 in omega (arith, e)
-profile-none words line (At count) is none asks = let e : 7 ≡ 2 = differ _ (codes "profile") (codes "at") is asks.0 in omega (arith, e)
-profile-none words line (Profile addresses) is none asks = none line addresses asks.1
-
--- a word that is none of the four
-pub no-question : (words : List (List ℕ)) (line : RunLine) (question : Question) → word_at 1 words ≢ codes "entry" → word_at 1 words ≢ codes "miss" → word_at 1 words ≢ codes "at" → word_at 1 words ≢ codes "profile"
-    → AsksQuestion words line question → ⊥
-no-question words line (Entry visit) entry miss at profile asks = entry asks.0
-no-question words line (Miss visit) entry miss at profile asks = miss asks.0
-no-question words line (At count) entry miss at profile asks = at asks.0
-no-question words line (Profile addresses) entry miss at profile asks = profile asks.0
-
--- too few words
-pub few-words : (words : List (List ℕ)) (word : List ℕ) → length words < 2 → 1 < length word → word_at 1 words ≢ word
-few-words [] word few long is = let e : 0 ≡ length word = ap length is in omega (arith, e, long)
-few-words (a ∷ []) word few long is = let e : 0 ≡ length word = ap length is in omega (arith, e, long)
-few-words (a ∷ b ∷ rest) word few long is = omega (arith, few)
-
-pub none-in-few : (words : List (List ℕ)) (line : RunLine) (question : Question) → length words < 2 → AsksQuestion words line question → ⊥
-none-in-few words line question few = no-question words line question
-    (few-words words (codes "entry") few (lit< tt)) (few-words words (codes "miss") few (lit< tt)) (few-words words (codes "at") few (lit< tt)) (few-words words (codes "profile") few (lit< tt))
+at-none words line (Profile addresses) is none asks = let e : 97 ≡ 112 = differ _ (codes "at") (codes "profile") is asks.0 in omega (arith, e)
+at-none words line Seek is none asks = let e : 97 ≡ 115 = differ _ (codes "at") (codes "seek") is asks.0 in omega (arith, e)
 
 -- a text is one number
 pub number-same : (word text : List ℕ) (n m : ℕ) → word ≡ text → IsNumber word n → IsNumber text m → n ≡ m

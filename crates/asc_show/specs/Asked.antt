@@ -7,7 +7,7 @@ use Rattle.asc_words.specs.declared.line.RunLine.{RunLine}
 use Rattle.asc_show.specs.declared.request.Addresses.{Addresses}
 use Rattle.asc_show.specs.declared.request.Addresses.TheVariants.{Heads, All}
 use Rattle.asc_show.specs.declared.request.Question.{Question}
-use Rattle.asc_show.specs.declared.request.Question.TheVariants.{Entry, Miss, At, Profile}
+use Rattle.asc_show.specs.declared.request.Question.TheVariants.{Entry, Miss, At, Profile, Seek}
 use Rattle.asc_show.specs.declared.request.Request.{Request}
 use Rattle.asc_show.specs.declared.request.Visit.{Visit}
 
@@ -44,6 +44,10 @@ abbrev pub AsksAddresses : (words : List (List ℕ)) → RunLine → Addresses �
 AsksAddresses words line Heads = (word_at 2 words ≢ codes "--all") × IsRunOf (drop 2 words) line
 AsksAddresses words line All = (word_at 2 words ≡ codes "--all") × IsRunOf (drop 3 words) line
 
+-- WORD IMAGE OPTIONS..: they stand for `asc run --seek IMAGE OPTIONS..`
+abbrev pub AsksSeek : (words : List (List ℕ)) → RunLine → Type 0
+AsksSeek words line = IsRunOf (codes "--seek" ∷ drop 2 words) line
+
 -- The words ask this of the run that a line says. The first is the program's name, and the second says which question
 -- it is.
 abbrev pub AsksQuestion : (words : List (List ℕ)) → RunLine → Question → Type 0
@@ -52,6 +56,7 @@ AsksQuestion words line (Miss visit) = (word_at 1 words ≡ codes "miss") × Ask
 AsksQuestion words line (At count) = (word_at 1 words ≡ codes "at") × AsksCount words line count
 AsksQuestion words line (Profile addresses) =
     (word_at 1 words ≡ codes "profile") × AsksAddresses words line addresses
+AsksQuestion words line Seek = (word_at 1 words ≡ codes "seek") × AsksSeek words line
 
 abbrev pub Asks : (words : List (List ℕ)) → Request → Type 0
 Asks words request = AsksQuestion words request.line request.question
@@ -62,3 +67,4 @@ HasNumber (Entry visit) = 1 ≤ visit.number
 HasNumber (Miss visit) = 3 ≤ visit.number
 HasNumber (At count) = Unit {0}
 HasNumber (Profile addresses) = Unit {0}
+HasNumber Seek = Unit {0}

@@ -5,6 +5,7 @@ pub mod Entered
 pub mod Missed
 pub mod Registers
 pub mod Profile
+pub mod Sought
 pub mod Asked
 pub mod Shown
 pub mod Status

@@ -17,12 +17,13 @@ use Rattle.asc_show.specs.declared.answer.Answer.TheVariants as answers
 use Rattle.asc_show.specs.declared.answer.Reached.{Reached}
 use Rattle.asc_show.specs.declared.answer.Reached.TheVariants.{Visits, Steps}
 use Rattle.asc_show.specs.declared.request.Question.{Question}
-use Rattle.asc_show.specs.declared.request.Question.TheVariants.{Entry, Miss, At, Profile}
+use Rattle.asc_show.specs.declared.request.Question.TheVariants.{Entry, Miss, At, Profile, Seek}
 use Rattle.asc_show.specs.declared.request.Request.{Request}
 use Rattle.asc_show.specs.Entered.{EndsEntry, ShowsEntry}
 use Rattle.asc_show.specs.Missed.{EndsMisses, ShowsMisses}
 use Rattle.asc_show.specs.Registers.{EndsRegisters, ShowsRegisters}
 use Rattle.asc_show.specs.Profile.{EndsProfile, ShowsProfile}
+use Rattle.asc_show.specs.Sought.{EndsSought, ShowsSought}
 use Rattle.asc_show.specs.Asked.{Asks}
 
 -- ---- the status and the line of an answer
@@ -75,7 +76,7 @@ number_of (Steps steps) = steps
 unfoldable pub answer_text : Answer → List ℕ
 answer_text answers.Shown = []
 answer_text answers.Usage =
-    codes "asc_show: wants entry|miss IMAGE ADDRESS VISIT, at IMAGE STEPS, or profile [--all] IMAGE, and options of asc run\n"
+    codes "asc_show: wants entry|miss IMAGE ADDRESS VISIT, at IMAGE STEPS, profile [--all] IMAGE, or seek IMAGE, and options of asc run\n"
 answer_text (answers.Image fault) = codes "asc_show: the file is no image; asc run tells its fault\n"
 answer_text answers.TooLong = codes "asc_show: the file has more than 67,108,864 bytes\n"
 answer_text answers.StoreFault = codes "asc_show: the file can't be read\n"
@@ -85,20 +86,26 @@ answer_text answers.OutFault = codes "asc_show: standard output failed\n"
 answer_text (answers.Ended ended reached) =
     codes "asc_show: " ++ end_text ended ++ before_text reached ++ decimal (number_of reached) ++ codes "\n"
 
--- ---- what is shown of a plain run, and how it ends before
+-- ---- what is shown of a run, and how it ends before
 
 -- A program that stands so; what it writes is only counted, from nothing on.
 abbrev pub counted_world : State → CallState → (left : Option (List ℕ)) → (steps input_faults : ℕ) → World
 counted_world state calls left steps input_faults =
     world state calls left (given_number 0) (given_number 0) steps (faults input_faults 0 0)
 
--- the text is what a question asks of the plain run from start
+-- the program of an image, which has not begun
+abbrev pub image_world : loader.Image → (left : Option (List ℕ)) → (steps input_faults : ℕ) → World
+image_world image left steps input_faults = counted_world image.start
+    (record { low = image.low; high = loader.high_of image; brk = image.low; ended = false }) left steps input_faults
+
+-- the text is what a question asks of the run from start
 abbrev pub ShowsText : RunLine → Question → (start : World) → (left : Option (List ℕ)) → (steps : ℕ)
     → (text : List ℕ) → Type 0
 ShowsText line (Entry visit) = ShowsEntry line visit
 ShowsText line (Miss visit) = ShowsMisses line visit
 ShowsText line (At count) = ShowsRegisters line count
 ShowsText line (Profile addresses) = ShowsProfile line addresses
+ShowsText line Seek = ShowsSought line
 
 -- the answer says why there is no such text
 abbrev pub HasNoText : RunLine → Question → (start : World) → (left : Option (List ℕ)) → (steps : ℕ) → Answer → Type 0
@@ -106,6 +113,7 @@ HasNoText line (Entry visit) = EndsEntry line visit
 HasNoText line (Miss visit) = EndsMisses line visit
 HasNoText line (At count) = EndsRegisters line count
 HasNoText line (Profile addresses) = EndsProfile line
+HasNoText line Seek = EndsSought line
 
 -- ---- what was done
 
@@ -126,8 +134,7 @@ load_of request content = loader.image_of content (1024 * request.line.memory) r
 
 -- a program that has not begun
 abbrev pub start_world : loader.Image → Outer → World
-start_world image o = counted_world image.start
-    (record { low = image.low; high = loader.high_of image; brk = image.low; ended = false }) o.left o.steps o.input_faults
+start_world image o = image_world image o.left o.steps o.input_faults
 
 -- a file is an image, of whose program, before it begins, P holds
 abbrev pub Starts : Request → (content : List ℕ) → Outer → (World → Type 0) → Type 0

@@ -5,6 +5,7 @@ ghost use Rattle.asc_show.specs.Shown.{answer_text, before_text, code_of, code_o
 
 use arrayvec::ArrayVec;
 use asc_elf::ElfFault;
+use asc_outside::Memory;
 use asc_run::Ended;
 use asc_words::LineFault;
 use itoa::Buffer;
@@ -71,7 +72,7 @@ impl Answer {
             Answer::Shown => {}
             Answer::Usage => put(
                 &mut line,
-                b"asc_show: wants entry|miss IMAGE ADDRESS VISIT, at IMAGE STEPS, or profile [--all] IMAGE, and options of asc run\n",
+                b"asc_show: wants entry|miss IMAGE ADDRESS VISIT, at IMAGE STEPS, profile [--all] IMAGE, or seek IMAGE, and options of asc run\n",
             ),
             Answer::Image(_) => put(
                 &mut line,
@@ -105,6 +106,17 @@ impl From<LineFault> for Answer {
             LineFault::Usage(_) => Answer::Usage,
             LineFault::Memory => Answer::Memory,
         }
+    }
+}
+
+impl From<Memory> for Answer {
+    ghost use Rattle.std.specs.Prelude.{◌≡◌};
+    ghost use Rattle.asc_show.specs.declared.answer.Answer.TheVariants as answers;
+
+    ghost from_gives = { λ _ answer. answer ≡ answers.Memory };
+
+    fn from(_: Memory) -> Answer {
+        Answer::Memory
     }
 }
 

@@ -1,17 +1,21 @@
-//! Answers a question of the plain run of an image.
+//! Answers a question of the run of an image.
 //!
 //!     asc_show entry IMAGE ADDRESS VISIT [OPTIONS]
 //!     asc_show miss IMAGE ADDRESS VISIT [OPTIONS]
 //!     asc_show at IMAGE STEPS [OPTIONS]
 //!     asc_show profile [--all] IMAGE [OPTIONS]
+//!     asc_show seek IMAGE [OPTIONS]
 //!
 //! `entry` runs IMAGE to where it stands at ADDRESS (hexadecimal digits) for the VISITth time, and traces a lap from
 //! there: it shows what the lap's entry reads and writes. `miss` guesses that visit from the two before it, as a worker
 //! would, and shows which of the places that are read first were guessed wrong. `at` shows the registers after STEPS
 //! steps. `profile` shows how often the addresses are met that a step led back to, or with `--all` all that are met.
+//! `seek` runs IMAGE as `asc run --seek` would without workers, and shows the address at which it was visited last (`none`
+//! where there were not two visits), how often it was visited, how often it jumped, and how many steps were jumped over.
 //!
 //! OPTIONS are those of `asc run`. Those that a question doesn't need have to be right, and mean nothing there; `--pc` is
-//! refused where an ADDRESS is given.
+//! refused where an ADDRESS is given, and `--seek` is refused by `seek`, which adds it. With `--workers`, `seek` starts none,
+//! but a lap of the address must be as long as `asc run` has it beside workers.
 #![tactic(auto)]
 
 ghost use Rattle.std.specs.Prelude.{◌≡◌, ◌<◌, map};
@@ -31,6 +35,8 @@ mod profile_text;
 mod registers;
 mod request;
 mod show;
+mod sought;
+mod sought_text;
 #[cfg(test)]
 mod tests;
 mod text;

@@ -33,7 +33,7 @@ pub(crate) fn profile_text(
 }
 
 /// How far a run went.
-fn until_text(ended: Ended) -> &'static str
+pub(crate) fn until_text(ended: Ended) -> &'static str
     ensures { result.now ≡ until_text ended }
 {
     match ended {
@@ -44,7 +44,7 @@ fn until_text(ended: Ended) -> &'static str
 }
 
 /// Appends the address that is chosen.
-fn put_chosen(text: &mut Vec<u8>, chosen: Option<u32>) -> Result<(), AllocError>
+pub(crate) fn put_chosen(text: &mut Vec<u8>, chosen: Option<u32>) -> Result<(), AllocError>
     ensures { OnOk result (text.new.items ≡ text.old.items ++ chosen_text chosen) }
 {
     match chosen {

@@ -3,7 +3,7 @@ ghost use Rattle.std.specs.Prelude.{ℕ, ◌≡◌, ◌≢◌, ◌≤◌, ◌++�
 ghost use Rattle.std.specs.String.{string_bytes};
 ghost use Rattle.asc_words.specs.Line.{IsRunWithin, line_of};
 ghost use Rattle.asc_words.specs.declared.line.Line.TheVariants.{Run};
-ghost use Rattle.asc_show.specs.Asked.{Asks, AsksAddresses, AsksCount, AsksVisit, HasNumber, IsNumber, word_at};
+ghost use Rattle.asc_show.specs.Asked.{Asks, AsksAddresses, AsksCount, AsksSeek, AsksVisit, HasNumber, IsNumber, word_at};
 
 use asc_words::{Bad, Line, LineFault, RunLine, parse};
 use std::alloc::{AllocError, Global};
@@ -11,13 +11,14 @@ use std::alloc::{AllocError, Global};
 /// What a command line asks for.
 #[derive(Debug, Drop)]
 pub struct Request {
-    /// How the image is run. What it says of reports and workers means nothing here.
+    /// How the image is run. What it says of reports means nothing here, and what it says of workers only to
+    /// `Question::Seek`, which starts none.
     pub line: RunLine,
     /// What is asked of that run.
     pub question: Question,
 }
 
-/// What is asked of the plain run of an image.
+/// What is asked of the run of an image.
 #[derive(Clone, Copy, Debug, PartialEq, Eq)]
 pub enum Question {
     /// The entry of the lap that begins at a visit.
@@ -28,6 +29,8 @@ pub enum Question {
     At(u64),
     /// How often addresses are met.
     Profile(Addresses),
+    /// Where the run is visited, without workers, when its address is sought.
+    Seek,
 }
 
 /// A visit of an address.
@@ -80,6 +83,11 @@ pub fn request_of(alloc: Global, words: &[String]) -> Result<Request, LineFault>
         "profile" => {
             let (line, addresses) = addresses_of(alloc, words)?;
             let question = Question::Profile(addresses);
+            Ok(Request { line, question })
+        }
+        "seek" => {
+            let line = seeking_line(alloc, words)?;
+            let question = Question::Seek;
             Ok(Request { line, question })
         }
         _ => Err(WRONG),
@@ -148,6 +156,19 @@ fn addresses_of(alloc: Global, words: &[String]) -> Result<(RunLine, Addresses),
         let line = line_with(alloc, asked, &words[2..])?;
         Ok((line, Addresses::Heads))
     }
+}
+
+/// The run of the question with an image alone, whose address is sought.
+fn seeking_line(alloc: Global, words: &[String]) -> Result<RunLine, LineFault>
+    requires { 2 ≤ length words.now }
+    ensures asks { IfOk result (λ line. AsksSeek (map string_bytes words.now) line) }
+    ensures within { IfOk result (λ line. IsRunWithin line) }
+    ensures usage { (bad : Bad) → result ≡ Err (LineFault.Usage bad)
+        → (line : RunLine) → AsksSeek (map string_bytes words.now) line → ⊥ }
+{
+    let mut asked = run_words(alloc)?;
+    put_word(alloc, &mut asked, "--seek")?;
+    line_with(alloc, asked, &words[2..])
 }
 
 /// Whether the third word is `--all`.

@@ -2,10 +2,9 @@
 ghost use Rattle.std.specs.Prelude.{◌≡◌, ◌≢◌, IfErr, IfOk, IsErrAnd, map};
 ghost use Rattle.std.specs.String.{string_bytes};
 ghost use Rattle.asc_outside.specs.Outside.{Blames};
-ghost use Rattle.asc_run.specs.Walk.{HasNotBegun};
 ghost use Rattle.asc_words.specs.Line.{IsRunWithin};
 ghost use Rattle.asc_show.specs.Asked.{HasNumber};
-ghost use Rattle.asc_show.specs.Shown.{Answers, AsksForImage, HasInputFailed, HasNoText, HasOutputFailed, Says, ShowsText, counted_world, outer};
+ghost use Rattle.asc_show.specs.Shown.{Answers, AsksForImage, HasInputFailed, HasNoText, HasOutputFailed, Says, ShowsText, image_world, outer};
 
 use crate::answer::Answer;
 use crate::entry::entry_of_visit;
@@ -13,7 +12,8 @@ use crate::miss::misses_at;
 use crate::profile::profile;
 use crate::registers::registers_after;
 use crate::request::{Question, Request, request_of};
-use asc_elf::read;
+use crate::sought::sought;
+use asc_elf::{Image, read};
 use asc_outside::{Failed, Loaded, Sink, Source, Store, StoreFault, put_all};
 use asc_run::Process;
 use asc_shape::Steps;
@@ -21,7 +21,7 @@ use asc_words::FILE_LIMIT;
 use std::alloc::Global;
 use std::sync::ledger::Ledger;
 
-/// Puts to out what words ask of the plain run of an image.
+/// Puts to out what words ask of the run of an image.
 ///
 /// The words are the program's name, a question, an image of the store, what the question is about, and options of
 /// `asc run`. What the guest writes is only counted.
@@ -82,10 +82,7 @@ pub fn show_file<I: Source, O: Sink, L: Ledger>(
         Ok(image) => image,
         Err(fault) => return Answer::Image(fault),
     };
-    let Ok(process) = Process::new(alloc, &image) else {
-        return Answer::Memory;
-    };
-    match text_of(alloc, process, request, input, steps) {
+    match text_of(alloc, &image, request, input, steps) {
         Ok(text) => match put_all(out, &text) {
             Ok(()) => Answer::Shown,
             Err(Failed) => Answer::OutFault,
@@ -94,31 +91,43 @@ pub fn show_file<I: Source, O: Sink, L: Ledger>(
     }
 }
 
-/// The text that is asked for of a program that has not begun, or why there is none.
+/// The text that is asked for of the program of an image, or why there is none.
 fn text_of<I: Source, L: Ledger>(
     alloc: Global,
-    process: Process,
+    image: &Image<'_>,
     request: &Request,
     input: &mut I,
     steps: &mut Steps<L>,
 ) -> Result<Vec<u8>, Answer>
     requires within { IsRunWithin request.now.line }
     requires number { HasNumber request.now.question }
-    requires start { HasNotBegun process.count process.calls }
     ensures shown { IfOk result (λ text. ShowsText request.now.line request.now.question
-        (counted_world process.state process.calls (I.left input.old) steps.old (I.faults input.old))
+        (image_world image.now (I.left input.old) steps.old (I.faults input.old))
         (I.left input.new) steps.new text.items) }
     ensures ended { IfErr result (λ answer. HasNoText request.now.line request.now.question
-        (counted_world process.state process.calls (I.left input.old) steps.old (I.faults input.old))
+        (image_world image.now (I.left input.old) steps.old (I.faults input.old))
         (I.left input.new) steps.new answer) }
     ensures input { Blames (IsErrAnd result HasInputFailed) (I.faults input.old) (I.faults input.new) }
     ensures counted { IfErr result (λ answer. HasOutputFailed answer → ⊥) }
 {
     let line = &request.line;
     match request.question {
-        Question::Entry(visit) => entry_of_visit(alloc, process, line, visit, input, steps),
-        Question::Miss(visit) => misses_at(alloc, process, line, visit, input, steps),
-        Question::At(count) => registers_after(alloc, process, line, count, input, steps),
-        Question::Profile(addresses) => profile(alloc, process, line, addresses, input, steps),
+        Question::Entry(visit) => {
+            let process = Process::new(alloc, image)?;
+            entry_of_visit(alloc, process, line, visit, input, steps)
+        }
+        Question::Miss(visit) => {
+            let process = Process::new(alloc, image)?;
+            misses_at(alloc, process, line, visit, input, steps)
+        }
+        Question::At(count) => {
+            let process = Process::new(alloc, image)?;
+            registers_after(alloc, process, line, count, input, steps)
+        }
+        Question::Profile(addresses) => {
+            let process = Process::new(alloc, image)?;
+            profile(alloc, process, line, addresses, input, steps)
+        }
+        Question::Seek => sought(alloc, image, line, input, steps),
     }
 }

@@ -1,4 +1,5 @@
-//! What is shown of the loop that counts. The texts are written by hand.
+//! What is shown of the loop that counts. The texts are written by hand, but the numbers of `seek` are those that another
+//! implementation of its rules gives.
 ghost use Rattle.std.specs.Prelude.{◌≡◌, ◌<◌};
 
 use crate::answer::{Answer, Reached};
@@ -35,7 +36,7 @@ const ILLEGAL: Fault = Fault {
 /// A command line, its answer, and what it writes.
 type Row = (&'static str, Answer, &'static str);
 
-static ROWS: [Row; 40] = [
+static ROWS: [Row; 46] = [
     (
         "asc_show entry image 10008 2",
         Answer::Shown,
@@ -177,6 +178,22 @@ static ROWS: [Row; 40] = [
         Answer::Shown,
         "steps 12 up to a fault\nchosen 00010008\n  00010008 met 4 first 2 last 8 back\n",
     ),
+    // The loop that counts to 131,072. It is visited first after 65,536 steps, and one visit shows no address.
+    (
+        "asc_show seek counts",
+        Answer::Shown,
+        "steps 262149 up to its end\naddress 00010008\nvisits 98305 jumps 98303 skipped 196608\n",
+    ),
+    (
+        "asc_show seek counts --steps 65536",
+        Answer::Shown,
+        "steps 65536 up to the limit\naddress none\nvisits 0 jumps 0 skipped 0\n",
+    ),
+    (
+        "asc_show seek --steps 65537 counts",
+        Answer::Shown,
+        "steps 65537 up to the limit\naddress none\nvisits 1 jumps 0 skipped 0\n",
+    ),
     ("asc_show", Answer::Usage, ""),
     ("asc_show entry image 10008", Answer::Usage, ""),
     ("asc_show entry image 10008 0", Answer::Usage, ""),
@@ -193,10 +210,13 @@ static ROWS: [Row; 40] = [
     ("asc_show at image -1", Answer::Usage, ""),
     ("asc_show profile", Answer::Usage, ""),
     ("asc_show profile image --all", Answer::Usage, ""),
+    ("asc_show seek", Answer::Usage, ""),
+    ("asc_show seek image --seek", Answer::Usage, ""),
     ("asc_show entry none 10008 1", Answer::StoreFault, ""),
     ("asc_show entry +1 10008 +1", Answer::StoreFault, ""),
     ("asc_show at none +0", Answer::StoreFault, ""),
     ("asc_show profile --all none", Answer::StoreFault, ""),
+    ("asc_show seek none", Answer::StoreFault, ""),
 ];
 
 /// Puts a file behind others.
@@ -224,9 +244,14 @@ fn check<R: Abort, L: Ledger>(rt: &R, alloc: Global, row: &Row, blank: Blank) ->
     }
     let mut faulty = COUNTING;
     faulty[108] = 0;
+    // The second instruction sets x6 to 0x20000.
+    let mut far = COUNTING;
+    far[88] = 0x37;
+    far[90] = 0x02;
     let mut files = Vec::new(alloc);
     put_file(alloc, &mut files, "image", &COUNTING)?;
     put_file(alloc, &mut files, "fault", &faulty)?;
+    put_file(alloc, &mut files, "counts", &far)?;
     let mut out = ListSink::new(alloc, 1024, 7, Vec::new(alloc)).expect(rt, "memory");
     let answer = show(
         alloc,
