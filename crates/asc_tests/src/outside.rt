@@ -133,7 +133,8 @@ pub(crate) fn check<R: Abort + Threads + Wait + Sync + Copy + Drop + Send>(
     Ok(())
 }
 
-/// What is added to the words of a line: guesses, with two workers and without any, and the numbers.
+/// What is added to the words of a line: guesses, with two workers and without any, and the numbers. Where an address is
+/// sought none is added.
 static GUESSING: [&str; 4] = [
     " --guess both --workers 2",
     " --guess both --report",
@@ -156,7 +157,9 @@ pub(crate) fn check_guessed<R: Abort + Threads + Wait + Sync + Copy + Drop + Sen
     let is_sound = devices.fails[4] == 0;
     for guessing in GUESSING {
         let mut words = String::from_str(alloc, line)?;
-        words.push_str(address)?;
+        if !guessing.contains("--seek") {
+            words.push_str(address)?;
+        }
         words.push_str(guessing)?;
         if !words.contains("--report") {
             check(rt, alloc, &words, file.to_vec(alloc)?, devices, want)?;

@@ -1,6 +1,7 @@
 //! Saved entries: files that saves leave, runs that load one, and files that are refused.
 use crate::images::{CODE, FIRST, wrap};
 use crate::outside::{Devices, Got, SOUND, run_gated};
+use crate::sought;
 use crate::whole_runs::COUNTS;
 use asc_elf::ElfFault;
 use asc_model::SaveFault;
@@ -176,6 +177,19 @@ const EMPTY: [u8; 20] = [
     0x41, 0x53, 0x43, 0x45, 1, 2, 0, 0, 0, 0, 1, 0, 0, 0, 0x10, 0, 0, 0, 0, 0,
 ];
 
+/// A file of one entry, of the two steps of the lap from x5 = 0x8001 on: places with their bytes, first those that are read.
+const ONE_LAP: [u8; 176] = [
+    0x41, 0x53, 0x43, 0x45, 1, 2, 0, 0, 0, 0, 1, 0, 0, 0, 0x10, 0, 1, 0, 0, 0, //
+    2, 0, 0, 0, 0, 0, 0, 0, 20, 0, 0, 0, 8, 0, 0, 0, // steps, and how many places are read and written
+    0, 0, 0, 0, 0x08, 1, 0, 0, 0, 0x00, 2, 0, 0, 0, 0x01, 3, 0, 0, 0, 0x00, // the pc
+    20, 0, 0, 0, 0x01, 21, 0, 0, 0, 0x80, 22, 0, 0, 0, 0x00, 23, 0, 0, 0, 0x00, // x5
+    24, 0, 0, 0, 0x00, 25, 0, 0, 0, 0x00, 26, 0, 0, 0, 0x02, 27, 0, 0, 0, 0x00, // x6
+    144, 0, 0, 0, 0x93, 145, 0, 0, 0, 0x82, 146, 0, 0, 0, 0x12, 147, 0, 0, 0, 0x00, // 0x10008
+    148, 0, 0, 0, 0xE3, 149, 0, 0, 0, 0x9E, 150, 0, 0, 0, 0x62, 151, 0, 0, 0, 0xFE, // 0x1000C
+    0, 0, 0, 0, 0x08, 1, 0, 0, 0, 0x00, 2, 0, 0, 0, 0x01, 3, 0, 0, 0, 0x00, // the pc
+    20, 0, 0, 0, 0x02, 21, 0, 0, 0, 0x80, 22, 0, 0, 0, 0x00, 23, 0, 0, 0, 0x00, // x5
+];
+
 /// The guest comes to its limit.
 const STOPPED: Save = Save {
     line: "asc save image --steps 2",
@@ -186,8 +200,15 @@ const STOPPED: Save = Save {
     report: "",
 };
 
-static SAVES: [Save; 5] = [
+static SAVES: [Save; 6] = [
     STOPPED,
+    // Its address is sought, and it is stopped in the second lap of a trial.
+    Save {
+        line: "asc save image --seek --ahead 1 --steps 65540",
+        words: sought::COUNTS,
+        out: &ONE_LAP,
+        ..STOPPED
+    },
     // It ends with code 7, or meets a word that is no instruction.
     Save {
         words: &[0x05D0_0893, 0x0070_0513, 0x0000_0073],
@@ -345,12 +366,96 @@ fn joined_entries(rt: HostRuntime) -> Result<(), Fail> {
     Ok(())
 }
 
-/// Files of saves whose guests leave no entry, however they end.
+/// A save, of the loop that counts to 131,072: the bytes of its file, its entries, and the steps of the first four. Then a run
+/// whose address is sought, over that file, its answer, and its numbers.
+static SOUGHT: [(&str, (usize, usize, [usize; 4]), &str, Answer, &str); 5] = [
+    // The file has the entries that the run would make.
+    (
+        "asc save image --seek --steps 65546",
+        (1112, 7, [2, 2, 2, 2]),
+        "asc run image --seek --load saved --report --steps 65546",
+        Answer::Limit(65_546),
+        "asc: limit after 65546\nasc: executed 65540 skipped 6 asked 5 hits 3 made 7 refused 0\n",
+    ),
+    // Its entries are longer than those of the run.
+    (
+        "asc save image --seek --laps 100 --steps 70000",
+        (24_200, 155, [200, 200, 200, 200]),
+        "asc run image --seek --load saved --report",
+        Answer::Exit(0),
+        "asc: executed 65791 skipped 196358 asked 95830 hits 95703 made 95832 refused 0\n",
+    ),
+    // It is full, and there is a jump at the first visit too.
+    (
+        "asc save image --pc 10008 --steps 65600",
+        (159_764, 1024, [2, 2, 2, 2]),
+        "asc run image --seek --load saved --report --steps 90000",
+        Answer::Limit(90_000),
+        "asc: limit after 90000\nasc: executed 65536 skipped 24464 asked 12232 hits 12232 made 12234 refused 0\n",
+    ),
+    // It has joins. The run makes none, or joins too.
+    (
+        "asc save image --seek --join --steps 65600",
+        (5792, 37, [2, 2, 4, 2]),
+        "asc run image --seek --load saved --report --steps 66000",
+        Answer::Limit(66_000),
+        "asc: limit after 66000\nasc: executed 65574 skipped 426 asked 217 hits 198 made 219 refused 0\n",
+    ),
+    (
+        "asc save image --seek --join --steps 65600",
+        (5792, 37, [2, 2, 4, 2]),
+        "asc run image --seek --load saved --report --join --steps 66000 --workers 2 --rounds",
+        Answer::Limit(66_000),
+        "asc: limit after 66000\nasc: executed 65728 skipped 272 asked 140 hits 44 made 142 refused 0\n",
+    ),
+];
+
+/// Room for a file of as many entries as are kept.
+const VAST: Devices = Devices {
+    most: 5000,
+    room: 160_000,
+    ..SOUND
+};
+
+/// The file that a save of the loop leaves, which must have so many bytes and entries, of these steps.
+fn left_by<R: Abort + Threads + Wait + Sync + Copy + Drop + Send>(
+    rt: &R,
+    alloc: Global,
+    line: &str,
+    want: (usize, usize, [usize; 4]),
+) -> Result<Vec<u8>, AllocError> {
+    let image = wrap(alloc, sought::COUNTS)?;
+    let got = run_saved(rt, alloc, line, image, Vec::new(alloc), &VAST)?;
+    assert_eq!(rt; got.answer, Answer::Done(0), "at {line}");
+    let file = got.out.bytes().to_vec(alloc)?;
+    assert_eq!(rt;
+        (file.len(), number(&file, 16), steps(&file)),
+        want,
+        "at {line}"
+    );
+    Ok(file)
+}
+
+#[test]
+fn sought_entries(rt: HostRuntime) -> Result<(), Fail> {
+    let alloc = rt.alloc();
+    for &(line, left, load, answer, report) in &SOUGHT {
+        let saved = left_by(&rt, alloc, line, left)?;
+        let image = wrap(alloc, sought::COUNTS)?;
+        let got = run_saved(&rt, alloc, load, image, saved, &VAST)?;
+        assert_eq!(rt; got.answer, answer, "at {load}");
+        assert_eq!(rt; got.report.bytes(), report.as_bytes(), "at {load}");
+    }
+    Ok(())
+}
+
+/// Files of saves, however their guests end. Most leave no entry.
 #[test]
 fn saves(rt: HostRuntime) -> Result<(), Fail> {
     let alloc = rt.alloc();
     for save in &SAVES {
         let devices = Devices {
+            room: 200,
             fails: [0, 0, save.out_fails, 0, 0],
             ..SOUND
         };
