@@ -6,15 +6,16 @@
 PROGRAM is the built asc, crates/asc_cli/out/asc_cli where it is not given. `cc` compiles bench/refusing.c, an allocator
 that is preloaded and refuses. It wants Linux with glibc.
 
-Twelve commands are run. Five are of a loop of 13 steps, with guesses: `asc run` with --report, alone, with two workers, in
+Thirteen commands are run. Five are of a loop of 13 steps, with guesses: `asc run` with --report, alone, with two workers, in
 rounds with two, and with saved entries, and `asc save`. Three are so with --join: the save, and the run alone and with one
-worker. Two are a batch of it over two inputs, alone and with a worker. The others are `asc trial 0` and `asc make 0`. In
-one row of runs the first allocation alone is refused, then the second alone, and so on. In another row all are refused from
-the first on, from the second on, and so on. A row ends where a run made fewer allocations than that. With workers that
-number is not the same each time, and a row ends where N runs did so one after another (5).
+worker. One is a run of a longer loop with --seek. Two are a batch over two inputs, alone and with a worker. The others are
+`asc trial 0` and `asc make 0`. In one row of runs the first allocation alone is refused, then the second alone, and so on.
+In another row all are refused from the first on, from the second on, and so on. A row ends where a run made fewer
+allocations than that. With workers that number is not the same each time, and a row ends where N runs did so one after
+another (5).
 
 Each run has to end in one of two ways: with status 71, the line `asc: out of memory` and nothing put out; or as with
-memory. Then the status is 0, output is the same, and steps executed and skipped are 13, or of the trial as many as it
+memory. Then the status is 0, output is the same, and steps executed and skipped are all, or of the trial as many as it
 tells. Numbers of workers have to add up. For each row are printed how many allocations the command makes with memory,
 how many runs ended in each way, how many of the latter reported that memory was wanting (`refused` above 0), and how
 many ended otherwise. The status is 1 where any did, or where without workers none reported so.
@@ -32,11 +33,14 @@ from pathlib import Path
 sys.dont_write_bytecode = True
 
 import harness
-from loops import EXIT, addi, bne, image
+from loops import EXIT, addi, bne, image, lui
 
 # A loop of two instructions from 0x10008 on, which counts x5 from 0 to 4, and then an end with code 0.
 COUNTS = [addi(5, 0, 0), addi(6, 0, 4), addi(5, 5, 1), bne(5, 6, -4), *EXIT]
 STEPS = 13
+# A loop of two instructions that ends soon behind the first stretch of a search, in which its head is noted.
+LONG_COUNTS = [addi(5, 0, 0), lui(6, 8), addi(6, 6, 8), addi(5, 5, 1), bne(5, 6, -4), *EXIT]
+LONG_STEPS = 65_558
 
 RUN = re.compile(rb"asc: executed (\d+) skipped (\d+) asked (\d+) hits \d+ made (\d+) refused (\d+)\n"
                  rb"(?:asc: ran (\d+) left (\d+) stored (\d+) known (\d+) empty (\d+) dropped (\d+) stopped (\d+)"
@@ -50,13 +54,13 @@ SECONDS = 60
 # ---------------------------------------------------------------------------------------------------------------------
 # How a run ended
 
-def run_is_right(output, report, workers):
+def run_is_right(output, report, workers, steps=STEPS):
     """Whether a run that ended by itself has the numbers that it must have, and how often memory was wanting."""
     found = RUN.fullmatch(report)
     if output or not found or (found[6] is not None) != (workers > 0):
         return False, 0
     executed, skipped, asked, made, refused, *told = (int(number or 0) for number in found.groups())
-    right = executed + skipped == STEPS
+    right = executed + skipped == steps
     if workers:
         ran, left, stored, known, empty, dropped, stopped, full = told
         due = 2 * asked if asked > 1 else 0
@@ -92,7 +96,7 @@ class Command:
 
     def is_right(self, output, report):
         if self.words[0] == "run":
-            return run_is_right(output, report, self.workers)
+            return run_is_right(output, report, self.workers, LONG_STEPS if "--seek" in self.words else STEPS)
         if self.words[0] == "batch":
             return batch_is_right(output, report, self.workers)
         return (trial_is_right if self.words[0] == "trial" else make_is_right)(output, report, self.first)
@@ -189,8 +193,9 @@ def main():
     if not shutil.which("cc"):
         harness.end("no cc")
     with tempfile.TemporaryDirectory() as folder:
-        counting = Path(folder, "counting")
+        counting, long = Path(folder, "counting"), Path(folder, "long")
         counting.write_bytes(image(COUNTS))
+        long.write_bytes(image(LONG_COUNTS))
         guesses = [str(counting), "--pc", "10008", "--guess", "both", "--ahead", "2"]
         run, save, kept = ["run", *guesses, "--report"], ["save", *guesses], Path(folder, "kept")
         batch = ["batch", str(counting), "/dev/null", "/dev/null", *guesses[1:], "--report"]
@@ -199,6 +204,7 @@ def main():
                     Command("run, saved entries", [*run, "--load", str(kept)]), Command("save", save),
                     Command("run, joins", [*run, "--join"]), Command("save, joins", [*save, "--join"]),
                     Command("run, joins, a worker", [*run, "--join", "--workers", "1"], 1),
+                    Command("run, seeking", ["run", str(long), "--seek", "--report"]),
                     Command("batch", batch), Command("batch, a worker", [*batch, "--workers", "1"], 1),
                     Command("trial 0", ["trial", "0"]), Command("make 0", ["make", "0"])]
         refusing = Refusing(asked.program, folder)

@@ -9,7 +9,7 @@ other. The best address is that of all to which a step leads back, tried one by 
 
 With --times it prints seconds by the clock in place of these, the least of three: of a plain run, and how many times as fast
 runs with three workers are that seek, with otherwise defaults and with `--ahead 16 --queue 6`. Behind each stands what they
-jumped over.
+jumped over. Some inputs are longer then. Of `life` there are three boards, and one with --times.
 """
 
 import random
@@ -20,9 +20,9 @@ sys.dont_write_bytecode = True
 import harness
 
 
-def board():
+def board(seed=15):
     """A board of life, of which each cell lives or not by chance."""
-    draw = random.Random(15)
+    draw = random.Random(seed)
     return b"".join(bytes(draw.choice(b".#") for _ in range(24)) + b"\n" for _ in range(24))
 
 
@@ -42,6 +42,10 @@ RUNS = {
     "sieve": ("100f4", 1024, lambda: b"1600000\n"),
     "primes": ("100cc", 1024, lambda: b"200000\n"),
 }
+# Inputs that are longer, for times.
+LONGER = {"collatz": b"500000\n", "collatz_chunks": b"200000\n", "matrix": b"256\n", "mandel": b"300 600 1000\n",
+          "sieve": b"5500000\n"}
+BOARDS = 15, 11, 16
 
 
 def share(run):
@@ -71,8 +75,12 @@ def main():
     program, clock = harness.asc(*harness.asked(__doc__, 1, "--times")), "--times" in sys.argv
     harness.print_load("beginning")
     for name, (best, memory, made) in RUNS.items():
-        words, text = [program, "run", harness.IMAGES / name, "--memory", memory], made()
-        print(f"{name:15}{times(words, text) if clock else shares(words, best, text)}", flush=True)
+        words = [program, "run", harness.IMAGES / name, "--memory", memory]
+        if clock:
+            print(f"{name:15}{times(words, LONGER.get(name) or made())}", flush=True)
+            continue
+        for text in [board(seed) for seed in BOARDS] if name == "life" else [made()]:
+            print(f"{name:15}{shares(words, best, text)}", flush=True)
     harness.print_load("end")
 
 

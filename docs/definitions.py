@@ -68,8 +68,8 @@ def row(path, names_cited):
     if not DEFINITION.search(text) or "private contracts" in head(text):
         return ""
     link = f"- [{path.stem}](../{path.relative_to(ROOT).as_posix()})"
-    told = [f"`{name}`" for name in names[:MOST_NAMES]] + ["..."] * (len(names) > MOST_NAMES)
-    return f"{link}: {head(text)} {', '.join(told)}".rstrip() + "\n"
+    told = ", ".join(f"`{name}`" for name in names[:MOST_NAMES]) + "..." * (len(names) > MOST_NAMES)
+    return f"{link}: {head(text)} {told}".rstrip() + "\n"
 
 
 def listing():

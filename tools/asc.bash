@@ -14,7 +14,7 @@ _asc() {
     # A tool's own options, some of which stand before all else, and the command that has its others.
     case $tool in
         asc_show)
-            commands="entry miss at profile"
+            commands="entry miss at profile seek"
             [ "$COMP_CWORD" -ne 2 ] || [ "$command" != profile ] || own=--all
             command=run
             ;;

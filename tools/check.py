@@ -482,6 +482,7 @@ SHOW_STAND_IN = """case $1 in
         echo "  00010054 met 3 first 0 last 99000 back"
         for pc in 10058 1005c; do echo "  000$pc met 100 first 0 last 99000 back"; done ;;
     entry) [ "$3" = 10058 ] && echo "steps 1000 up to the visit" || echo "steps 1000 up to the span" ;;
+    seek) echo "steps 100000 up to its end"; echo "address 0001005c"; echo "visits 99 jumps 9 skipped 54321" ;;
     *) echo steps ;;
 esac
 """
@@ -489,6 +490,7 @@ ALL, STEPS = (f"{steps} steps up to its end; without --pc asc chooses " for step
 HEADS, TRIED = "      --pc     visits          lap  within", "  lap ends       hits  skipped"
 UNTRIED = b"asc-pc: no laps have %d steps, so none is tried; --lap takes another least\n"
 ROW, NUMBERS = "        100       1000.0   99.0%", "         90    81.0%"
+SOUGHT = "with --seek a run is visited last at 1005c, and 54.3% are skipped\n"
 
 
 def show_stand_in(folder):
@@ -501,11 +503,11 @@ def check_pc(program, folder):
     known = [TOOLS / "asc-pc", "--asc", guessing, "--show", standing, "--lap=1000"]
     rows = f"{ROW}  visit   {NUMBERS}", f"{ROW}  span    {NUMBERS}\n  with --span 4000{' ' * 34}{NUMBERS}"
     same("asc-pc: trials", outcome([*known, image, "--guess", "last"]), (
-        f"{STEPS}1005c\n{HEADS}{TRIED}  where\n*    10058{rows[0]}\n     1005c{rows[1]}\n".encode(), b"", 0))
+        f"{STEPS}1005c\n{HEADS}{TRIED}  where\n*    10058{rows[0]}\n     1005c{rows[1]}\n{SOUGHT}".encode(), b"", 0))
     same("asc-pc: little is jumped over", outcome([*known, image, "--guess=none"])[1:], (
         f"asc-pc: little is jumped over; asc-show --miss {image} 10058 3 tells what guesses have wrong\n".encode(), 0))
     same("asc-pc: no laps are as long", outcome([*known[:-1], "--lap=2000", image]), (
-        f"{STEPS}1005c\n{HEADS}{TRIED}  where\n     10058{ROW}\n     1005c{ROW}\n".encode(), UNTRIED % 2000, 0))
+        f"{STEPS}1005c\n{HEADS}{TRIED}  where\n     10058{ROW}\n     1005c{ROW}\n{SOUGHT}".encode(), UNTRIED % 2000, 0))
     many = script(folder, "many", "echo 'steps 9000 up to its end'; echo 'chosen none'; for k in $(seq 100 121); do "
                                   "echo \"  00010$k met 9 first 0 last 9 back\"; done")
     same("asc-pc: many rows", [outcome([TOOLS / "asc-pc", "--show", many, *words, image])[0].decode().splitlines()[-1]
@@ -807,7 +809,7 @@ def check_interrupt(folder):
         known.encode(), b"asc-pc: an interrupt ended it; 1 of 2 addresses tried\n", -signal.SIGINT))
     spanned = f"  with --span 4000{' ' * 34}          -        -\n"
     same("asc-pc: trials that are not done in time", outcome([TOOLS / "asc-pc", *asked[1:], "--seconds=2"], cwd=folder), (
-        f"{known}{spanned}".encode(), b"", 0))
+        f"{known}{spanned}{SOUGHT}".encode(), b"", 0))
 
 
 def check_shell(program, folder):
@@ -936,7 +938,7 @@ def check_completion(known):
         same(f"files of {what}", offered(tool, *first, *["--asc"] * (wanted[:1] == ["--asc"]), "examples/images/h"),
              ["examples/images/hello"])
     same("what asc-plot draws", offered("asc-plot", ""), ["steps", "hits", "workers"])
-    same("what asc_show is asked", offered("asc_show", ""), ["entry", "miss", "at", "profile"])
+    same("what asc_show is asked", offered("asc_show", ""), ["entry", "miss", "at", "profile", "seek"])
     for words in (["run"], ["--asc", "program", "run"], ["--show", "shower", "--asc", "program", "run"]):
         same(f"options behind asc-why {' '.join(words)}", offered("asc-why", *words, "--"), list(known))
     for name, (taken, default) in known.items():
