@@ -1,7 +1,8 @@
 #!/usr/bin/env python3
 """What `asc run` and `asc save` come to without workers, from the definitions in crates/*/specs: another implementation.
 
-    python3 crates/asc_tests/model.py              says which rows of src/sought.rt are not what the definitions give
+    python3 crates/asc_tests/model.py              says which rows of the table SOUGHT of src/sought.rt, of those without
+                                                   workers, have another report than the definitions give (five minutes)
     python3 crates/asc_tests/model.py LINE WORD..  prints what a line comes to, as "asc run image --seek --report", for a
                                                    program of these words in hexadecimal digits
 

@@ -13,8 +13,7 @@ use Rattle.asc_seek.specs.declared.seeker.Trial.{Trial}
 use Rattle.asc_seek.specs.declared.seeker.Phase.{Phase}
 use Rattle.asc_seek.specs.declared.seeker.Phase.TheVariants as phase
 use Rattle.asc_seek.specs.Heads.{AreEarlier, Path, head_at, heads_of, led_back, no_heads, note}
-use Rattle.asc_seek.specs.Inside.{IsBehind, IsBehindIn}
-use Rattle.asc_seek.specs.Seek.{Seek, end_in, is_over, looked_steps, new_seek, pays, searching, seek_along, advanced, seek_visit, advanced_from, visit_in, watched_in}
+use Rattle.asc_seek.specs.Seek.{IsBehind, IsBehindIn, Seek, end_in, is_over, looked_steps, new_seek, pays, searching, seek_along, advanced, seek_visit, advanced_from, visit_in, watched_in}
 use Rattle.asc_seek.proofs.Along.{AreEarlier-heads_of, AreEarlier-later, heads_of-next, heads_of-zero, profiled-same, seek_along-heads, seek_along-profiled, seek_along-same, seek_along-turn, seek_along-zero, advanced-seeking, seek_visit-is, table-seek_along, try_next-other, advanced_from-other, with_heads}
 use Rattle.asc_run.specs.Execution.{Position, Progress, On, Off}
 use Rattle.asc_run.specs.Sought.{NotesAlong, learning, noting, pc_in}

@@ -1,4 +1,4 @@
--- A walk's search for the address at which it is visited.
+-- Words of private contracts: a walk's search for the address at which it is visited.
 use Rattle.std.specs.Prelude.{◌≡◌, ◌⊎◌, ℕ, ◌+◌, Bool, true, false, Option, Some, None}
 use Rattle.std.specs.Option.{option_map}
 use Rattle.asc_model.specs.State.{State}

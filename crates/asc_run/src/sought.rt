@@ -11,8 +11,7 @@ ghost use Rattle.asc_run.specs.Turn.{Turns, TurnFails, device_of_turn};
 ghost use Rattle.asc_run.specs.VisitedBy.{Visits};
 ghost use Rattle.asc_run.specs.Visits.{Passes};
 ghost use Rattle.asc_seek.specs.Heads.{AreEarlier, led_back};
-ghost use Rattle.asc_seek.specs.Inside.{IsBehind};
-ghost use Rattle.asc_seek.specs.Seek.{end_in, is_over, new_seek, steps_of};
+ghost use Rattle.asc_seek.specs.Seek.{IsBehind, end_in, is_over, new_seek, steps_of};
 ghost use Rattle.asc_seek.specs.declared.seeker.Phase.TheVariants.{Profile};
 
 use crate::process::Process;

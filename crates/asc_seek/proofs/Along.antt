@@ -11,9 +11,8 @@ use Rattle.asc_seek.specs.declared.seeker.Seeking.{Seeking}
 use Rattle.asc_seek.specs.declared.seeker.Service.{Service}
 use Rattle.asc_seek.specs.declared.seeker.Trial.{Trial}
 use Rattle.asc_seek.specs.declared.seeker.Phase.TheVariants as phase
-use Rattle.asc_seek.specs.Heads.{AreEarlier, Path, head_at, heads_of, meet, no_heads, note, place_of, table_places}
-use Rattle.asc_seek.specs.Inside.{IsBehind, IsBehindIn}
-use Rattle.asc_seek.specs.Seek.{Seek, best_with, end_in, is_over, looked_steps, next_candidate, pays, profiled, score_at, searching, serving, seek_along, advanced, seek_visit, settled, sure_score, try_next, trying, advanced_from, visit_in}
+use Rattle.asc_seek.specs.Heads.{AreEarlier, Path, head_at, heads_of, meet, no_heads, note, slot_of, table_slots}
+use Rattle.asc_seek.specs.Seek.{IsBehind, IsBehindIn, Seek, best_with, end_in, is_over, looked_steps, next_candidate, pays, profiled, score_at, searching, serving, seek_along, advanced, seek_visit, settled, sure_score, try_next, trying, advanced_from, visit_in}
 use Rattle.asc_seek.proofs.Tables.{empty}
 
 -- ---- what the definitions say
@@ -266,24 +265,24 @@ heads_of-next path from n k nowhere =
 length-note : (count : ℕ) (met : Option ℕ) (table : List (Option Head)) → length (note count met table) ≡ length table
 length-note count None table = refl
 length-note count (Some address) table =
-    length-set table (place_of address) (meet address count (slice_index_or table (place_of address) None))
+    length-set table (slot_of address) (meet address count (slice_index_or table (slot_of address) None))
 
-pub length-heads_of : (path : Path) (from n : ℕ) → length (heads_of path from n) ≡ table_places
-length-heads_of path from zero = ap length (heads_of-zero path from) ∙ (empty no_heads refl).places
+pub length-heads_of : (path : Path) (from n : ℕ) → length (heads_of path from n) ≡ table_slots
+length-heads_of path from zero = ap length (heads_of-zero path from) ∙ (empty no_heads refl).slots
 length-heads_of path from (suc n) = ap length (heads_of-suc path from n)
     ∙ length-note (from + suc n) (head_at path (from + suc n)) (heads_of path from n) ∙ length-heads_of path from n
 
 pub AreEarlier-later : (a b : ℕ) (table : List (Option Head)) → a ≤ b → AreEarlier a table → AreEarlier b table
 AreEarlier-later a b table le early k h there = let lt = early k h there in omega arith
 
--- what stands at a place once one was written
-written : (table : List (Option Head)) (place k : ℕ) (y : Option Head)
-    → (slice_index_or (set table place y) k None ≡ slice_index_or table k None) ⊎ (slice_index_or (set table place y) k None ≡ y)
-written [] place k y = inl refl
+-- what stands at a slot once one was written
+written : (table : List (Option Head)) (slot k : ℕ) (y : Option Head)
+    → (slice_index_or (set table slot y) k None ≡ slice_index_or table k None) ⊎ (slice_index_or (set table slot y) k None ≡ y)
+written [] slot k y = inl refl
 written (x ∷ xs) zero zero y = inr refl
 written (x ∷ xs) zero (suc k) y = inl refl
-written (x ∷ xs) (suc place) zero y = inl refl
-written (x ∷ xs) (suc place) (suc k) y = written xs place k y
+written (x ∷ xs) (suc slot) zero y = inl refl
+written (x ∷ xs) (suc slot) (suc k) y = written xs slot k y
 
 same_early : (b : Bool) (count : ℕ) (g h : Head) → g.last < count
     → Some (if b then record g { times = g.times + 1; last = count } else g) ≡ Some h → h.last < count + 1
@@ -302,11 +301,11 @@ pub AreEarlier-note : (count : ℕ) (met : Option ℕ) (table : List (Option Hea
     → AreEarlier (count + 1) (note count met table)
 AreEarlier-note count None table early = AreEarlier-later count (count + 1) table (omega arith) early
 AreEarlier-note count (Some address) table early = λ k h there.
-    let place = place_of address in
-    let before = slice_index_or table place None in
-    elim (written table place k (meet address count before)) [
+    let slot = slot_of address in
+    let before = slice_index_or table slot None in
+    elim (written table slot k (meet address count before)) [
       | inl old ↦ let lt = early k h (sym old ∙ there) in omega arith
-      | inr new ↦ met_early address count before h (early place) (sym new ∙ there)
+      | inr new ↦ met_early address count before h (early slot) (sym new ∙ there)
     ]
 
 -- each was met no later than at the last count

@@ -48,7 +48,7 @@ fold_found s tried so_far count (Some h ∷ rest) all early =
     fold_found s tried (first_candidate s tried so_far (Some h)) count rest
     (first_found s tried so_far count h all (early zero h refl)) (λ k. early (suc k))
 
--- the first of the candidates is found place by place
+-- the first of the candidates is found slot by slot
 module _ (s : Seeking) (tried : Option Head) where
   abbrev may : Head → Bool
   may h = is_candidate s h && is_behind tried h
@@ -61,16 +61,16 @@ module _ (s : Seeking) (tried : Option Head) where
   one_more true first h rest = refl
   one_more false first h rest = refl
 
-  by_places : (first : Option Head) (table : List (Option Head))
+  by_slots : (first : Option Head) (table : List (Option Head))
       → fold taking first (filter may (heads_in table)) ≡ fold (first_candidate s tried) first table
-  by_places first [] = refl
-  by_places first (None ∷ rest) = by_places first rest
-  by_places first (Some h ∷ rest) =
-      one_more (may h) first h (heads_in rest) ∙ by_places (first_candidate s tried first (Some h)) rest
+  by_slots first [] = refl
+  by_slots first (None ∷ rest) = by_slots first rest
+  by_slots first (Some h ∷ rest) =
+      one_more (may h) first h (heads_in rest) ∙ by_slots (first_candidate s tried first (Some h)) rest
 
 pub candidate_behind-is : (s : Seeking) (tried : Option Head) (table : List (Option Head))
     → candidate_behind s tried table ≡ fold (first_candidate s tried) None table
-candidate_behind-is s tried table = by_places s tried None table
+candidate_behind-is s tried table = by_slots s tried None table
 
 found : (s : Seeking) (tried : Option Head) (count : ℕ) (table : List (Option Head)) (h : Head) → AreEarlier count table
     → candidate_behind s tried table ≡ Some h → IsFound s count h

@@ -2,8 +2,7 @@
 use Rattle.std.proofs.Common.{◌≡◌, ℕ, ◌+◌, ◌^◌, ◌≤◌, false, Option, refl, sym, subst, arith}
 use Rattle.asc_seek.specs.declared.seeker.Seeking.{Seeking}
 use Rattle.asc_seek.specs.Heads.{AreEarlier, no_heads}
-use Rattle.asc_seek.specs.Inside.{IsBehind}
-use Rattle.asc_seek.specs.Seek.{Seek, is_over, new_seek, advanced, seek_visit}
+use Rattle.asc_seek.specs.Seek.{IsBehind, Seek, is_over, new_seek, advanced, seek_visit}
 use Rattle.asc_seek.proofs.Along.{AreEarlier-later, AreEarlier-advanced, seek_visit-is}
 use Rattle.asc_seek.proofs.Tables.{empty}
 

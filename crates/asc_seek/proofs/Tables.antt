@@ -4,7 +4,7 @@ use Rattle.std.specs.Prelude.{List, Vec, replicate, slice_index_or}
 use Rattle.std.proofs.lemmas.List.{length-replicate, with_items_is}
 use Rattle.std.specs.Vec.{with_items}
 use Rattle.asc_seek.specs.declared.heads.Head.{Head}
-use Rattle.asc_seek.specs.Heads.{AreEarlier, no_heads, table_places}
+use Rattle.asc_seek.specs.Heads.{AreEarlier, no_heads, table_slots}
 use Rattle.asc_seek.specs.Inside.{AreMetSeldom}
 
 -- nothing stands in it
@@ -21,24 +21,24 @@ nothing_at n table e k h is =
     absurd (cc)
 
 pub record IsEmpty (table : List (Option Head)) : Type 0 where
-  pub places : length table ≡ table_places
+  pub slots : length table ≡ table_slots
   pub seldom : AreMetSeldom table
   pub early : (count : ℕ) → AreEarlier count table
 
-empty_of : (n : ℕ) (table : List (Option Head)) → table ≡ replicate n None → n ≡ table_places → IsEmpty table
+empty_of : (n : ℕ) (table : List (Option Head)) → table ≡ replicate n None → n ≡ table_slots → IsEmpty table
 empty_of n table e is = record {
-  places = ap length e ∙ length-replicate n None ∙ is;
+  slots = ap length e ∙ length-replicate n None ∙ is;
   seldom = λ k h there. nothing_at n table e k h there;
   early = λ count k h there. nothing_at n table e k h there;
 }
 
 pub empty : (table : List (Option Head)) → table ≡ no_heads → IsEmpty table
-empty table e = empty_of table_places table e refl
+empty table e = empty_of table_slots table e refl
 
 -- a vector that was lent, and came back without heads
 pub emptied : {Z : Type 0} (lent : Vec (Option Head) Z) (table : List (Option Head)) → table ≡ no_heads
-    → length lent.items ≡ table_places → (with_items lent table).items ≡ no_heads
-emptied lent table none places =
+    → length lent.items ≡ table_slots → (with_items lent table).items ≡ no_heads
+emptied lent table none slots =
     let own : length lent.items ≡ lent.len = sym lent.ok.0 in
-    let len : length table ≡ lent.len = (empty table none).places ∙ sym places ∙ own in
+    let len : length table ≡ lent.len = (empty table none).slots ∙ sym slots ∙ own in
     with_items_is lent table len ∙ none

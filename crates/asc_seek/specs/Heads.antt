@@ -1,5 +1,5 @@
 -- The heads of a stretch of a run: the addresses that its steps led back to.
-use Rattle.std.specs.Prelude.{◌≡◌, ◌<◌, ◌≤◌, ℕ, zero, suc, ◌+◌, ◌-◌, ◌/◌, ◌%◌, Bool, nat_lt, ◌==◌, ◌&&◌, ◌||◌, List, replicate, set, slice_index_or, Option, Some, None, if◌then◌else◌}
+use Rattle.std.specs.Prelude.{◌≡◌, ◌<◌, ℕ, zero, suc, ◌+◌, ◌-◌, ◌/◌, ◌%◌, Bool, nat_lt, ◌==◌, ◌&&◌, ◌||◌, List, replicate, set, slice_index_or, Option, Some, None, if◌then◌else◌}
 use Rattle.asc_seek.specs.declared.heads.Head.{Head}
 
 -- where a run stands at each count of steps, while it goes on
@@ -20,17 +20,17 @@ head_at path (suc n) = led_back (path n) (path (suc n))
 -- ---- a table of heads
 
 -- how many it has at most
-abbrev pub table_places : ℕ
-table_places = 4096
+abbrev pub table_slots : ℕ
+table_slots = 4096
 
--- where an address stands in it: one of two addresses with the same place is left out
-abbrev pub place_of : (address : ℕ) → ℕ
-place_of address = address / 4 % table_places
+-- where an address stands in it: one of two addresses with the same slot is left out
+abbrev pub slot_of : (address : ℕ) → ℕ
+slot_of address = address / 4 % table_slots
 
 abbrev pub no_heads : List (Option Head)
-no_heads = replicate table_places None
+no_heads = replicate table_slots None
 
--- An address is met once more, at a count, and this stood at its place. A place belongs to the address that was met first.
+-- An address is met once more, at a count, and this stood at its slot. A slot belongs to the address that was met first.
 abbrev pub meet : (address count : ℕ) → Option Head → Option Head
 meet address count None = Some (record { address = address; times = 1; first = count; last = count })
 meet address count (Some h) =
@@ -40,7 +40,7 @@ meet address count (Some h) =
 abbrev pub note : (count : ℕ) → (met : Option ℕ) → List (Option Head) → List (Option Head)
 note count None table = table
 note count (Some address) table =
-    set table (place_of address) (meet address count (slice_index_or table (place_of address) None))
+    set table (slot_of address) (meet address count (slice_index_or table (slot_of address) None))
 
 -- the table of the heads that so many steps behind a count led back to
 unfoldable pub heads_of : Path → (from steps : ℕ) → List (Option Head)

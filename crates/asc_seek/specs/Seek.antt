@@ -138,12 +138,12 @@ first_with None h = h
 first_with (Some other) h = if comes_before h other then h else other
 
 -- the first of some heads
-abbrev pub first_of : List Head → Option Head
-first_of heads = fold (λ first h. Some (first_with first h)) None heads
+abbrev pub first_head : List Head → Option Head
+first_head heads = fold (λ first h. Some (first_with first h)) None heads
 
 -- the first of the candidates in a table that come behind one that was tried
 abbrev pub candidate_behind : Seeking → (tried : Option Head) → List (Option Head) → Option Head
-candidate_behind s tried table = first_of (candidates_behind s tried table)
+candidate_behind s tried table = first_head (candidates_behind s tried table)
 
 -- the same, at a count up to which heads are tried
 abbrev pub next_candidate : (count : ℕ) → (tried : Option Head) → Seek → Option Head
@@ -194,23 +194,23 @@ end_in m (phase.Rest until) = until
 abbrev pub is_over : (count : ℕ) → Seek → Bool
 is_over count m = nat_le (end_in m m.phase) count
 
--- how many of a thousand steps a trial that ends at a count jumped over, from where each visit can have been guessed
+-- How many of a thousand steps a trial that ends at a count jumped over, from where each visit can have been guessed. It
+-- ends behind there.
 abbrev pub score_at : Seeking → (count : ℕ) → Trial → ℕ
 score_at s count t = 1000 * t.given / (count - reached_from s t.from (lap_of t.head))
 
 -- whether a score is good enough to be kept, and better than the best so far
-abbrev pub is_better : (score : ℕ) → (best : Option Scored) → Bool
-is_better score None = nat_le kept_score score
-is_better score (Some b) = nat_lt b.score score
+abbrev pub is_best_yet : (score : ℕ) → (best : Option Scored) → Bool
+is_best_yet score None = nat_le kept_score score
+is_best_yet score (Some b) = nat_lt b.score score
 
 -- the best with a head of this score
 abbrev pub best_with : Head → (score : ℕ) → Option Scored → Option Scored
 best_with h score best =
-    if is_better score best then Some (record { address = h.address; lap = lap_of h; score = score }) else best
+    if is_best_yet score best then Some (record { address = h.address; lap = lap_of h; score = score }) else best
 
--- Whether a kept address pays at a count: of the steps since it was kept, from where each visit can have been guessed,
--- three quarters were jumped over. One of which fewer are is kept up to its first look, and a longer search may find a
--- better one.
+-- Whether a kept address pays at a count: of all steps since it was kept, from where each visit can have been guessed, at
+-- least three quarters were jumped over.
 abbrev pub pays : Seeking → (count : ℕ) → Service → Bool
 pays s count v = nat_le (3 * (count - reached_from s v.from v.lap)) (4 * v.given)
 
@@ -250,3 +250,15 @@ seek_along path from (suc n) m =
     let before = seek_along path from n m in
     let count = from + suc n in
     advanced count (profiled path count before before.phase)
+
+-- ---- when a search may learn
+
+-- a count is not before a phase began, nor before what was jumped over in it
+abbrev pub IsBehindIn : (count : ℕ) → Seek → Phase → Type 0
+IsBehindIn count m phase.Profile = m.since ≤ count
+IsBehindIn count m (phase.Trial t) = t.from + t.given ≤ count
+IsBehindIn count m (phase.Service v) = v.from + v.given ≤ count
+IsBehindIn count m (phase.Rest until) = Unit {0}
+
+abbrev pub IsBehind : (count : ℕ) → Seek → Type 0
+IsBehind count m = IsBehindIn count m m.phase

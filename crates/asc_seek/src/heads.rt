@@ -2,12 +2,12 @@
 ghost use Rattle.std.specs.Prelude.{◌≡◌, ◌+◌, ◌≤◌, Some, IfOk, length};
 ghost use Rattle.asc_seek.specs.Inside.{AreMetSeldom, HasLaps};
 ghost use Rattle.asc_seek.specs.Seek.{is_behind};
-ghost use Rattle.asc_seek.specs.Heads.{AreEarlier, comes_before, lap_of, no_heads, note, table_places};
+ghost use Rattle.asc_seek.specs.Heads.{AreEarlier, comes_before, lap_of, no_heads, note, table_slots};
 
 use std::alloc::{AllocError, Global};
 
 /// How many heads a table has at most.
-const TABLE_PLACES: usize = 4096;
+const TABLE_SLOTS: usize = 4096;
 
 /// An address that steps led back to.
 #[derive(Clone, Copy, Debug, PartialEq, Eq)]
@@ -59,8 +59,8 @@ impl Head {
 pub(crate) fn no_heads(alloc: Global) -> Result<Vec<Option<Head>>, AllocError>
     ensures { IfOk result (λ table. table.items ≡ no_heads) }
 {
-    let mut table = Vec::with_capacity(alloc, TABLE_PLACES)?;
-    for _ in 0..TABLE_PLACES {
+    let mut table = Vec::with_capacity(alloc, TABLE_SLOTS)?;
+    for _ in 0..TABLE_SLOTS {
         table.push(None)?;
     }
     Ok(table)
@@ -68,27 +68,27 @@ pub(crate) fn no_heads(alloc: Global) -> Result<Vec<Option<Head>>, AllocError>
 
 /// Takes all heads out of a table.
 pub(crate) fn clear(table: &mut [Option<Head>])
-    requires { length table.old ≡ table_places }
+    requires { length table.old ≡ table_slots }
     ensures { table.new ≡ no_heads }
 {
-    for place in table.iter_mut() {
-        *place = None;
+    for slot in table.iter_mut() {
+        *slot = None;
     }
 }
 
-/// Notes in a table that a step led back to an address. Of two addresses with the same place, the one that was met first
+/// Notes in a table that a step led back to an address. Of two addresses with the same slot, the one that was met first
 /// keeps it.
 pub(crate) fn note(table: &mut [Option<Head>], address: u32, count: u64)
-    requires places { length table.old ≡ table_places }
+    requires slots { length table.old ≡ table_slots }
     requires some { 1 ≤ count }
     requires earlier { AreEarlier count table.old }
     requires seldom { AreMetSeldom table.old }
     ensures table { table.new ≡ note count (Some address) table.old }
-    ensures places { length table.new ≡ table_places }
+    ensures slots { length table.new ≡ table_slots }
     ensures earlier { AreEarlier (count + 1) table.new }
     ensures seldom { AreMetSeldom table.new }
 {
-    let met = &mut table[address as usize / 4 % TABLE_PLACES];
+    let met = &mut table[address as usize / 4 % TABLE_SLOTS];
     match met {
         None => {
             *met = Some(Head {

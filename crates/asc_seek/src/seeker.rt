@@ -1,8 +1,8 @@
 //! A search for the address at which a run is visited.
 ghost use Rattle.std.specs.Prelude.{◌≡◌, ◌+◌, ◌*◌, ◌<◌, ◌≤◌, ◌^◌, max, ℕ, None, Some, true, false, IfOk};
 ghost use Rattle.asc_seek.specs.Heads.{AreEarlier, no_heads, note};
-ghost use Rattle.asc_seek.specs.Inside.{HasLaps, HasShortLap, IsBehind, MayFollow, first_candidate};
-ghost use Rattle.asc_seek.specs.Seek.{IsSeeking, candidate_behind, end_in, first_stretch, given_at, hopeless_steps, is_better, is_candidate, is_over, looked_steps, new_seek, next_candidate, pays, reached_from, score_at, scored_steps, advanced, seek_visit, serving, settled, steps_of, trial_end, advanced_from, try_next, watched_in};
+ghost use Rattle.asc_seek.specs.Inside.{HasLaps, HasShortLap, MayFollow, first_candidate};
+ghost use Rattle.asc_seek.specs.Seek.{IsBehind, IsSeeking, candidate_behind, end_in, first_stretch, given_at, hopeless_steps, is_best_yet, is_candidate, is_over, looked_steps, new_seek, next_candidate, pays, reached_from, rest_ratio, score_at, scored_steps, advanced, seek_visit, serving, settled, steps_of, trial_end, advanced_from, try_next, watched_in};
 
 use crate::heads::{Head, clear, no_heads, note};
 use std::alloc::{AllocError, Global};
@@ -198,6 +198,14 @@ impl Seeker {
         }
     }
 
+    /// A law: when the search that is on began, the run had come eight times as far as all searches before it took.
+    pub fn begins_late(&self)
+        ensures profile { self.now.phase ≡ Phase.Profile → rest_ratio * self.now.spent ≤ self.now.since }
+        ensures trial { (t : Trial) → self.now.phase ≡ Phase.Trial t → rest_ratio * self.now.spent ≤ self.now.since }
+    {
+        let _spent = self.spent;
+    }
+
     /// Notes that a step led back to an address, while heads are noted. Its count comes behind those that were noted
     /// before.
     pub fn note(&mut self, address: u32, count: u64)
@@ -255,7 +263,7 @@ impl Seeker {
     // A search begins at a count, with a stretch.
     fn search_from(&mut self, count: u64, stretch: u64)
         requires count { count ≤ 2 ^ 41 }
-        requires spent { self.old.spent ≤ count }
+        requires spent { rest_ratio * self.old.spent ≤ count }
         requires stretch { (1 ≤ stretch) × (stretch ≤ first_stretch + count) }
         ensures { self.new
             ≡ record self.old { since = count; stretch = stretch; table = no_heads; best = None; phase = Phase.Profile } }
@@ -288,7 +296,7 @@ impl Seeker {
         ensures behind { IsBehind count self.new }
     {
         let score = self.score(trial, count);
-        if self.is_better(score) {
+        if self.is_best_yet(score) {
             self.best = Some(Scored {
                 address: trial.head.address,
                 lap: trial.head.lap(),
@@ -303,8 +311,8 @@ impl Seeker {
     }
 
     // Whether a score is good enough to be kept, and better than the best so far.
-    fn is_better(&self, score: u64) -> bool
-        ensures { result ≡ is_better score self.now.best }
+    fn is_best_yet(&self, score: u64) -> bool
+        ensures { result ≡ is_best_yet score self.now.best }
     {
         match self.best {
             None => KEPT_SCORE <= score,
@@ -345,7 +353,7 @@ impl Seeker {
     // The candidate behind one that was tried is tried, if there is one.
     fn try_next(&mut self, count: u64, tried: Option<Head>)
         requires count { (self.old.since + self.old.stretch ≤ count) × (count ≤ 2 ^ 41) }
-        requires spent { self.old.spent ≤ self.old.since }
+        requires spent { rest_ratio * self.old.spent ≤ self.old.since }
         requires tried { HasLaps tried }
         ensures seek { self.new ≡ try_next count tried self.old }
         ensures going { is_over count self.new ≡ false }
@@ -379,7 +387,7 @@ impl Seeker {
     // The best address is kept, or there is a rest.
     fn settle(&mut self, count: u64)
         requires count { (self.old.since + self.old.stretch ≤ count) × (count ≤ 2 ^ 41) }
-        requires spent { self.old.spent ≤ self.old.since }
+        requires spent { rest_ratio * self.old.spent ≤ self.old.since }
         ensures seek { self.new ≡ settled count self.old }
         ensures going { is_over count self.new ≡ false }
         ensures behind { IsBehind count self.new }

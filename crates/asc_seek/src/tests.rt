@@ -1,8 +1,7 @@
 //! Tests.
 ghost use Rattle.std.specs.Prelude.{◌≡◌, ◌+◌, ◌≤◌, ◌^◌, ℕ, false};
 ghost use Rattle.asc_seek.specs.Heads.{AreEarlier};
-ghost use Rattle.asc_seek.specs.Inside.{IsBehind};
-ghost use Rattle.asc_seek.specs.Seek.{Seek, is_over};
+ghost use Rattle.asc_seek.specs.Seek.{IsBehind, Seek, is_over};
 
 use crate::{Seeker, Seeking};
 use std::alloc::Global;

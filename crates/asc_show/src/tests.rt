@@ -36,7 +36,7 @@ const ILLEGAL: Fault = Fault {
 /// A command line, its answer, and what it writes.
 type Row = (&'static str, Answer, &'static str);
 
-static ROWS: [Row; 46] = [
+static ROWS: [Row; 47] = [
     (
         "asc_show entry image 10008 2",
         Answer::Shown,
@@ -193,6 +193,12 @@ static ROWS: [Row; 46] = [
         "asc_show seek --steps 65537 counts",
         Answer::Shown,
         "steps 65537 up to the limit\naddress none\nvisits 1 jumps 0 skipped 0\n",
+    ),
+    // Beside workers its laps of two steps are too short.
+    (
+        "asc_show seek counts --workers 2",
+        Answer::Shown,
+        "steps 262149 up to its end\naddress none\nvisits 0 jumps 0 skipped 0\n",
     ),
     ("asc_show", Answer::Usage, ""),
     ("asc_show entry image 10008", Answer::Usage, ""),

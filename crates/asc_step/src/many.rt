@@ -86,6 +86,7 @@ pub fn step_down<L: Ledger>(
     ensures goes { plain result.0 state.old ≡ At state.new }
     ensures climbs { Climbs state.old result.0 }
     ensures down { result.1 ≡ true → Lowers state.old result.0 }
+    ensures last { result.1 ≡ true → result.2 ≡ Went }
     ensures up { result.1 ≡ false → Climbs state.old (result.0 + 1) }
     ensures counter { steps.new ≡ steps.old + result.0 }
     ensures most { result.0 ≤ most }

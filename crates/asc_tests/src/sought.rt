@@ -415,7 +415,7 @@ static SOUGHT: [(&str, &[u32], Answer, &str); 32] = [
         EXITS,
         "asc: executed 65539 skipped 8194 asked 4097 hits 4096 made 8198 refused 0\n",
     ),
-    // Beside workers the outer loop is tried, and no loop of the other program.
+    // Beside workers the outer loop may be visited, and no loop of the other program is long enough.
     ("asc run image --seek --workers 2", NESTED, EXITS, ""),
     ("asc run image --seek --workers 2", PHASES, EXITS, ""),
 ];

@@ -1,4 +1,4 @@
--- The places so far are empty.
+-- The slots so far are empty.
 use Rattle.std.proofs.Common.{◌≡◌, None}
 use Rattle.std.specs.Prelude.{replicate}
 use Rattle.asc_seek.proofs.heads.no_heads.Given as goal

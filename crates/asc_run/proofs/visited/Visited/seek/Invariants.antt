@@ -1,7 +1,7 @@
 -- The program has come as plain execution does, with the visits so far, and its search stands where it is to.
 use Rattle.std.proofs.Common.{◌≡◌, ◌+◌, ◌-◌, ◌≤◌}
 use Rattle.asc_calls.specs.World.{world, faults}
-use Rattle.asc_seek.specs.Inside.{IsBehind}
+use Rattle.asc_seek.specs.Seek.{IsBehind}
 use Rattle.asc_run.specs.Helped.{aid, Plans}
 use Rattle.asc_run.specs.Seen.{SeesAll}
 use Rattle.asc_run.proofs.Seeking.{IsEarly}

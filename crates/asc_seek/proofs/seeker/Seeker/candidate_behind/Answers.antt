@@ -1,5 +1,5 @@
--- All places were seen at the end.
-use Rattle.std.proofs.Common.{◌≡◌, List, Option, None, fold, sym, ap, ◌∙◌, arith}
+-- All slots were seen at the end.
+use Rattle.std.proofs.Common.{List, Option, None, fold, sym, ap, ◌∙◌}
 use Rattle.std.proofs.lemmas.List.{take_all}
 use Rattle.asc_seek.specs.declared.heads.Head.{Head}
 use Rattle.asc_seek.specs.Inside.{first_candidate}

@@ -1,4 +1,4 @@
--- The first candidate of the places so far.
+-- The first candidate of the slots so far.
 use Rattle.std.proofs.Common.{◌≡◌, None}
 use Rattle.std.specs.Prelude.{fold, take}
 use Rattle.asc_seek.specs.Inside.{HasLaps, first_candidate}

@@ -9,7 +9,7 @@ invariant_of-result c = let none = empty c.in_ok-no_heads.field-0.items c.in_ok-
   since = omega arith;
   stretch = omega arith;
   some = omega arith;
-  places = none.places;
+  slots = none.slots;
   seldom = none.seldom;
   early = none.early _;
   best = tt;
