@@ -12,8 +12,6 @@ mod log;
 mod reader;
 mod readers;
 mod sight;
-#[cfg(test)]
-mod tests;
 mod writer;
 
 pub use cache::Cache;

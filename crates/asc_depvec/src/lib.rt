@@ -3,8 +3,6 @@
 
 mod bitmap;
 mod laws;
-#[cfg(test)]
-mod tests;
 mod touched;
 mod tracer;
 mod unfilled;

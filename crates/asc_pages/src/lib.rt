@@ -4,8 +4,6 @@
 mod marks;
 mod numbers;
 mod pages;
-#[cfg(test)]
-mod tests;
 
 pub use marks::Marks;
 pub use pages::{FRONT, GROUP, PAGE, Pages, word_in};

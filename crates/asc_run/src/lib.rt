@@ -10,11 +10,7 @@ mod process;
 mod profile;
 mod recognised;
 mod serial;
-#[cfg(test)]
-mod serial_tests;
 mod sought;
-#[cfg(test)]
-mod tests;
 mod visited;
 mod walk;
 

@@ -10,8 +10,6 @@ mod shape;
 mod snapshot;
 mod state;
 mod steps;
-#[cfg(test)]
-mod tests;
 mod words;
 
 pub use asc_model::{Status, Version};

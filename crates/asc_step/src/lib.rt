@@ -11,8 +11,6 @@ mod places;
 mod specialized;
 mod stepped;
 mod stepping;
-#[cfg(test)]
-mod tests;
 mod version;
 
 pub use asc_model::{Fault, FaultKind};

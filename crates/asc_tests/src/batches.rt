@@ -452,16 +452,23 @@ fn counted_batches(rt: HostRuntime) -> Result<(), Fail> {
     let files = files_of(alloc, READING, &["\0", "\u{2}"])?;
     let got = run_gated(&rt, alloc, line, files, &SOUND, &Open)?;
     assert_eq!(rt; got.answer, Answer::Done(0));
-    let report = str::from_utf8(got.report.bytes()).expect(&rt, "text");
+    check_counts(&rt, str::from_utf8(got.report.bytes()).expect(&rt, "text"));
+    Ok(())
+}
+
+/// Checks the lines of three runs, and the numbers of each.
+fn check_counts<R: Abort>(rt: &R, report: &str) {
     let mut lines = report.lines();
-    for (number, steps, asked) in [(0, 19, 4), (1, 15, 2), (2, 19, 4)] {
-        let head = lines.next().expect(&rt, "a line of the run");
-        let wanted = format!(in alloc; "asc: run {number}: exit 0 after {steps}")?;
-        assert_eq!(rt; head, wanted.as_str());
-        let told = numbers(lines.next().expect(&rt, "its numbers"));
+    for (head, steps, asked) in [
+        ("asc: run 0: exit 0 after 19", 19, 4),
+        ("asc: run 1: exit 0 after 15", 15, 2),
+        ("asc: run 2: exit 0 after 19", 19, 4),
+    ] {
+        assert_eq!(rt; lines.next().expect(rt, "a line of the run"), head);
+        let told = numbers(lines.next().expect(rt, "its numbers"));
         assert_eq!(rt; told[0].wrapping_add(told[1]), steps, "at {report}");
         assert!(rt; told[2] <= asked, "at {report}");
-        let workers = numbers(lines.next().expect(&rt, "those of its workers"));
+        let workers = numbers(lines.next().expect(rt, "those of its workers"));
         assert_eq!(rt; workers[0].wrapping_add(workers[1]), told[4], "at {report}");
         let columns = workers[2..7]
             .iter()
@@ -469,7 +476,6 @@ fn counted_batches(rt: HostRuntime) -> Result<(), Fail> {
         assert_eq!(rt; columns, workers[0], "at {report}");
     }
     assert!(rt; lines.next().is_none());
-    Ok(())
 }
 
 /// The numbers of a line, in its order.

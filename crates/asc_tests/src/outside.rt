@@ -164,16 +164,29 @@ pub(crate) fn check_guessed<R: Abort + Threads + Wait + Sync + Copy + Drop + Sen
         if !words.contains("--report") {
             check(rt, alloc, &words, file.to_vec(alloc)?, devices, want)?;
         } else if is_sound {
-            let got = run_line(rt, alloc, &words, file.to_vec(alloc)?, devices)?;
-            let put = (got.out.bytes(), got.err.bytes());
-            let wanted = (want.out.as_bytes(), want.err.as_bytes());
-            assert_eq!(rt; (got.answer, put), (want.answer, wanted), "at {words}");
-            assert!(rt;
-                got.report.bytes().starts_with(want.report.as_bytes()),
-                "at {words}"
-            );
+            check_reported(rt, alloc, &words, file.to_vec(alloc)?, devices, want)?;
         }
     }
+    Ok(())
+}
+
+/// Runs the words of a command line, and compares what came of them with what must, and of the report how it begins.
+fn check_reported<R: Abort + Threads + Wait + Sync + Copy + Drop + Send>(
+    rt: &R,
+    alloc: Global,
+    line: &str,
+    file: Vec<u8>,
+    devices: &Devices,
+    want: &Want,
+) -> Result<(), AllocError> {
+    let got = run_line(rt, alloc, line, file, devices)?;
+    let put = (got.out.bytes(), got.err.bytes());
+    let wanted = (want.out.as_bytes(), want.err.as_bytes());
+    assert_eq!(rt; (got.answer, put), (want.answer, wanted), "at {line}");
+    assert!(rt;
+        got.report.bytes().starts_with(want.report.as_bytes()),
+        "at {line}"
+    );
     Ok(())
 }
 
@@ -186,14 +199,21 @@ pub(crate) fn check_rounds<R: Abort + Threads + Wait + Sync + Copy + Drop + Send
 ) -> Result<(), AllocError> {
     let alone = run_line(rt, alloc, line, file.to_vec(alloc)?, &SOUND)?;
     let words = format!(in alloc; "{line} --workers 2 --rounds")?;
-    let rounds = run_line(rt, alloc, words.as_str(), file.to_vec(alloc)?, &SOUND)?;
-    let put = (alone.out.bytes(), alone.err.bytes(), alone.report.bytes());
-    let same = (
-        rounds.out.bytes(),
-        rounds.err.bytes(),
-        rounds.report.bytes(),
-    );
-    assert_eq!(rt; (rounds.answer, same), (alone.answer, put), "at {words}");
+    check_same(rt, alloc, &words, file.to_vec(alloc)?, &alone)
+}
+
+/// Runs the words of a command line, from which the same must come.
+fn check_same<R: Abort + Threads + Wait + Sync + Copy + Drop + Send>(
+    rt: &R,
+    alloc: Global,
+    line: &str,
+    file: Vec<u8>,
+    other: &Got,
+) -> Result<(), AllocError> {
+    let got = run_line(rt, alloc, line, file, &SOUND)?;
+    let put = (got.out.bytes(), got.err.bytes(), got.report.bytes());
+    let others = (other.out.bytes(), other.err.bytes(), other.report.bytes());
+    assert_eq!(rt; (got.answer, put), (other.answer, others), "at {line}");
     Ok(())
 }
 

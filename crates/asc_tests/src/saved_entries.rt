@@ -262,6 +262,43 @@ fn run_saved<R: Abort + Threads + Wait + Sync + Copy + Drop + Send>(
     run_gated(rt, alloc, line, files, devices, &Open)
 }
 
+/// The same, with its answer, how often the store must be asked, and the report.
+fn check_saved<R: Abort + Threads + Wait + Sync + Copy + Drop + Send>(
+    rt: &R,
+    alloc: Global,
+    line: &str,
+    image: Vec<u8>,
+    saved: Vec<u8>,
+    devices: &Devices,
+    want: (Answer, usize, &str),
+) -> Result<(), AllocError> {
+    let got = run_saved(rt, alloc, line, image, saved, devices)?;
+    assert_eq!(rt; (got.answer, got.asked(rt)), (want.0, want.1), "at {line}");
+    assert_eq!(rt; got.report.bytes(), want.2.as_bytes(), "at {line}");
+    Ok(())
+}
+
+/// The file that a save of a program leaves, which must have so many bytes. These are the steps of its first four entries.
+fn left_by<R: Abort + Threads + Wait + Sync + Copy + Drop + Send>(
+    rt: &R,
+    alloc: Global,
+    line: &str,
+    program: &[u32],
+    devices: &Devices,
+    want: (usize, [usize; 4]),
+) -> Result<Vec<u8>, AllocError> {
+    let image = wrap(alloc, program)?;
+    let got = run_saved(rt, alloc, line, image, Vec::new(alloc), devices)?;
+    assert_eq!(rt;
+        (got.answer, got.asked(rt)),
+        (Answer::Done(0), 1),
+        "at {line}"
+    );
+    let file = got.out.bytes();
+    assert_eq!(rt; (file.len(), steps(file)), want, "at {line}");
+    file.to_vec(alloc)
+}
+
 /// The number in the bytes from a place on, the lowest first.
 fn number(file: &[u8], at: usize) -> usize {
     let bytes = file.iter().skip(at).take(4);
@@ -300,29 +337,13 @@ fn changed(alloc: Global, file: &[u8], row: &Row) -> Result<Vec<u8>, AllocError>
 #[test]
 fn saved_entries(rt: HostRuntime) -> Result<(), Fail> {
     let alloc = rt.alloc();
-    let image = wrap(alloc, COUNTS)?;
     let line = "asc save image --pc 10008 --guess stride --ahead 2";
-    let got = run_saved(
-        &rt,
-        alloc,
-        line,
-        image.to_vec(alloc)?,
-        Vec::new(alloc),
-        &ROOMY,
-    )?;
-    assert_eq!(rt;
-        (got.answer, got.asked(&rt)),
-        (Answer::Done(0), 1),
-        "at {line}"
-    );
-    let file = got.out.bytes();
-    assert_eq!(rt; (file.len(), steps(file)), (724, [2, 4, 2, 2]), "at {line}");
+    let file = left_by(&rt, alloc, line, COUNTS, &ROOMY, (724, [2, 4, 2, 2]))?;
     for row in &ROWS {
-        let line = row.line;
-        let saved = changed(alloc, file, row)?;
-        let got = run_saved(&rt, alloc, line, image.to_vec(alloc)?, saved, &ROOMY)?;
-        assert_eq!(rt; (got.answer, got.asked(&rt)), (row.answer, 2), "at {line}");
-        assert_eq!(rt; got.report.bytes(), row.report.as_bytes(), "at {line}");
+        let image = wrap(alloc, COUNTS)?;
+        let saved = changed(alloc, &file, row)?;
+        let want = (row.answer, 2, row.report);
+        check_saved(&rt, alloc, row.line, image, saved, &ROOMY, want)?;
     }
     Ok(())
 }
@@ -345,23 +366,18 @@ static JOINED: [(&str, usize); 2] = [
 fn joined_entries(rt: HostRuntime) -> Result<(), Fail> {
     let alloc = rt.alloc();
     for (line, length) in JOINED {
-        let none = Vec::new(alloc);
-        let got = run_saved(&rt, alloc, line, wrap(alloc, COUNTS)?, none, &ROOMY)?;
-        assert_eq!(rt; got.answer, Answer::Done(0), "at {line}");
-        let file = got.out.bytes();
-        assert_eq!(rt;
-            (file.len(), steps(file)),
-            (length, [2, 4, 6, 2]),
-            "at {line}"
-        );
-        let saved = file.to_vec(alloc)?;
+        let saved = left_by(&rt, alloc, line, COUNTS, &ROOMY, (length, [2, 4, 6, 2]))?;
         let image = wrap(alloc, COUNTS)?;
-        let got = run_saved(&rt, alloc, LOADS, image, saved, &ROOMY)?;
         let report = "asc: executed 7 skipped 6 asked 3 hits 1 made 0 refused 0\n";
-        assert_eq!(rt;
-            (got.answer, got.report.bytes()),
-            (Answer::Exit(0), report.as_bytes())
-        );
+        check_saved(
+            &rt,
+            alloc,
+            LOADS,
+            image,
+            saved,
+            &ROOMY,
+            (Answer::Exit(0), 2, report),
+        )?;
     }
     Ok(())
 }
@@ -417,34 +433,14 @@ const VAST: Devices = Devices {
     ..SOUND
 };
 
-/// The file that a save of the loop leaves, which must have so many bytes and entries, of these steps.
-fn left_by<R: Abort + Threads + Wait + Sync + Copy + Drop + Send>(
-    rt: &R,
-    alloc: Global,
-    line: &str,
-    want: (usize, usize, [usize; 4]),
-) -> Result<Vec<u8>, AllocError> {
-    let image = wrap(alloc, sought::COUNTS)?;
-    let got = run_saved(rt, alloc, line, image, Vec::new(alloc), &VAST)?;
-    assert_eq!(rt; got.answer, Answer::Done(0), "at {line}");
-    let file = got.out.bytes().to_vec(alloc)?;
-    assert_eq!(rt;
-        (file.len(), number(&file, 16), steps(&file)),
-        want,
-        "at {line}"
-    );
-    Ok(file)
-}
-
 #[test]
 fn sought_entries(rt: HostRuntime) -> Result<(), Fail> {
     let alloc = rt.alloc();
-    for &(line, left, load, answer, report) in &SOUGHT {
-        let saved = left_by(&rt, alloc, line, left)?;
+    for &(line, (length, entries, steps), load, answer, report) in &SOUGHT {
+        let saved = left_by(&rt, alloc, line, sought::COUNTS, &VAST, (length, steps))?;
+        assert_eq!(rt; number(&saved, 16), entries, "at {line}");
         let image = wrap(alloc, sought::COUNTS)?;
-        let got = run_saved(&rt, alloc, load, image, saved, &VAST)?;
-        assert_eq!(rt; got.answer, answer, "at {load}");
-        assert_eq!(rt; got.report.bytes(), report.as_bytes(), "at {load}");
+        check_saved(&rt, alloc, load, image, saved, &VAST, (answer, 2, report))?;
     }
     Ok(())
 }
@@ -476,31 +472,57 @@ fn saves(rt: HostRuntime) -> Result<(), Fail> {
 #[test]
 fn refused_before_and_behind(rt: HostRuntime) -> Result<(), Fail> {
     let alloc = rt.alloc();
-    let line = "asc run image --load saved";
-    let mut short = FIRST.to_vec(alloc)?;
-    short.truncate(CODE);
-    let got = run_saved(&rt, alloc, line, short, Vec::new(alloc), &SOUND)?;
-    assert_eq!(rt; got.answer, Answer::Image(ElfFault::Segment(0)));
-    assert_eq!(rt; got.asked(&rt), 1);
     let failing = Devices {
         fails: [2, 0, 0, 0, 0],
         ..SOUND
     };
-    let got = run_saved(
-        &rt,
-        alloc,
-        line,
-        FIRST.to_vec(alloc)?,
-        Vec::new(alloc),
-        &failing,
-    )?;
-    assert_eq!(rt; (got.answer, got.asked(&rt)), (Answer::StoreFault, 2));
-    let long = vec![in alloc; 0; 67_108_865]?;
-    let got = run_saved(&rt, alloc, line, FIRST.to_vec(alloc)?, long, &SOUND)?;
-    assert_eq!(rt; got.answer, Answer::Saved(SavedFault::TooLong));
-    assert_eq!(rt;
-        (got.asked(&rt), got.report.bytes()),
-        (2, "asc: saved fault 11\n".as_bytes())
-    );
+    let image = Answer::Image(ElfFault::Segment(0));
+    let long = Answer::Saved(SavedFault::TooLong);
+    let rows = [
+        (
+            CODE,
+            0,
+            &SOUND,
+            (image, 1, "asc: image fault 12 header 0\n"),
+        ),
+        (
+            FIRST.len(),
+            0,
+            &failing,
+            (Answer::StoreFault, 2, "asc: store failed\n"),
+        ),
+        (
+            FIRST.len(),
+            67_108_865,
+            &SOUND,
+            (long, 2, "asc: saved fault 11\n"),
+        ),
+    ];
+    for (length, bytes, devices, want) in rows {
+        check_refused(&rt, alloc, length, bytes, devices, want)?;
+    }
     Ok(())
+}
+
+/// Runs an image that is cut to a length, over saved entries of so many bytes of 0.
+fn check_refused<R: Abort + Threads + Wait + Sync + Copy + Drop + Send>(
+    rt: &R,
+    alloc: Global,
+    length: usize,
+    bytes: usize,
+    devices: &Devices,
+    want: (Answer, usize, &str),
+) -> Result<(), AllocError> {
+    let mut image = FIRST.to_vec(alloc)?;
+    image.truncate(length);
+    let saved = vec![in alloc; 0; bytes]?;
+    check_saved(
+        rt,
+        alloc,
+        "asc run image --load saved",
+        image,
+        saved,
+        devices,
+        want,
+    )
 }

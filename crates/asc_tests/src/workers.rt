@@ -97,12 +97,28 @@ fn count_held<R: Abort + Threads + Wait + Sync + Copy + Drop + Send>(
     alloc: Global,
     held: &Held<'_>,
 ) -> Result<(), AllocError> {
+    let report = report_of_held(rt, alloc, held)?;
+    check_counts(rt, held, &report);
+    Ok(())
+}
+
+/// The report of the counting loop while it is held up.
+fn report_of_held<R: Abort + Threads + Wait + Sync + Copy + Drop + Send>(
+    rt: &R,
+    alloc: Global,
+    held: &Held<'_>,
+) -> Result<String, AllocError> {
     let gate = HoldGate::new(alloc, held.holds, TURNS).expect(rt, "memory");
     let files = only_image(alloc, wrap(alloc, COUNTS)?)?;
     let got = run_gated(rt, alloc, held.line, files, &SOUND, &gate)?;
     let report = str::from_utf8(got.report.bytes()).expect(rt, "text");
     assert!(rt; gate.all_held(), "a hold did not hold at {report}");
     assert_eq!(rt; got.answer, Answer::Exit(0), "at {report}");
+    String::from_str(alloc, report)
+}
+
+/// Checks what the numbers of such a report keep.
+fn check_counts<R: Abort>(rt: &R, held: &Held<'_>, report: &str) {
     let told = numbers(report);
     let (executed, skipped) = (told[0], told[1]);
     let (refused, ran, left, full) = (told[5], told[6], told[7], told[13]);
@@ -119,7 +135,6 @@ fn count_held<R: Abort + Threads + Wait + Sync + Copy + Drop + Send>(
         report.starts_with(held.begins) && report.ends_with(held.ends),
         "at {report}"
     );
-    Ok(())
 }
 
 #[test]

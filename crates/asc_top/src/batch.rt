@@ -119,9 +119,101 @@ fn run_batch<
     let Ok(image) = read(&file, 1024 * line.memory, line.version) else {
         unreachable!()
     };
-    let Ok(mut walk) = Walk::new(alloc, &image, settings_of(line)) else {
+    run_image(
+        rt,
+        alloc,
+        line,
+        &image,
+        &mut inputs,
+        gate,
+        out,
+        err,
+        report,
+        steps,
+    )
+}
+
+/// Runs an image over each of these inputs. The error is as that of `run_batch`.
+fn run_image<
+    T: Threads + Wait + Sync + Copy + Drop + Send,
+    O: Sink,
+    E: Sink,
+    R: Sink,
+    G: Gate + Sync,
+    L: Ledger,
+>(
+    rt: &T,
+    alloc: Global,
+    line: &RunLine,
+    image: &Image<'_>,
+    inputs: &mut [SureSource],
+    gate: &G,
+    out: &mut O,
+    err: &mut E,
+    report: &mut R,
+    steps: &mut Steps<L>,
+) -> Result<(), Answer>
+    requires line { IsRunWithin line.now }
+    requires unloaded { line.now.load ≡ None }
+    requires shape { IsShape image.now.start.shape }
+    requires inputs { (1 ≤ length inputs.old) × (length inputs.old ≤ 64) }
+    ensures ended { IfOk result (λ _. EndsRuns line.now image.now inputs.old
+        (outputs (O.given out.old) (E.given err.old) steps.old (O.faults out.old) (E.faults err.old))
+        (outputs (O.given out.new) (E.given err.new) steps.new (O.faults out.new) (E.faults err.new))
+        (report_with (R.given report.old) (R.faults report.old)) (report_with (R.given report.new) (R.faults report.new))) }
+    ensures broken { IfErr result (λ answer. ((answer ≡ Answer.Memory) × (out.new ≡ out.old) × (err.new ≡ err.old)
+        × (steps.new ≡ steps.old) × (report.new ≡ report.old)) ⊎ BreaksRuns line.now image.now inputs.old
+        (outputs (O.given out.old) (E.given err.old) steps.old (O.faults out.old) (E.faults err.old))
+        (outputs (O.given out.new) (E.given err.new) steps.new (O.faults out.new) (E.faults err.new))
+        (report_with (R.given report.old) (R.faults report.old)) (report_with (R.given report.new) (R.faults report.new))
+        answer) }
+{
+    let Ok(mut walk) = Walk::new(alloc, image, settings_of(line)) else {
         return Err(Answer::Memory);
     };
+    run_walk(
+        rt, alloc, line, image, &mut walk, inputs, gate, out, err, report, steps,
+    )
+}
+
+/// Opens what the runs of a walk need, and runs its image over each of these inputs. The error is as that of `run_batch`.
+fn run_walk<
+    T: Threads + Wait + Sync + Copy + Drop + Send,
+    O: Sink,
+    E: Sink,
+    R: Sink,
+    G: Gate + Sync,
+    L: Ledger,
+>(
+    rt: &T,
+    alloc: Global,
+    line: &RunLine,
+    image: &Image<'_>,
+    walk: &mut Walk,
+    inputs: &mut [SureSource],
+    gate: &G,
+    out: &mut O,
+    err: &mut E,
+    report: &mut R,
+    steps: &mut Steps<L>,
+) -> Result<(), Answer>
+    requires line { IsRunWithin line.now }
+    requires unloaded { line.now.load ≡ None }
+    requires shape { IsShape image.now.start.shape }
+    requires walk { walk.old.state.shape ≡ image.now.start.shape }
+    requires settings { walk.old.settings ≡ settings_of line.now }
+    requires inputs { (1 ≤ length inputs.old) × (length inputs.old ≤ 64) }
+    ensures ended { IfOk result (λ _. EndsRuns line.now image.now inputs.old
+        (outputs (O.given out.old) (E.given err.old) steps.old (O.faults out.old) (E.faults err.old))
+        (outputs (O.given out.new) (E.given err.new) steps.new (O.faults out.new) (E.faults err.new))
+        (report_with (R.given report.old) (R.faults report.old)) (report_with (R.given report.new) (R.faults report.new))) }
+    ensures broken { IfErr result (λ answer. ((answer ≡ Answer.Memory) × (out.new ≡ out.old) × (err.new ≡ err.old)
+        × (steps.new ≡ steps.old) × (report.new ≡ report.old)) ⊎ BreaksRuns line.now image.now inputs.old
+        (outputs (O.given out.old) (E.given err.old) steps.old (O.faults out.old) (E.faults err.old))
+        (outputs (O.given out.new) (E.given err.new) steps.new (O.faults out.new) (E.faults err.new))
+        (report_with (R.given report.old) (R.faults report.old)) (report_with (R.given report.new) (R.faults report.new))
+        answer) }
+{
     let Ok(mut runner) = Runner::open(rt, alloc, line, walk.shape(), inputs.len()) else {
         return Err(Answer::Memory);
     };
@@ -129,10 +221,10 @@ fn run_batch<
         rt,
         alloc,
         line,
-        &image,
-        &mut walk,
+        image,
+        walk,
         &mut runner,
-        &mut inputs,
+        inputs,
         gate,
         out,
         err,

@@ -42,7 +42,7 @@ pub(crate) fn walk_in_threads<
     alloc: Global,
     line: &RunLine,
     lanes: usize,
-    mut walk: Walk,
+    walk: &mut Walk,
     first: &[Arc<Entry>],
     gate: &G,
     input: &mut I,
@@ -50,19 +50,17 @@ pub(crate) fn walk_in_threads<
     err: &mut E,
     steps: &mut Steps<L>,
 ) -> Outcome
-    requires new { IsNone walk.ended }
+    requires new { IsNone walk.old.ended }
     requires line { IsRunWithin line.now }
     requires threads { IsThreaded line.now.workers lanes }
-    ensures { (files : Files) → AreOpened line.now files walk (map arc_value first.now) → Ran
+    ensures { (files : Files) → AreOpened line.now files walk.old (map arc_value first.now) → Ran
         (outside (I.left input.old) (O.given out.old) (E.given err.old) steps.old
         (faults (I.faults input.old) (O.faults out.old) (E.faults err.old)))
         (outside (I.left input.new) (O.given out.new) (E.given err.new) steps.new
         (faults (I.faults input.new) (O.faults out.new) (E.faults err.new))) line.now files result }
 {
     match lanes {
-        0 => walk_beside(
-            rt, alloc, line, &mut walk, first, gate, input, out, err, steps,
-        ),
+        0 => walk_beside(rt, alloc, line, walk, first, gate, input, out, err, steps),
         lanes => walk_in_rounds(
             rt, alloc, line, lanes, walk, first, gate, input, out, err, steps,
         ),
@@ -78,7 +76,7 @@ fn walk_in_rounds<T: Threads + Sync, G: Gate + Sync, I: Source, O: Sink, E: Sink
     alloc: Global,
     line: &RunLine,
     lanes: usize,
-    mut walk: Walk,
+    walk: &mut Walk,
     first: &[Arc<Entry>],
     gate: &G,
     input: &mut I,
@@ -86,12 +84,12 @@ fn walk_in_rounds<T: Threads + Sync, G: Gate + Sync, I: Source, O: Sink, E: Sink
     err: &mut E,
     steps: &mut Steps<L>,
 ) -> Outcome
-    requires new { IsNone walk.ended }
+    requires new { IsNone walk.old.ended }
     requires line { IsRunWithin line.now }
     requires none { line.now.workers ≡ 0 }
     requires some { 1 ≤ lanes }
     requires few { lanes ≤ 64 }
-    ensures { (files : Files) → AreOpened line.now files walk (map arc_value first.now) → Ran
+    ensures { (files : Files) → AreOpened line.now files walk.old (map arc_value first.now) → Ran
         (outside (I.left input.old) (O.given out.old) (E.given err.old) steps.old
         (faults (I.faults input.old) (O.faults out.old) (E.faults err.old)))
         (outside (I.left input.new) (O.given out.new) (E.given err.new) steps.new
@@ -110,7 +108,7 @@ fn walk_in_rounds<T: Threads + Sync, G: Gate + Sync, I: Source, O: Sink, E: Sink
         Ok(mut rounds) => go_in_rounds(
             rt,
             line.report,
-            &mut walk,
+            walk,
             &mut rounds,
             gate,
             input,

@@ -49,10 +49,10 @@ pub(crate) fn run_alone<F: Store, I: Source, O: Sink, E: Sink, L: Ledger>(
         (faults (I.faults input.new) (O.faults out.new) (E.faults err.new)))) result }
 {
     match open(alloc, line, store) {
-        Ok(opened) => walk_alone(
+        Ok(mut opened) => walk_alone(
             alloc,
             line,
-            opened.walk,
+            &mut opened.walk,
             &opened.first,
             input,
             out,
@@ -94,12 +94,12 @@ pub(crate) fn run_beside<
         (faults (I.faults input.new) (O.faults out.new) (E.faults err.new)))) result }
 {
     match open(alloc, line, store) {
-        Ok(opened) => walk_in_threads(
+        Ok(mut opened) => walk_in_threads(
             rt,
             alloc,
             line,
             line.lanes,
-            opened.walk,
+            &mut opened.walk,
             &opened.first,
             gate,
             input,
@@ -131,7 +131,7 @@ pub(crate) fn run_file_alone<I: Source, O: Sink, E: Sink, L: Ledger>(
         (faults (I.faults input.new) (O.faults out.new) (E.faults err.new))) line.now (image_alone file.now) result }
 {
     match walk_of(alloc, line, settings_of(line), file) {
-        Ok(walk) => walk_alone(alloc, line, walk, &[], input, out, err, steps),
+        Ok(mut walk) => walk_alone(alloc, line, &mut walk, &[], input, out, err, steps),
         Err(answer) => Outcome::of(answer),
     }
 }
@@ -166,12 +166,12 @@ pub(crate) fn run_file_beside<
         (faults (I.faults input.new) (O.faults out.new) (E.faults err.new))) line.now (image_alone file.now) result }
 {
     match walk_of(alloc, line, settings_of(line), file) {
-        Ok(walk) => walk_in_threads(
+        Ok(mut walk) => walk_in_threads(
             rt,
             alloc,
             line,
             lanes,
-            walk,
+            &mut walk,
             &[],
             gate,
             input,
@@ -190,17 +190,17 @@ pub(crate) fn run_file_beside<
 pub(crate) fn walk_alone<I: Source, O: Sink, E: Sink, L: Ledger>(
     alloc: Global,
     line: &RunLine,
-    mut walk: Walk,
+    walk: &mut Walk,
     first: &[Arc<Entry>],
     input: &mut I,
     out: &mut O,
     err: &mut E,
     steps: &mut Steps<L>,
 ) -> Outcome
-    requires new { IsNone walk.ended }
+    requires new { IsNone walk.old.ended }
     requires line { IsRunWithin line.now }
     requires none { line.now.workers ≡ 0 }
-    ensures { (files : Files) → AreOpened line.now files walk (map arc_value first.now) → Ran
+    ensures { (files : Files) → AreOpened line.now files walk.old (map arc_value first.now) → Ran
         (outside (I.left input.old) (O.given out.old) (E.given err.old) steps.old
         (faults (I.faults input.old) (O.faults out.old) (E.faults err.old)))
         (outside (I.left input.new) (O.given out.new) (E.given err.new) steps.new
@@ -208,10 +208,10 @@ pub(crate) fn walk_alone<I: Source, O: Sink, E: Sink, L: Ledger>(
 {
     if !keeps_entries(line) {
         let mut helper = Bare::new(Nothing::new());
-        return run_with(line.report, &mut walk, &mut helper, input, out, err, steps);
+        return run_with(line.report, walk, &mut helper, input, out, err, steps);
     }
     match helper_with(alloc, walk.shape(), guessing_of(line), first) {
-        Ok(mut helper) => run_with(line.report, &mut walk, &mut helper, input, out, err, steps),
+        Ok(mut helper) => run_with(line.report, walk, &mut helper, input, out, err, steps),
         Err(Memory) => Outcome::of(Answer::Memory),
     }
 }

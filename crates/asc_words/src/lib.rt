@@ -15,6 +15,3 @@ pub use given::given_words;
 pub use laws::{lines_are_within, taken_words_have_lines};
 pub use line::{BatchLine, FILE_LIMIT, FileName, Line, LineFault, RunLine, parse};
 pub use report::{batch_text, text, trial_text};
-
-#[cfg(test)]
-mod tests;

@@ -5,13 +5,9 @@ mod halter;
 mod joining;
 mod lane;
 mod lanes;
-#[cfg(test)]
-mod lanes_tests;
 mod post;
 mod scope;
 mod team;
-#[cfg(test)]
-mod tests;
 mod work;
 mod worker;
 

@@ -1,5 +1,5 @@
 -- The runs of the image that was read are those of the image that the file means.
-use Rattle.std.proofs.Common.{◌≡◌, ◌⊎◌, ◌*◌, inr, ℕ, List, Ok, ap, ◌∙◌, subst}
+use Rattle.std.proofs.Common.{◌≡◌, ◌*◌, inl, inr, Ok, ap, ◌∙◌, subst}
 use Rattle.std.proofs.lemmas.Result.{IfErr-weaker, IfOk-weaker}
 use Rattle.std.specs.declared.result.Result.{Result}
 use Rattle.asc_elf.specs.Image as loader
@@ -15,28 +15,31 @@ pub returns-clause-ended : goal.returns-clause-ended
 returns-clause-ended g c =
     let line = c.args.line.now in
     let old = outputs (g.O.Sink.given c.args.out.now) (g.E.Sink.given c.args.err.now) c.args.steps.now (g.O.Sink.faults c.args.out.now) (g.E.Sink.faults c.args.err.now) in
-    let new = outputs (g.O.Sink.given c.run_inputs.new.out) (g.E.Sink.given c.run_inputs.new.err) c.run_inputs.new.steps (g.O.Sink.faults c.run_inputs.new.out) (g.E.Sink.faults c.run_inputs.new.err) in
+    let new = outputs (g.O.Sink.given c.run_image.new.out) (g.E.Sink.given c.run_image.new.err) c.run_image.new.steps (g.O.Sink.faults c.run_image.new.out) (g.E.Sink.faults c.run_image.new.err) in
     let before = report_with (g.R.Sink.given c.args.report.now) (g.R.Sink.faults c.args.report.now) in
-    let after = report_with (g.R.Sink.given c.run_inputs.new.report) (g.R.Sink.faults c.run_inputs.new.report) in
+    let after = report_with (g.R.Sink.given c.run_image.new.report) (g.R.Sink.faults c.run_image.new.report) in
     let content = c.deref.ensures.value ∙ ap (λ f. f.image) c.files.view_is in
     let inputs = c.deref_mut.ensures.value ∙ ap (λ f. f.inputs) c.files.view_is in
-    IfOk-weaker c.run_inputs.result _ _ (λ done ends image loads.
+    IfOk-weaker c.run_image.result _ _ (λ done ends image loads.
     let read = c.read.ensures ∙ ap (λ bytes. loader.image_of bytes (1024 * line.memory) line.version) content ∙ loads in
     let same = same_image c.read.result c.in-Ok.image image c.in-Ok.is read in
     subst (λ i. EndsRuns line i c.args.files.inputs old new before after) same
-    (subst (λ list. EndsRuns line c.in-Ok.image list old new before after) inputs ends)) c.run_inputs.ensures.ended
+    (subst (λ list. EndsRuns line c.in-Ok.image list old new before after) inputs ends)) c.run_image.ensures.ended
 
 pub returns-clause-broken : goal.returns-clause-broken
 returns-clause-broken g c =
     let line = c.args.line.now in
     let old = outputs (g.O.Sink.given c.args.out.now) (g.E.Sink.given c.args.err.now) c.args.steps.now (g.O.Sink.faults c.args.out.now) (g.E.Sink.faults c.args.err.now) in
-    let new = outputs (g.O.Sink.given c.run_inputs.new.out) (g.E.Sink.given c.run_inputs.new.err) c.run_inputs.new.steps (g.O.Sink.faults c.run_inputs.new.out) (g.E.Sink.faults c.run_inputs.new.err) in
+    let new = outputs (g.O.Sink.given c.run_image.new.out) (g.E.Sink.given c.run_image.new.err) c.run_image.new.steps (g.O.Sink.faults c.run_image.new.out) (g.E.Sink.faults c.run_image.new.err) in
     let before = report_with (g.R.Sink.given c.args.report.now) (g.R.Sink.faults c.args.report.now) in
-    let after = report_with (g.R.Sink.given c.run_inputs.new.report) (g.R.Sink.faults c.run_inputs.new.report) in
+    let after = report_with (g.R.Sink.given c.run_image.new.report) (g.R.Sink.faults c.run_image.new.report) in
     let content = c.deref.ensures.value ∙ ap (λ f. f.image) c.files.view_is in
     let inputs = c.deref_mut.ensures.value ∙ ap (λ f. f.inputs) c.files.view_is in
-    IfErr-weaker c.run_inputs.result _ _ (λ answer breaks image loads.
+    IfErr-weaker c.run_image.result _ _ (λ answer breaks image loads.
     let read = c.read.ensures ∙ ap (λ bytes. loader.image_of bytes (1024 * line.memory) line.version) content ∙ loads in
     let same = same_image c.read.result c.in-Ok.image image c.in-Ok.is read in
-    inr (subst (λ i. BreaksRuns line i c.args.files.inputs old new before after answer) same
-    (subst (λ list. BreaksRuns line c.in-Ok.image list old new before after answer) inputs breaks))) c.run_inputs.ensures.broken
+    elim breaks [
+      | inl still ↦ inl still
+      | inr b ↦ inr (subst (λ i. BreaksRuns line i c.args.files.inputs old new before after answer) same
+          (subst (λ list. BreaksRuns line c.in-Ok.image list old new before after answer) inputs b))
+    ]) c.run_image.ensures.broken

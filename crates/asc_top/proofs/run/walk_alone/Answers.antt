@@ -32,8 +32,8 @@ returns-in-Ok g c = λ files opened.
     } in
     ran_serial line files _ _ opened _ _ _ _ _ c.run_with-in-Ok.result c.run_with-in-Ok.ensures fresh c.requires.none (sym c.keeps_entries.ensures ∙ c.if-not-keeps_entries.false) (ap told_machine helper_is)
 
-pub returns : goal.returns
-returns g c = λ files opened.
+pub returns-in-Err : goal.returns-in-Err
+returns-in-Err g c = λ files opened.
     let guest = outside (g.I.Source.left c.args.input.now) (g.O.Sink.given c.args.out.now) (g.E.Sink.given c.args.err.now) c.args.steps.now
     (faults (g.I.Source.faults c.args.input.now) (g.O.Sink.faults c.args.out.now) (g.E.Sink.faults c.args.err.now)) in
     subst (λ (o : Outcome). Ran guest guest c.args.line.now files o) (sym c.of.ensures)
