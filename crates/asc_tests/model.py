@@ -286,7 +286,7 @@ class Head:
 
 
 class Seek:
-    PLACES = 4096
+    SLOTS = 4096
 
     def __init__(self, line):
         self.least, self.ahead = line['min'], line['ahead']
@@ -300,9 +300,9 @@ class Seek:
     def note(self, count, before, now):
         """The step to a count led from an address to another, while heads are noted."""
         if self.phase == 'profile' and now < before:
-            head = self.table.get(now // 4 % self.PLACES)
+            head = self.table.get(now // 4 % self.SLOTS)
             if head is None:
-                self.table[now // 4 % self.PLACES] = Head(now, count)
+                self.table[now // 4 % self.SLOTS] = Head(now, count)
             elif head.address == now:
                 head.times, head.last = head.times + 1, count
 

@@ -1,3 +1,4 @@
+//! Marked pages and their copies.
 ghost use Rattle.std.specs.Prelude.{◌+◌, ◌*◌, ◌^◌, ◌<◌, ◌≤◌, length};
 
 use asc_outside::Memory;

@@ -1,3 +1,4 @@
+//! Shapes, states, snapshots and guesses.
 ghost use Rattle.std.specs.Prelude.{◌≡◌, ◌+◌, ◌≤◌, IsTrue, slice_set};
 ghost use Rattle.asc_model.specs.Shape.{length_of, holds};
 ghost use Rattle.asc_shape.specs.Face.{room_of};

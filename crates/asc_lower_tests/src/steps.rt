@@ -1,3 +1,4 @@
+//! Steps of a state.
 ghost use Rattle.std.specs.Prelude.{◌≡◌, ◌<◌};
 
 use asc_shape::{Shape, State, Steps};

@@ -1,3 +1,4 @@
+//! Tracers.
 ghost use Rattle.std.specs.Prelude.{◌≡◌};
 ghost use Rattle.asc_model.specs.Shape.{length_of};
 

@@ -251,7 +251,7 @@ seek_along path from (suc n) m =
     let count = from + suc n in
     advanced count (profiled path count before before.phase)
 
--- ---- when a search may learn
+-- ---- at which counts a search may go on
 
 -- a count is not before a phase began, nor before what was jumped over in it
 abbrev pub IsBehindIn : (count : ℕ) → Seek → Phase → Type 0

@@ -82,6 +82,7 @@ impl Searched {
 
     // The address at which the run is visited is this, and the phase is over at this count.
     fn expect<R: Abort>(&self, rt: &R, watched: Option<u32>, end: u64) {
+        self.seeker.begins_late();
         assert_eq!(rt; self.seeker.watched(), watched);
         assert_eq!(rt; self.seeker.end(), end);
     }

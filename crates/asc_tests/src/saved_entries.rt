@@ -262,7 +262,7 @@ fn run_saved<R: Abort + Threads + Wait + Sync + Copy + Drop + Send>(
     run_gated(rt, alloc, line, files, devices, &Open)
 }
 
-/// The same, with its answer, how often the store must be asked, and the report.
+/// Runs such a line, and compares its answer, how often the store was asked, and the report with what must come.
 fn check_saved<R: Abort + Threads + Wait + Sync + Copy + Drop + Send>(
     rt: &R,
     alloc: Global,

@@ -1,3 +1,4 @@
+//! Shards that threads share.
 ghost use Rattle.std.specs.Prelude.{◌≡◌, ◌≤◌, IfOk};
 ghost use Rattle.asc_cache.specs.Cache.{ShardWriter as writer_model, AreLater, IsOwnReader};
 

@@ -1,3 +1,4 @@
+//! Lanes, which run the jobs of a visit beside one another.
 ghost use Rattle.std.specs.Prelude.{◌≡◌};
 
 use crate::work::counting;

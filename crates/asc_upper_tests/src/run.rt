@@ -1,3 +1,4 @@
+//! Walks.
 ghost use Rattle.std.specs.Prelude.{◌≡◌, ◌<◌, ◌^◌};
 ghost use Rattle.asc_run.specs.Helped.{aid, HasRoom};
 ghost use Rattle.asc_run.specs.Visits.{HasBounds};

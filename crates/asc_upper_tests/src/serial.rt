@@ -1,3 +1,4 @@
+//! Walks whose helper follows its guesses itself.
 ghost use Rattle.std.specs.Prelude.{◌≡◌, ◌≤◌, ◌<◌, ◌^◌, IsNone};
 ghost use Rattle.asc_run.specs.Helped.{aid, HasRoom};
 ghost use Rattle.asc_run.specs.SerialHelper.{plan_of, told_machine};

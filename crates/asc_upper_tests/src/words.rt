@@ -1,3 +1,4 @@
+//! Command lines, answers and texts.
 use asc_elf::ElfFault;
 use asc_model::SaveFault;
 use asc_shape::Version;

@@ -1,3 +1,4 @@
+//! Workers and their teams.
 ghost use Rattle.std.specs.Prelude.{◌≡◌, Some, None, All, length};
 ghost use Rattle.asc_jobs.specs.Tally.{no_jobs};
 
