@@ -1,5 +1,5 @@
 -- A run that seeks the address at which it is visited.
-use Rattle.std.specs.Prelude.{ℕ, zero, suc, ◌+◌, ◌-◌, ◌*◌, ◌/◌, ◌^◌, ◌≤◌, max, Bool, true, nat_lt, nat_le, ◌==◌, ◌&&◌, List, [], ◌∷◌, filter, fold, Option, Some, None, if◌then◌else◌}
+use Rattle.std.specs.Prelude.{ℕ, zero, suc, ◌+◌, ◌-◌, ◌*◌, ◌/◌, ◌^◌, ◌≤◌, max, Bool, true, false, nat_lt, nat_le, ◌==◌, ◌&&◌, List, [], ◌∷◌, filter, fold, Option, Some, None, if◌then◌else◌}
 use Rattle.std.specs.List.{flat_map}
 use Rattle.asc_seek.specs.declared.heads.Head.{Head}
 use Rattle.asc_seek.specs.declared.seeker.Seeking.{Seeking}
@@ -45,6 +45,10 @@ rest_ratio = 8
 -- how long a trial is scored: twelve laps, and a quarter of the stretch at least
 abbrev pub scored_steps : (lap stretch : ℕ) → ℕ
 scored_steps lap stretch = max (12 * lap) (stretch / 4)
+
+-- how long a head is tried that is not met
+abbrev pub unmet_steps : (lap stretch : ℕ) → ℕ
+unmet_steps lap stretch = max (4 * lap) (stretch / 4)
 
 -- how long it is tried where no step is jumped over
 abbrev pub hopeless_steps : (lap stretch : ℕ) → ℕ
@@ -101,10 +105,17 @@ steps_of (Some n) = n
 abbrev pub given_at : (reached at : ℕ) → (reply : Option ℕ) → ℕ
 given_at reached at reply = at + steps_of reply - max at reached
 
+-- a trial at a visit: its first one begins it
+abbrev pub met_at : (at : ℕ) → Trial → Trial
+met_at at t = if t.met then t else record { head = t.head; met = true; from = at; given = 0 }
+
+-- a trial that has begun, behind a visit
+abbrev pub tried_at : Seeking → (at : ℕ) → (reply : Option ℕ) → Trial → Trial
+tried_at s at reply t = record t { given = t.given + given_at (reached_from s t.from (lap_of t.head)) at reply }
+
 abbrev pub visit_in : Seeking → (at : ℕ) → (reply : Option ℕ) → Phase → Phase
 visit_in s at reply phase.Profile = phase.Profile
-visit_in s at reply (phase.Trial t) =
-    phase.Trial (record t { given = t.given + given_at (reached_from s t.from (lap_of t.head)) at reply })
+visit_in s at reply (phase.Trial t) = phase.Trial (tried_at s at reply (met_at at t))
 visit_in s at reply (phase.Service v) =
     phase.Service (record v { given = v.given + given_at (reached_from s v.from v.lap) at reply })
 visit_in s at reply (phase.Rest until) = phase.Rest until
@@ -152,7 +163,7 @@ next_candidate count tried m =
 
 -- a head is tried from a count on
 abbrev pub trying : (count : ℕ) → Head → Seek → Seek
-trying count h m = record m { phase = phase.Trial (record { head = h; from = count; given = 0 }) }
+trying count h m = record m { phase = phase.Trial (record { head = h; met = false; from = count; given = 0 }) }
 
 -- a search ended at a count, and all searches took so many steps: the best address is kept from there on, or there is a rest
 abbrev pub serving : Seeking → (count : ℕ) → Option Scored → (spent : ℕ) → Phase
@@ -181,8 +192,9 @@ try_next count tried m = elim (next_candidate count tried m) [
 
 -- at which count a trial is over
 abbrev pub trial_end : Seeking → (stretch : ℕ) → Trial → ℕ
-trial_end s stretch t = let lap = lap_of t.head in reached_from s t.from lap
-    + (if t.given == 0 then hopeless_steps lap stretch else scored_steps lap stretch)
+trial_end s stretch t = let lap = lap_of t.head in if t.met
+    then reached_from s t.from lap + (if t.given == 0 then hopeless_steps lap stretch else scored_steps lap stretch)
+    else t.from + unmet_steps lap stretch
 
 -- at which count a phase is over
 abbrev pub end_in : Seek → Phase → ℕ
@@ -194,10 +206,10 @@ end_in m (phase.Rest until) = until
 abbrev pub is_over : (count : ℕ) → Seek → Bool
 is_over count m = nat_le (end_in m m.phase) count
 
--- How many of a thousand steps a trial that ends at a count jumped over, from where each visit can have been guessed. It
--- ends behind there.
+-- How many of a thousand steps a trial that ends at a count jumped over, from where each visit can have been guessed. Where
+-- its head was met, it ends behind there.
 abbrev pub score_at : Seeking → (count : ℕ) → Trial → ℕ
-score_at s count t = 1000 * t.given / (count - reached_from s t.from (lap_of t.head))
+score_at s count t = if t.met then 1000 * t.given / (count - reached_from s t.from (lap_of t.head)) else 0
 
 -- whether a score is good enough to be kept, and better than the best so far
 abbrev pub is_best_yet : (score : ℕ) → (best : Option Scored) → Bool

@@ -2,7 +2,7 @@
 ghost use Rattle.std.specs.Prelude.{◌≡◌, ◌+◌, ◌*◌, ◌<◌, ◌≤◌, ◌^◌, max, ℕ, None, Some, true, false, IfOk};
 ghost use Rattle.asc_seek.specs.Heads.{AreEarlier, no_heads, note};
 ghost use Rattle.asc_seek.specs.Inside.{HasLaps, HasShortLap, MayFollow, first_candidate};
-ghost use Rattle.asc_seek.specs.Seek.{IsBehind, IsSeeking, candidate_behind, end_in, first_stretch, given_at, hopeless_steps, is_best_yet, is_candidate, is_over, looked_steps, new_seek, next_candidate, pays, reached_from, rest_ratio, score_at, scored_steps, advanced, seek_visit, serving, settled, steps_of, trial_end, advanced_from, try_next, watched_in};
+ghost use Rattle.asc_seek.specs.Seek.{IsBehind, IsSeeking, candidate_behind, end_in, first_stretch, given_at, hopeless_steps, is_best_yet, is_candidate, is_over, looked_steps, met_at, new_seek, next_candidate, pays, reached_from, rest_ratio, score_at, scored_steps, advanced, seek_visit, serving, settled, steps_of, trial_end, tried_at, unmet_steps, advanced_from, try_next, watched_in};
 
 use crate::heads::{Head, clear, no_heads, note};
 use std::alloc::{AllocError, Global};
@@ -65,7 +65,9 @@ pub struct Scored {
 pub struct Trial {
     /// The head.
     pub head: Head,
-    /// Since which count of steps.
+    /// Whether it was visited yet.
+    pub met: bool,
+    /// Since which count of steps: that of its first visit, once it was met.
     pub from: u64,
     /// How many steps were jumped over from where each visit can have been guessed.
     pub given: u64,
@@ -229,10 +231,7 @@ impl Seeker {
         let seeking = self.seeking;
         match &mut self.phase {
             Phase::Profile | Phase::Rest { .. } => {}
-            Phase::Trial(trial) => {
-                let reached = seeking.reached_from(trial.from, trial.head.lap());
-                trial.given += given_at(reached, at, reply);
-            }
+            Phase::Trial(trial) => trial.visit(seeking, at, reply),
             Phase::Service(service) => {
                 let reached = seeking.reached_from(service.from, service.lap);
                 service.given += given_at(reached, at, reply);
@@ -281,6 +280,9 @@ impl Seeker {
         requires over { is_over count self.now ≡ true }
         ensures { result ≡ score_at self.now.seeking count trial.now }
     {
+        if !trial.met {
+            return 0;
+        }
         let reached = self.seeking.reached_from(trial.from, trial.head.lap());
         1000 * trial.given / (count - reached)
     }
@@ -363,6 +365,7 @@ impl Seeker {
             Some(head) => {
                 self.phase = Phase::Trial(Trial {
                     head,
+                    met: false,
                     from: count,
                     given: 0,
                 });
@@ -467,6 +470,39 @@ impl Seeker {
 }
 
 impl Trial {
+    // Learns of a visit at a count.
+    fn visit(&mut self, seeking: Seeking, at: u64, reply: Option<u64>)
+        requires ahead { seeking.ahead ≤ 64 }
+        requires times { 2 ≤ self.old.head.times }
+        requires last { self.old.head.last ≤ 2 ^ 41 }
+        requires behind { self.old.from + self.old.given ≤ at }
+        requires most { at + steps_of reply ≤ 2 ^ 41 }
+        ensures trial { self.new ≡ tried_at seeking at reply (met_at at self.old) }
+        ensures behind { self.new.from + self.new.given ≤ at + steps_of reply }
+        ensures later { self.old.from ≤ self.new.from }
+    {
+        self.meet(at);
+        let reached = seeking.reached_from(self.from, self.head.lap());
+        self.given += given_at(reached, at, reply);
+    }
+
+    // Its first visit begins it.
+    fn meet(&mut self, at: u64)
+        requires behind { self.old.from + self.old.given ≤ at }
+        ensures met { self.new ≡ met_at at self.old }
+        ensures behind { self.new.from + self.new.given ≤ at }
+        ensures later { self.old.from ≤ self.new.from }
+    {
+        if !self.met {
+            *self = Trial {
+                head: self.head,
+                met: true,
+                from: at,
+                given: 0,
+            };
+        }
+    }
+
     // At which count it is over.
     fn end(&self, seeking: Seeking, stretch: u64) -> u64
         requires ahead { seeking.ahead ≤ 64 }
@@ -477,6 +513,9 @@ impl Trial {
         ensures { result ≡ trial_end seeking stretch self.now }
     {
         let lap = self.head.lap();
+        if !self.met {
+            return self.from + unmet_steps(lap, stretch);
+        }
         let more = if self.given == 0 {
             hopeless_steps(lap, stretch)
         } else {
@@ -492,6 +531,14 @@ fn scored_steps(lap: u64, stretch: u64) -> u64
     ensures { result ≡ scored_steps lap stretch }
 {
     (12 * lap).max(stretch / 4)
+}
+
+// How long a head is tried that is not met.
+fn unmet_steps(lap: u64, stretch: u64) -> u64
+    requires lap { lap ≤ 2 ^ 41 }
+    ensures { result ≡ unmet_steps lap stretch }
+{
+    (4 * lap).max(stretch / 4)
 }
 
 // How long a head is tried where no step is jumped over.

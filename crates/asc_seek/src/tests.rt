@@ -129,12 +129,12 @@ fn heads(rt: HostRuntime) {
     searched.note(&rt, &met);
     searched.expect(&rt, None, 65_536);
     let rows = [
-        (65_536, Some(0x1000), 69_652),
-        (69_652, Some(0x300C), 73_778),
-        (73_778, Some(0x2004), 77_914),
-        (77_914, Some(0x6000), 82_050),
-        (82_050, None, 656_400),
-        (656_400, None, 787_472),
+        (65_536, Some(0x1000), 81_920),
+        (81_920, Some(0x300C), 98_304),
+        (98_304, Some(0x2004), 114_688),
+        (114_688, Some(0x6000), 131_072),
+        (131_072, None, 1_048_576),
+        (1_048_576, None, 1_179_648),
     ];
     searched.follow(&rt, &rows);
     assert!(rt; searched.seeker.is_noting());
@@ -151,7 +151,8 @@ fn twice<R: Abort>(rt: &R, alloc: Global) -> Searched {
 }
 
 // A stretch with three heads. What the third head jumps over at its first two visits does not count, since a later one can't
-// have been guessed yet. It jumps over 183 of a thousand steps, the second head over 488, and the first over 427.
+// have been guessed yet. It jumps over 183 of a thousand steps. The second head is met 1000 steps later than it is tried, and
+// the first one 2000, which count for nothing: they jump over 488 and 427.
 fn try_three<R: Abort>(rt: &R, searched: &mut Searched) {
     let met = [
         (FIRST, 1_000),
@@ -162,7 +163,7 @@ fn try_three<R: Abort>(rt: &R, searched: &mut Searched) {
         (FIRST, 2_000),
     ];
     searched.note(rt, &met);
-    searched.follow(rt, &[(65_536, Some(THIRD), 69_832)]);
+    searched.follow(rt, &[(65_536, Some(THIRD), 81_920)]);
     searched.visit(rt, Some(100));
     searched.visit(rt, Some(99));
     searched.expect(rt, Some(THIRD), 69_832);
@@ -170,19 +171,20 @@ fn try_three<R: Abort>(rt: &R, searched: &mut Searched) {
     searched.visit(rt, Some(3_000));
     searched.expect(rt, Some(THIRD), 82_120);
     let rows = [
-        (82_120, Some(SECOND), 87_216),
-        (83_120, Some(SECOND), 87_216),
+        (82_120, Some(SECOND), 98_504),
+        (83_120, Some(SECOND), 98_504),
     ];
     searched.follow(rt, &rows);
-    searched.visit(rt, Some(8_000));
-    searched.expect(rt, Some(SECOND), 99_504);
+    searched.visit(rt, Some(9_000));
+    searched.expect(rt, Some(SECOND), 100_504);
     let rows = [
-        (99_504, Some(FIRST), 105_600),
-        (101_504, Some(FIRST), 105_600),
+        (100_504, Some(FIRST), 116_888),
+        (102_504, Some(FIRST), 116_888),
     ];
     searched.follow(rt, &rows);
-    searched.visit(rt, Some(7_000));
-    searched.follow(rt, &[(117_888, Some(SECOND), 943_104)]);
+    searched.visit(rt, Some(9_000));
+    searched.expect(rt, Some(FIRST), 120_888);
+    searched.follow(rt, &[(120_888, Some(SECOND), 967_104)]);
 }
 
 // Of the steps that guesses can have reached 700,000 are jumped over, which is three quarters of 933,333.
@@ -191,9 +193,9 @@ fn give_up<R: Abort>(rt: &R, searched: &mut Searched) {
     searched.visit(rt, None);
     searched.visit(rt, Some(700_000));
     let rows = [
-        (943_104, Some(SECOND), 1_008_640),
-        (1_008_640, Some(SECOND), 1_074_176),
-        (1_074_176, None, 1_205_248),
+        (967_104, Some(SECOND), 1_032_640),
+        (1_032_640, Some(SECOND), 1_098_176),
+        (1_098_176, None, 1_229_248),
     ];
     searched.follow(rt, &rows);
 }
@@ -201,20 +203,20 @@ fn give_up<R: Abort>(rt: &R, searched: &mut Searched) {
 // The first head that is tried jumps over 915 of a thousand.
 fn keep_a_sure_one<R: Abort>(rt: &R, searched: &mut Searched) {
     let met = [
-        (FIRST, 1_074_200),
-        (SECOND, 1_074_201),
-        (SECOND, 1_074_701),
-        (FIRST, 1_075_200),
+        (FIRST, 1_098_200),
+        (SECOND, 1_098_201),
+        (SECOND, 1_098_701),
+        (FIRST, 1_099_200),
     ];
     searched.note(rt, &met);
     let rows = [
-        (1_205_248, Some(SECOND), 1_214_440),
-        (1_206_248, Some(SECOND), 1_214_440),
+        (1_229_248, Some(SECOND), 1_262_016),
+        (1_230_248, Some(SECOND), 1_262_016),
     ];
     searched.follow(rt, &rows);
-    searched.visit(rt, Some(30_000));
-    searched.expect(rt, Some(SECOND), 1_239_016);
-    searched.follow(rt, &[(1_239_016, Some(SECOND), 2_261_824)]);
+    searched.visit(rt, Some(31_000));
+    searched.expect(rt, Some(SECOND), 1_264_016);
+    searched.follow(rt, &[(1_264_016, Some(SECOND), 2_293_824)]);
 }
 
 #[test]
@@ -225,8 +227,8 @@ fn phases(rt: HostRuntime) {
     keep_a_sure_one(&rt, &mut searched);
 }
 
-// Once a search began anew, one head jumps over nothing. Then of three heads with long laps the third is not tried: the
-// trials of the others took more than eight stretches.
+// Once a search began anew, one head is met and jumps over nothing, and one is not met. Then of three heads with long laps
+// the third is not tried: the trials of the others took more than eight stretches.
 #[test]
 fn none_is_kept(rt: HostRuntime) {
     let mut searched = twice(&rt, rt.alloc());
@@ -234,8 +236,16 @@ fn none_is_kept(rt: HostRuntime) {
     searched.go(&rt, 65_536);
     searched.begin();
     searched.expect(&rt, None, 65_536);
-    searched.note(&rt, &[(FIRST, 1_000), (FIRST, 2_000)]);
-    let rows = [(65_536, Some(FIRST), 71_632), (71_632, None, 573_056)];
+    let met = [
+        (FIRST, 1_000),
+        (FIRST, 2_000),
+        (SECOND, 2_001),
+        (SECOND, 7_001),
+    ];
+    searched.note(&rt, &met);
+    searched.follow(&rt, &[(65_536, Some(FIRST), 81_920)]);
+    searched.visit(&rt, None);
+    let rows = [(71_632, Some(SECOND), 91_632), (91_632, None, 733_056)];
     searched.follow(&rt, &rows);
     searched.begin();
     let met = [
@@ -247,10 +257,9 @@ fn none_is_kept(rt: HostRuntime) {
         (THIRD, 61_004),
     ];
     searched.note(&rt, &met);
-    let rows = [
-        (65_536, Some(FIRST), 425_536),
-        (425_536, Some(SECOND), 785_542),
-        (785_542, None, 6_284_336),
-    ];
-    searched.follow(&rt, &rows);
+    searched.follow(&rt, &[(65_536, Some(FIRST), 305_536)]);
+    searched.visit(&rt, None);
+    searched.follow(&rt, &[(425_536, Some(SECOND), 665_540)]);
+    searched.visit(&rt, None);
+    searched.follow(&rt, &[(785_542, None, 6_284_336)]);
 }

@@ -109,7 +109,7 @@ const SHARES: &[u32] = &[
     0x0016_8693, // ADDI x13,x13,1
     0x0016_0613, // ADDI x12,x12,1
     0xFE66_9CE3, // BNE x13,x6,-8
-    0x0006_0337, // LUI x6,0x60
+    0x0008_0337, // LUI x6,0x80
     0x0244_00E7, // JALR x1,x8,36
     0x05D0_0893, // ADDI x17,x0,93
     0x0000_0513, // ADDI x10,x0,0
@@ -318,7 +318,7 @@ static SOUGHT: [(&str, &[u32], Answer, &str); 32] = [
         "asc run image --seek --report",
         UNEVEN,
         EXITS,
-        "asc: executed 395932 skipped 472427 asked 199166 hits 136756 made 199168 refused 0\n",
+        "asc: executed 395976 skipped 472383 asked 199155 hits 136743 made 199157 refused 0\n",
     ),
     // The head is met 32767 times in the stretch.
     (
@@ -361,15 +361,15 @@ static SOUGHT: [(&str, &[u32], Answer, &str); 32] = [
         EXITS,
         "asc: executed 68451 skipped 172755 asked 87396 hits 85939 made 87398 refused 0\n",
     ),
-    // Of heads that share a place the first one is noted alone. So the second loop is found by the next search, from 557176
-    // on.
+    // Of heads that share a place the first one is noted alone. It is not met any more, and tried up to 81920. So the second
+    // loop is found by the next search, from 655360 on.
     (
         "asc run image --seek --report",
         SHARES,
         EXITS,
-        "asc: executed 688254 skipped 110481 asked 55241 hits 55239 made 55243 refused 0\n",
+        "asc: executed 786438 skipped 274441 asked 137221 hits 137219 made 137223 refused 0\n",
     ),
-    // The trials end at 69647, 339719 and 609791, which is behind 589824: the head at 0x10030 is not tried.
+    // The trials end at 69647, 360101 and 660179, which is behind 589824: the head at 0x10030 is not tried.
     (
         "asc run image --seek --report --min 2 --steps 800000",
         TIED,
