@@ -307,8 +307,8 @@ class Seek:
                 head.times, head.last = head.times + 1, count
 
     def visited(self, at, reply):
-        if self.phase == 'trial' and not self.met:
-            self.met, self.start = True, at
+        if self.phase == 'trial' and not self.begun:
+            self.begun, self.start = True, at
         self.given += max(0, at + (reply or 0) - max(at, self.reached()))
 
     def reached(self):
@@ -319,7 +319,7 @@ class Seek:
             return self.since + self.stretch
         if self.phase == 'trial':
             lap = self.lap_now
-            if not self.met:
+            if not self.begun:
                 return self.start + max(4 * lap, self.stretch // 4)
             scored = max(12 * lap, self.stretch // 4) if self.given else max(4 * lap, self.stretch // 16)
             return self.reached() + scored
@@ -332,7 +332,7 @@ class Seek:
             self.best = None
             self.try_next(count, None)
         elif self.phase == 'trial':
-            score = 1000 * self.given // (count - self.reached()) if self.met else 0
+            score = 1000 * self.given // (count - self.reached()) if self.begun else 0
             if score > (self.best[2] if self.best else 249):
                 self.best = (self.address, self.lap_now, score)
             self.log.append((count, 'tried', hex(self.address), self.lap_now, score))
@@ -352,7 +352,7 @@ class Seek:
         heads = [h for h in self.table.values() if h.times >= self.least and h.lap() >= self.lap]
         heads = sorted((h for h in heads if tried is None or order(tried) < order(h)), key=order)
         if heads and count < self.since + 9 * self.stretch:
-            self.phase, self.head, self.met, self.start, self.given = 'trial', heads[0], False, count, 0
+            self.phase, self.head, self.begun, self.start, self.given = 'trial', heads[0], False, count, 0
             self.address, self.lap_now = heads[0].address, heads[0].lap()
             self.log.append((count, 'tries', hex(self.address), self.lap_now))
         else:

@@ -27,7 +27,7 @@ first_stretch = 65536
 abbrev pub least_kept : ℕ
 least_kept = 65536
 
--- no further head is tried once the trials of a search took so many stretches
+-- no further head is tried once so many stretches have passed behind that of the search
 abbrev pub tried_stretches : ℕ
 tried_stretches = 8
 
@@ -42,15 +42,15 @@ sure_score = 900
 abbrev pub rest_ratio : ℕ
 rest_ratio = 8
 
+-- how long the first visit of a head is waited for: four laps, and a quarter of the stretch at least
+abbrev pub waited_steps : (lap stretch : ℕ) → ℕ
+waited_steps lap stretch = max (4 * lap) (stretch / 4)
+
 -- how long a trial is scored: twelve laps, and a quarter of the stretch at least
 abbrev pub scored_steps : (lap stretch : ℕ) → ℕ
 scored_steps lap stretch = max (12 * lap) (stretch / 4)
 
--- how long a head is tried that is not met
-abbrev pub unmet_steps : (lap stretch : ℕ) → ℕ
-unmet_steps lap stretch = max (4 * lap) (stretch / 4)
-
--- how long it is tried where no step is jumped over
+-- how long it is scored where no step is jumped over
 abbrev pub hopeless_steps : (lap stretch : ℕ) → ℕ
 hopeless_steps lap stretch = max (4 * lap) (stretch / 16)
 
@@ -106,8 +106,8 @@ abbrev pub given_at : (reached at : ℕ) → (reply : Option ℕ) → ℕ
 given_at reached at reply = at + steps_of reply - max at reached
 
 -- a trial at a visit: its first one begins it
-abbrev pub met_at : (at : ℕ) → Trial → Trial
-met_at at t = if t.met then t else record { head = t.head; met = true; from = at; given = 0 }
+abbrev pub begun_at : (at : ℕ) → Trial → Trial
+begun_at at t = if t.begun then t else record { head = t.head; begun = true; from = at; given = 0 }
 
 -- a trial that has begun, behind a visit
 abbrev pub tried_at : Seeking → (at : ℕ) → (reply : Option ℕ) → Trial → Trial
@@ -115,7 +115,7 @@ tried_at s at reply t = record t { given = t.given + given_at (reached_from s t.
 
 abbrev pub visit_in : Seeking → (at : ℕ) → (reply : Option ℕ) → Phase → Phase
 visit_in s at reply phase.Profile = phase.Profile
-visit_in s at reply (phase.Trial t) = phase.Trial (tried_at s at reply (met_at at t))
+visit_in s at reply (phase.Trial t) = phase.Trial (tried_at s at reply (begun_at at t))
 visit_in s at reply (phase.Service v) =
     phase.Service (record v { given = v.given + given_at (reached_from s v.from v.lap) at reply })
 visit_in s at reply (phase.Rest until) = phase.Rest until
@@ -163,7 +163,7 @@ next_candidate count tried m =
 
 -- a head is tried from a count on
 abbrev pub trying : (count : ℕ) → Head → Seek → Seek
-trying count h m = record m { phase = phase.Trial (record { head = h; met = false; from = count; given = 0 }) }
+trying count h m = record m { phase = phase.Trial (record { head = h; begun = false; from = count; given = 0 }) }
 
 -- a search ended at a count, and all searches took so many steps: the best address is kept from there on, or there is a rest
 abbrev pub serving : Seeking → (count : ℕ) → Option Scored → (spent : ℕ) → Phase
@@ -192,9 +192,9 @@ try_next count tried m = elim (next_candidate count tried m) [
 
 -- at which count a trial is over
 abbrev pub trial_end : Seeking → (stretch : ℕ) → Trial → ℕ
-trial_end s stretch t = let lap = lap_of t.head in if t.met
+trial_end s stretch t = let lap = lap_of t.head in if t.begun
     then reached_from s t.from lap + (if t.given == 0 then hopeless_steps lap stretch else scored_steps lap stretch)
-    else t.from + unmet_steps lap stretch
+    else t.from + waited_steps lap stretch
 
 -- at which count a phase is over
 abbrev pub end_in : Seek → Phase → ℕ
@@ -206,10 +206,10 @@ end_in m (phase.Rest until) = until
 abbrev pub is_over : (count : ℕ) → Seek → Bool
 is_over count m = nat_le (end_in m m.phase) count
 
--- How many of a thousand steps a trial that ends at a count jumped over, from where each visit can have been guessed. Where
--- its head was met, it ends behind there.
+-- How many of a thousand steps a trial that ends at a count jumped over, from where each visit can have been guessed: none
+-- where it has not begun. Else it ends behind there.
 abbrev pub score_at : Seeking → (count : ℕ) → Trial → ℕ
-score_at s count t = if t.met then 1000 * t.given / (count - reached_from s t.from (lap_of t.head)) else 0
+score_at s count t = if t.begun then 1000 * t.given / (count - reached_from s t.from (lap_of t.head)) else 0
 
 -- whether a score is good enough to be kept, and better than the best so far
 abbrev pub is_best_yet : (score : ℕ) → (best : Option Scored) → Bool

@@ -2,7 +2,7 @@
 ghost use Rattle.std.specs.Prelude.{◌≡◌, ◌+◌, ◌*◌, ◌<◌, ◌≤◌, ◌^◌, max, ℕ, None, Some, true, false, IfOk};
 ghost use Rattle.asc_seek.specs.Heads.{AreEarlier, no_heads, note};
 ghost use Rattle.asc_seek.specs.Inside.{HasLaps, HasShortLap, MayFollow, first_candidate};
-ghost use Rattle.asc_seek.specs.Seek.{IsBehind, IsSeeking, candidate_behind, end_in, first_stretch, given_at, hopeless_steps, is_best_yet, is_candidate, is_over, looked_steps, met_at, new_seek, next_candidate, pays, reached_from, rest_ratio, score_at, scored_steps, advanced, seek_visit, serving, settled, steps_of, trial_end, tried_at, unmet_steps, advanced_from, try_next, watched_in};
+ghost use Rattle.asc_seek.specs.Seek.{IsBehind, IsSeeking, candidate_behind, end_in, first_stretch, given_at, hopeless_steps, is_best_yet, is_candidate, begun_at, is_over, looked_steps, new_seek, next_candidate, pays, reached_from, rest_ratio, score_at, scored_steps, advanced, seek_visit, serving, settled, steps_of, trial_end, tried_at, waited_steps, advanced_from, try_next, watched_in};
 
 use crate::heads::{Head, clear, no_heads, note};
 use std::alloc::{AllocError, Global};
@@ -14,7 +14,7 @@ const FIRST_STRETCH: u64 = 65_536;
 /// The least steps that an address is kept, or that a rest lasts.
 const LEAST_KEPT: u64 = 65_536;
 
-/// No further head is tried once the trials of a search took so many stretches.
+/// No further head is tried once so many stretches have passed behind that of the search.
 const TRIED_STRETCHES: u64 = 8;
 
 /// Of a thousand steps, how many have to be jumped over for an address to be kept.
@@ -65,9 +65,9 @@ pub struct Scored {
 pub struct Trial {
     /// The head.
     pub head: Head,
-    /// Whether it was visited yet.
-    pub met: bool,
-    /// Since which count of steps: that of its first visit, once it was met.
+    /// Whether it has begun: its first visit begins it.
+    pub begun: bool,
+    /// At which count of steps it began, or since which it waits for its first visit.
     pub from: u64,
     /// How many steps were jumped over from where each visit can have been guessed.
     pub given: u64,
@@ -280,7 +280,7 @@ impl Seeker {
         requires over { is_over count self.now ≡ true }
         ensures { result ≡ score_at self.now.seeking count trial.now }
     {
-        if !trial.met {
+        if !trial.begun {
             return 0;
         }
         let reached = self.seeking.reached_from(trial.from, trial.head.lap());
@@ -365,7 +365,7 @@ impl Seeker {
             Some(head) => {
                 self.phase = Phase::Trial(Trial {
                     head,
-                    met: false,
+                    begun: false,
                     from: count,
                     given: 0,
                 });
@@ -477,26 +477,26 @@ impl Trial {
         requires last { self.old.head.last ≤ 2 ^ 41 }
         requires behind { self.old.from + self.old.given ≤ at }
         requires most { at + steps_of reply ≤ 2 ^ 41 }
-        ensures trial { self.new ≡ tried_at seeking at reply (met_at at self.old) }
+        ensures trial { self.new ≡ tried_at seeking at reply (begun_at at self.old) }
         ensures behind { self.new.from + self.new.given ≤ at + steps_of reply }
         ensures later { self.old.from ≤ self.new.from }
     {
-        self.meet(at);
+        self.begin(at);
         let reached = seeking.reached_from(self.from, self.head.lap());
         self.given += given_at(reached, at, reply);
     }
 
     // Its first visit begins it.
-    fn meet(&mut self, at: u64)
+    fn begin(&mut self, at: u64)
         requires behind { self.old.from + self.old.given ≤ at }
-        ensures met { self.new ≡ met_at at self.old }
+        ensures begun { self.new ≡ begun_at at self.old }
         ensures behind { self.new.from + self.new.given ≤ at }
         ensures later { self.old.from ≤ self.new.from }
     {
-        if !self.met {
+        if !self.begun {
             *self = Trial {
                 head: self.head,
-                met: true,
+                begun: true,
                 from: at,
                 given: 0,
             };
@@ -513,8 +513,8 @@ impl Trial {
         ensures { result ≡ trial_end seeking stretch self.now }
     {
         let lap = self.head.lap();
-        if !self.met {
-            return self.from + unmet_steps(lap, stretch);
+        if !self.begun {
+            return self.from + waited_steps(lap, stretch);
         }
         let more = if self.given == 0 {
             hopeless_steps(lap, stretch)
@@ -525,6 +525,14 @@ impl Trial {
     }
 }
 
+// How long the first visit of a head is waited for.
+fn waited_steps(lap: u64, stretch: u64) -> u64
+    requires lap { lap ≤ 2 ^ 41 }
+    ensures { result ≡ waited_steps lap stretch }
+{
+    (4 * lap).max(stretch / 4)
+}
+
 // How long a trial is scored.
 fn scored_steps(lap: u64, stretch: u64) -> u64
     requires lap { lap ≤ 2 ^ 41 }
@@ -533,15 +541,7 @@ fn scored_steps(lap: u64, stretch: u64) -> u64
     (12 * lap).max(stretch / 4)
 }
 
-// How long a head is tried that is not met.
-fn unmet_steps(lap: u64, stretch: u64) -> u64
-    requires lap { lap ≤ 2 ^ 41 }
-    ensures { result ≡ unmet_steps lap stretch }
-{
-    (4 * lap).max(stretch / 4)
-}
-
-// How long a head is tried where no step is jumped over.
+// How long it is scored where no step is jumped over.
 fn hopeless_steps(lap: u64, stretch: u64) -> u64
     requires lap { lap ≤ 2 ^ 41 }
     ensures { result ≡ hopeless_steps lap stretch }

@@ -151,8 +151,8 @@ fn twice<R: Abort>(rt: &R, alloc: Global) -> Searched {
 }
 
 // A stretch with three heads. What the third head jumps over at its first two visits does not count, since a later one can't
-// have been guessed yet. It jumps over 183 of a thousand steps. The second head is met 1000 steps later than it is tried, and
-// the first one 2000, which count for nothing: they jump over 488 and 427.
+// have been guessed yet. It jumps over 183 of a thousand steps. The second head is visited 1000 steps after its turn came, and
+// the first one 2000. These count for nothing: of a thousand steps the heads jump over 488 and 427.
 fn try_three<R: Abort>(rt: &R, searched: &mut Searched) {
     let met = [
         (FIRST, 1_000),
@@ -227,8 +227,8 @@ fn phases(rt: HostRuntime) {
     keep_a_sure_one(&rt, &mut searched);
 }
 
-// Once a search began anew, one head is met and jumps over nothing, and one is not met. Then of three heads with long laps
-// the third is not tried: the trials of the others took more than eight stretches.
+// Once a search began anew, one head is visited and jumps over nothing, and one is not visited. Then of three heads with
+// long laps the third is not tried: the trials of the others took more than eight stretches.
 #[test]
 fn none_is_kept(rt: HostRuntime) {
     let mut searched = twice(&rt, rt.alloc());

@@ -361,8 +361,8 @@ static SOUGHT: [(&str, &[u32], Answer, &str); 32] = [
         EXITS,
         "asc: executed 68451 skipped 172755 asked 87396 hits 85939 made 87398 refused 0\n",
     ),
-    // Of heads that share a place the first one is noted alone. It is not met any more, and tried up to 81920. So the second
-    // loop is found by the next search, from 655360 on.
+    // Of heads that share a place the first one is noted alone. It is not visited any more, and waited for up to 81920. So the
+    // second loop is found by the next search, from 655360 on.
     (
         "asc run image --seek --report",
         SHARES,
