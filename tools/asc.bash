@@ -73,7 +73,8 @@ _asc() {
                     show-*) offered="$own --memory --steps --machine --laps --span" ;;
                     run-* | save-* | batch-*)
                         offered="$own --memory --steps --machine --guess --pc --profile --min --laps --span --ahead"
-                        offered+=" --queue --join --seek"
+                        offered+=" --queue --join"
+                        [ "$tool ${COMP_WORDS[1]}" = "asc_show seek" ] || offered+=" --seek"
                         [ "$command" != run ] || offered+=" --workers --rounds --load --report"
                         [ "$command" != batch ] || offered+=" --workers --report"
                         ;;

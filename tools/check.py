@@ -931,6 +931,7 @@ def check_completion(known):
             ("asc-show", [], "--show --data --miss --help", "--memory --steps --machine --laps --span".split()),
             ("asc-show", ["--miss"], "--guess", "--memory --steps --machine --laps --span".split()),
             ("asc_show", ["profile"], "--all", list(known)), ("asc_show", ["entry"], "", list(known)),
+            ("asc_show", ["seek"], "", [name for name in known if name != "--seek"]),
             ("asc-steps", [], "--asc --help", list(known)), ("asc-why", [], "--asc --show --help", [])):
         wanted = own.split() + (["--help"] if tool == "asc-pc" else []) + others
         what = " ".join([tool, *first])
