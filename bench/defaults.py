@@ -18,8 +18,7 @@ from pathlib import Path
 sys.dont_write_bytecode = True
 
 import harness
-from examples import numbers, text
-from harness import EXAMPLES
+from harness import EXAMPLES, numbers, text
 from workers import Differs, Run
 
 # Each program with its input and the options that it wants. Where the input is None it is the example's own.
