@@ -5,7 +5,7 @@
     python3 docs/definitions.py --check    says whether the list is what this script would write
 
 The crates are in the order of crates.txt, and the files of one in that of its specs/Lib.antt. Of a file are told the first
-sentence of its first comment, without a standard in brackets, and the first three names that contracts in the code cite,
+sentence of its first comment, without a standard in brackets, and the first two names that contracts in the code cite,
 without words of private contracts.
 """
 
@@ -23,7 +23,7 @@ DEFINITION = re.compile(r"^(?:(?:abbrev |unfoldable )?pub (?!mod |use )(?:record
 # A standard in brackets: the table of the document has it.
 STANDARD = re.compile(r" \([^()]*(?:manual|ABI|ASPLOS)[^()]*\)")
 PRIVATE = re.compile(r"[Ww]ords of private contracts")
-MOST_NAMES = 3
+MOST_NAMES = 2
 CITED = re.compile(r"ghost use Rattle\.(\w+)\.specs\.(\w+)(?:\.\{(.*?)\}| as (\w+));", re.DOTALL)
 
 
