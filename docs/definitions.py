@@ -5,8 +5,7 @@
     python3 docs/definitions.py --check    says whether the list is what this script would write
 
 The crates are in the order of crates.txt, and the files of one in that of its specs/Lib.antt. Of a file are told the first
-sentence of its first comment, without a standard in brackets, and the first two names that contracts in the code cite,
-without words of private contracts.
+sentence of its first comment, without a standard in brackets. Words of private contracts are left out.
 """
 
 import re
@@ -22,9 +21,6 @@ DEFINITION = re.compile(r"^(?:(?:abbrev |unfoldable )?pub (?!mod |use )(?:record
                         r"| +(?:abbrev |unfoldable )pub | +pub (?:record |data ))(\S+)", re.MULTILINE)
 # A standard in brackets: the table of the document has it.
 STANDARD = re.compile(r" \([^()]*(?:manual|ABI|ASPLOS)[^()]*\)")
-PRIVATE = re.compile(r"[Ww]ords of private contracts")
-MOST_NAMES = 2
-CITED = re.compile(r"ghost use Rattle\.(\w+)\.specs\.(\w+)(?:\.\{(.*?)\}| as (\w+));", re.DOTALL)
 
 
 def crates():
@@ -50,33 +46,19 @@ def head(text):
     return STANDARD.sub("", re.split(r"(?<=\.) (?=[A-Z])", " ".join(lines))[0])
 
 
-def cited():
-    """The names that the code cites of each file of definitions."""
-    found = {}
-    for source in sorted(ROOT.glob("crates/*/src/**/*.rt")):
-        text = source.read_text()
-        for crate, file, names, short in CITED.findall(text):
-            told = names.split(",") if names else re.findall(rf"\b{short}\.(\w+)", text)
-            found.setdefault((crate, file), set()).update(name.split(" as ")[0].strip() for name in told)
-    return found
-
-
-def row(path, names_cited):
+def row(path):
     """The line of one file, or nothing where it has no public definition."""
     text = path.read_text()
-    names = [name for name in DEFINITION.findall(PRIVATE.split(text)[0]) if name in names_cited]
     if not DEFINITION.search(text) or "private contracts" in head(text):
         return ""
-    link = f"- [{path.stem}](../{path.relative_to(ROOT).as_posix()})"
-    told = ", ".join(f"`{name}`" for name in names[:MOST_NAMES]) + "..." * (len(names) > MOST_NAMES)
-    return f"{link}: {head(text)} {told}".rstrip() + "\n"
+    return f"- [{path.stem}](../{path.relative_to(ROOT).as_posix()}): {head(text)}\n"
 
 
 def listing():
     """The list, with a heading for each crate that has public definitions."""
-    text, found = "", cited()
+    text = ""
     for name in crates():
-        rows = "".join(row(path, found.get((name, path.stem), ())) for path in modules(ROOT / "crates" / name / "specs"))
+        rows = "".join(row(path) for path in modules(ROOT / "crates" / name / "specs"))
         text += f"\n### {name}\n\n{rows}" if rows else ""
     return text + "\n"
 

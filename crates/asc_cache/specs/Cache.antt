@@ -6,8 +6,7 @@ use Rattle.logbook.specs.Pages.{Book}
 use Rattle.asc_model.specs.Entry.{Entry}
 use Rattle.asc_model.specs.State.{State}
 use Rattle.asc_traj.specs.Content.{longest}
-use Rattle.asc_find.specs.Finder.{Tally, Plan}
-use Rattle.asc_find.specs.Serial.{Serial}
+use Rattle.asc_find.specs.Finder.{Jumps}
 use Rattle.asc_shard.specs.Shard.{Shard}
 use Rattle.asc_shard.specs.Content.{content_of}
 use Rattle.asc_shard.specs.declared.shard.Inserted.{Inserted}
@@ -45,7 +44,7 @@ pub record Told : Type 0 where
 -- the readers of all shards, and what was counted over them
 pub record ShardReaders : Type 0 where
   pub readers : List ShardReader
-  pub tally : Tally
+  pub jumps : Jumps
 
 -- a cache: the writers of its shards, and their readers
 pub record Cache : Type 0 where
@@ -118,13 +117,3 @@ pub record AreOpened (shards capacity : ℕ) (writers : List ShardWriter) (reade
   pub reader_count : length readers ≡ shards
   pub each : (i : ℕ) (w : ShardWriter) (r : ShardReader) → i < shards
       → IsOpened capacity i (slice_index_or writers i w) (slice_index_or readers i r)
-
--- readers tell no replies, have no plan, and are no machine
-abbrev pub replies_of : ShardReaders → Option (List (Option ℕ))
-replies_of s = None
-
-abbrev pub plan_of : ShardReaders → Plan
-plan_of s = record { made = 0; refused = 0; full = 0; seen = None; queue = None }
-
-abbrev pub machine_of : ShardReaders → Option Serial
-machine_of s = None

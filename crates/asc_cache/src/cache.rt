@@ -31,7 +31,7 @@ impl<R: Wait + Copy> Cache<R> {
         requires shards { (1 ≤ shards) × (shards ≤ 64) }
         requires capacity { (1 ≤ capacity) × (capacity ≤ MOST_CAPACITY) }
         ensures opened { IfOk result (λ c. AreOpened shards capacity c.writers c.readers.readers) }
-        ensures tally { IfOk result (λ c. c.readers.tally ≡ record { asked = 0; given = 0; hits = 0 }) }
+        ensures jumps { IfOk result (λ c. c.readers.jumps ≡ record { asked = 0; given = 0; hits = 0 }) }
     {
         let mut writers = Vec::with_capacity(alloc, shards)?;
         let mut readers = Vec::with_capacity(alloc, shards)?;

@@ -2,7 +2,7 @@ ghost use Rattle.std.specs.Prelude.{◌≡◌, ◌<◌, ◌≤◌, ◌^◌, ℕ,
 ghost use mathlib.Core.List.{IsPrefix};
 ghost use Rattle.asc_model.specs.State.{State};
 ghost use Rattle.asc_traj.specs.Jump.{IsJump};
-ghost use Rattle.asc_find.specs.Finder.{Tells, tally_after};
+ghost use Rattle.asc_find.specs.Finder.{Tells, bare_aid, jumps_after};
 ghost use Rattle.asc_shard.specs.Content.{IsContent};
 ghost use Rattle.asc_cache.specs.Cache.{ShardReader, AreLater, IsLater, IsOwnReader, content_seen, first_found, found_by};
 
@@ -36,7 +36,7 @@ impl<R: Wait + Drop> Model for ShardReaders<R> {
 
     ghost view = { λ r. record {
       readers = r.readers.items;
-      tally = record { asked = r.asked; given = r.given; hits = r.hits };
+      jumps = record { asked = r.asked; given = r.given; hits = r.hits };
     } };
 
     ghost invariant = { λ r. r.hits ≤ r.asked };
@@ -97,7 +97,7 @@ fn jump_first<R: Wait>(
 impl<R: Wait + Drop> ShardReaders<R> {
     /// Readers that were not asked yet.
     pub(crate) fn of(rt: R, readers: Vec<ShardReader>, leaving: Vec<Leaving<R>>) -> ShardReaders<R>
-        ensures { result ≡ record { readers = readers.items; tally = record { asked = 0; given = 0; hits = 0 } } }
+        ensures { result ≡ record { readers = readers.items; jumps = record { asked = 0; given = 0; hits = 0 } } }
     {
         ShardReaders {
             readers,
@@ -111,7 +111,7 @@ impl<R: Wait + Drop> ShardReaders<R> {
 
     /// Before the first look-up of a further run: it counts from 0 on. What the readers have seen stays.
     pub fn begin(&mut self)
-        ensures { self.new ≡ record self.old { tally = record { asked = 0; given = 0; hits = 0 } } }
+        ensures { self.new ≡ record self.old { jumps = record { asked = 0; given = 0; hits = 0 } } }
     {
         self.asked = 0;
         self.given = 0;
@@ -132,7 +132,7 @@ impl<R: Wait + Drop> ShardReaders<R> {
         requires shard { (d : ShardReader) → told.shard ≡ (slice_index_or self.old.readers told.index d).shard }
         ensures told { (d : ShardReader) → IsPrefix told.stored (slice_index_or self.new.readers told.index d).seen }
         ensures later { AreLater self.old.readers self.new.readers }
-        ensures tally { self.new.tally ≡ self.old.tally }
+        ensures jumps { self.new.jumps ≡ self.old.jumps }
     {
         let index = told.index();
         self.readers[index].learn(&self.rt, told);
@@ -144,7 +144,7 @@ impl<R: Wait + Drop> ShardReaders<R> {
         ensures seen { (d : ShardReader)
             → IsPrefix writer.now.stored (slice_index_or self.new.readers writer.now.index d).seen }
         ensures later { AreLater self.old.readers self.new.readers }
-        ensures tally { self.new.tally ≡ self.old.tally }
+        ensures jumps { self.new.jumps ≡ self.old.jumps }
     {
         self.learn(writer.tell());
     }
@@ -169,28 +169,21 @@ impl<R: Wait + Drop> ShardReaders<R> {
 
 impl<R: Wait + Drop> Finder for ShardReaders<R> {
     ghost use Rattle.asc_find.specs.Serial.{Serial, serial_reply};
-    ghost use Rattle.asc_cache.specs.Cache.{machine_of, plan_of, replies_of};
 
-    ghost tally = { λ s. s.tally };
-
-    ghost replies = { replies_of };
-
-    ghost plan = { plan_of };
-
-    ghost machine = { machine_of };
+    ghost aid = { λ s. bare_aid s.jumps };
 
     fn jump(&mut self, state: &mut State, left: u64) -> Option<u64>
         requires left { left ≤ 2 ^ 40 }
-        requires asked { self.old.tally.asked < 2 ^ 62 }
-        requires given { self.old.tally.given < 2 ^ 62 }
+        requires asked { self.old.jumps.asked < 2 ^ 62 }
+        requires given { self.old.jumps.given < 2 ^ 62 }
 
         // What every finder's jump is.
         ensures jump { IsJump result left state.old state.new }
-        ensures tally { self.new.tally ≡ tally_after self.old.tally result }
-        ensures replies { Tells (result ∷ []) (replies_of self.old) (replies_of self.new) }
-        ensures plan { plan_of self.new ≡ plan_of self.old }
-        ensures machine { machine_of self.new ≡ machine_of self.old }
-        ensures longest { (m : Serial) → machine_of self.old ≡ Some m → result ≡ serial_reply m state.old left }
+        ensures jumps { self.new.jumps ≡ jumps_after self.old.jumps result }
+        ensures replies { Tells (result ∷ []) None None }
+        ensures plan { Unit {0} }
+        ensures machine { Unit {0} }
+        ensures longest { (m : Serial) → None ≡ Some m → result ≡ serial_reply m state.old left }
 
         // Each shard is asked at its turn, and sees no less than before. The first that finds a jump gives it.
         ensures later { AreLater self.old.readers self.new.readers }

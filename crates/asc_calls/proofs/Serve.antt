@@ -13,18 +13,18 @@ use Rattle.asc_outside.proofs.Streams.{given_after-nil, Takes-nil}
 use Rattle.asc_calls.specs.declared.calls.Served.{Served}
 use Rattle.asc_calls.specs.declared.calls.Served.TheVariants as served
 use Rattle.asc_calls.specs.GuestCall.{nothing, Device, Input, Out, Err, io_of, Went, Exit, early_answer, answered, break_after, result_of, result_of_read, guest_call, negative_answer, no_such_call, state_after_answer}
-use Rattle.asc_calls.specs.World.{CallState, Faults, outside, world, DoesIo}
+use Rattle.asc_calls.specs.World.{CallState, DeviceFaults, outside, world, DoesIo}
 use Rattle.asc_calls.specs.Serving.{Serves, IsCutShort}
 use Rattle.asc_calls.specs.Filling.{Reads, ReadsPart}
 use Rattle.asc_calls.proofs.Taken.{is_true, shape-into}
 use Rattle.asc_calls.proofs.Requests.{request_of-93, request_of-214, request_of-other, read-early, read-taken, write-early, write-put, take-taken, take-part}
 
 -- where the devices stay, nothing was taken or put
-DoesIo-same : (left : Option (List ℕ)) (out err : Given) (n m : ℕ) (before later : Faults) → DoesIo (outside left out err n before) (outside left out err m later) nothing
+DoesIo-same : (left : Option (List ℕ)) (out err : Given) (n m : ℕ) (before later : DeviceFaults) → DoesIo (outside left out err n before) (outside left out err m later) nothing
 DoesIo-same left out err n m before later = record { taken = Takes-nil left; out = sym (given_after-nil out); err = sym (given_after-nil err) }
 
 -- bytes were put to out alone
-pub DoesIo-out : (left : Option (List ℕ)) (out after err : Given) (n m : ℕ) (before later : Faults) (piece bytes : List ℕ) → piece ≡ bytes → after ≡ given_after out piece
+pub DoesIo-out : (left : Option (List ℕ)) (out after err : Given) (n m : ℕ) (before later : DeviceFaults) (piece bytes : List ℕ) → piece ≡ bytes → after ≡ given_after out piece
     → DoesIo (outside left out err n before) (outside left after err m later) (io_of Out bytes)
 DoesIo-out left out after err n m before later piece bytes same is = record {
   taken = Takes-nil left;
@@ -33,7 +33,7 @@ DoesIo-out left out after err n m before later piece bytes same is = record {
 }
 
 -- bytes were put to err alone
-pub DoesIo-err : (left : Option (List ℕ)) (out err after : Given) (n m : ℕ) (before later : Faults) (piece bytes : List ℕ) → piece ≡ bytes → after ≡ given_after err piece
+pub DoesIo-err : (left : Option (List ℕ)) (out err after : Given) (n m : ℕ) (before later : DeviceFaults) (piece bytes : List ℕ) → piece ≡ bytes → after ≡ given_after err piece
     → DoesIo (outside left out err n before) (outside left out after m later) (io_of Err bytes)
 DoesIo-err left out err after n m before later piece bytes same is = record {
   taken = Takes-nil left;
@@ -59,7 +59,7 @@ shape-answer s u answer is =
     ap (λ (t : State). t.shape) is ∙ shape-state_after (state_after s (Register 10 answer)) _ ∙ shape-state_after s (Register 10 answer)
 
 -- a call that answers, and does nothing else but that it may move the break
-module _ (s u : State) (calls : CallState) (brk : ℕ) (left : Option (List ℕ)) (out err : Given) (n m answer : ℕ) (before later : Faults) (is_u : u ≡ state_after_answer s answer) (count : m ≡ n + 1) where
+module _ (s u : State) (calls : CallState) (brk : ℕ) (left : Option (List ℕ)) (out err : Given) (n m answer : ℕ) (before later : DeviceFaults) (is_u : u ≡ state_after_answer s answer) (count : m ≡ n + 1) where
   pub Serves-answered : (answer_is : Served) → answer_is ≡ served.Went → ((rest : List ℕ) → guest_call calls.low calls.high s calls.brk rest ≡ answered s brk answer)
       → Serves (world s calls left out err n before) (world u (record calls { brk = brk }) left out err m later) answer_is
   Serves-answered answer_is went comes = subst (λ r. Serves (world s calls left out err n before) (world u (record calls { brk = brk }) left out err m later) r) (sym went) (record {
@@ -84,7 +84,7 @@ module _ (s u : State) (calls : CallState) (brk : ℕ) (left : Option (List ℕ)
       ∙ ap (λ b. answered s b b) (sym moved) ∙ ap (λ b. answered s b answer) (sym same))
 
 -- a call that isn't served
-pub Serves-unknown : (s u : State) (calls : CallState) (left : Option (List ℕ)) (out err : Given) (n m number answer : ℕ) (before later : Faults) (answer_is : Served) → answer_is ≡ served.Went
+pub Serves-unknown : (s u : State) (calls : CallState) (left : Option (List ℕ)) (out err : Given) (n m number answer : ℕ) (before later : DeviceFaults) (answer_is : Served) → answer_is ≡ served.Went
     → number ≡ register (view_of s) 17 → (number ≡ 63 → ⊥) → (number ≡ 64 → ⊥) → (number < 93) ⊎ (95 ≤ number) → (number ≡ 214 → ⊥)
     → answer < 2 ^ 32 → (answer + 38) % 2 ^ 32 ≡ 0 → u ≡ state_after_answer s answer → m ≡ n + 1
     → Serves (world s calls left out err n before) (world u calls left out err m later) answer_is
@@ -96,7 +96,7 @@ Serves-unknown s u calls left out err n m number answer before later answer_is w
     ∙ ap (λ a. answered s calls.brk a) same)
 
 -- the call of a program that ends
-pub Serves-exit : (s : State) (calls : CallState) (left : Option (List ℕ)) (out err : Given) (n m number argument : ℕ) (before later : Faults)
+pub Serves-exit : (s : State) (calls : CallState) (left : Option (List ℕ)) (out err : Given) (n m number argument : ℕ) (before later : DeviceFaults)
     → number ≡ register (view_of s) 17 → argument ≡ register (view_of s) 10 → 93 ≤ number → number < 95 → m ≡ n + 1
     → Serves (world s calls left out err n before) (world s calls left out err m later) (served.Exit (bit_and argument 255))
 unfolding guest_call
@@ -115,7 +115,7 @@ Serves-exit s calls left out err n m number argument before later is_number is_a
   steps = count;
 }
 
-module _ (s : State) (calls : CallState) (left : Option (List ℕ)) (out err : Given) (n file : ℕ) (before later : Faults) (is_file : file ≡ register (view_of s) 10) where
+module _ (s : State) (calls : CallState) (left : Option (List ℕ)) (out err : Given) (n file : ℕ) (before later : DeviceFaults) (is_file : file ≡ register (view_of s) 10) where
   -- a read that is answered early
   pub Serves-read_early : (u : State) (m answer : ℕ) (answer_is : Served) → register (view_of s) 17 ≡ 63
       → Some answer ≡ early_answer s.shape (file == 0) (register (view_of s) 11) (register (view_of s) 12) → u ≡ state_after_answer s answer → m ≡ n + 1 → answer_is ≡ served.Went

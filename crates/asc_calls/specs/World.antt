@@ -13,24 +13,52 @@ pub record CallState : Type 0 where
   pub ended : Bool
 
 -- how often each device has failed
-pub record Faults : Type 0 where
+pub record DeviceFaults : Type 0 where
   pub input : ℕ
   pub out : ℕ
   pub err : ℕ
 
-abbrev pub faults : (input out err : ℕ) → Faults
+abbrev pub faults : (input out err : ℕ) → DeviceFaults
 faults input out err = record { input = input; out = out; err = err }
 
 -- with one more of the device that failed, where one did
-abbrev pub faults_after : Option Device → Faults → Faults
+abbrev pub faults_after : Option Device → DeviceFaults → DeviceFaults
 faults_after None f = f
 faults_after (Some Input) f = record f { input = one_more f.input }
 faults_after (Some Out) f = record f { out = one_more f.out }
 faults_after (Some Err) f = record f { err = one_more f.err }
 
 -- the count of the device that failed rises by one, and those of the others stay
-abbrev pub BlamesOnly : (failed : Option Device) → (old new : Faults) → Type 0
+abbrev pub BlamesOnly : (failed : Option Device) → (old new : DeviceFaults) → Type 0
 BlamesOnly failed old new = new ≡ faults_after failed old
+
+-- what devices tell: the input still to come, where it is told, what out and err were given, and how often each failed
+pub record Told : Type 0 where
+  pub left : Option (List ℕ)
+  pub out : Given
+  pub err : Given
+  pub faults : DeviceFaults
+
+-- a program's devices, and what they tell
+pub record Devices (I O E : Type 0) : Type 0 where
+  pub input : I
+  pub out : O
+  pub err : E
+  pub told : Told
+
+-- with another input, which tells so
+abbrev pub with_input : {I O E : Type 0} → Devices I O E → I → (left : Option (List ℕ)) → (input_faults : ℕ) → Devices I O E
+with_input d input left input_faults = record d {
+  input = input;
+  told = record d.told { left = left; faults = record d.told.faults { input = input_faults } };
+}
+
+-- with another output, which tells so
+abbrev pub with_out : {I O E : Type 0} → Devices I O E → O → Given → (out_faults : ℕ) → Devices I O E
+with_out d out given out_faults = record d {
+  out = out;
+  told = record d.told { out = given; faults = record d.told.faults { out = out_faults } };
+}
 
 -- what devices tell, and the counter of steps
 pub record Outside : Type 0 where
@@ -39,9 +67,9 @@ pub record Outside : Type 0 where
   pub out : Given
   pub err : Given
   pub steps : ℕ
-  pub faults : Faults
+  pub faults : DeviceFaults
 
-abbrev pub outside : Option (List ℕ) → Given → Given → ℕ → Faults → Outside
+abbrev pub outside : Option (List ℕ) → Given → Given → ℕ → DeviceFaults → Outside
 outside left out err steps faults = record {
   left = left;
   out = out;
@@ -50,18 +78,24 @@ outside left out err steps faults = record {
   faults = faults;
 }
 
+abbrev pub outside_of : {I O E : Type 0} → Devices I O E → (steps : ℕ) → Outside
+outside_of d steps = outside d.told.left d.told.out d.told.err steps d.told.faults
+
 pub record World : Type 0 where
   pub state : State
   pub calls : CallState
   pub outside : Outside
   pub open outside use *
 
-abbrev pub world : State → CallState → Option (List ℕ) → Given → Given → ℕ → Faults → World
+abbrev pub world : State → CallState → Option (List ℕ) → Given → Given → ℕ → DeviceFaults → World
 world state calls left out err steps faults = record {
   state = state;
   calls = calls;
   outside = outside left out err steps faults;
 }
+
+abbrev pub world_in : State → CallState → Outside → World
+world_in state calls outside = record { state = state; calls = calls; outside = outside }
 
 -- from old to new just this was taken from the input, and put to out and to err
 pub record DoesIo (old new : Outside) (io : Io) : Type 0 where

@@ -3,10 +3,11 @@ ghost use Rattle.asc_model.specs.Shape.{holds};
 ghost use Rattle.asc_model.specs.Machine.{register, view_of};
 ghost use Rattle.asc_outside.specs.Outside.{Given, HasCause};
 ghost use Rattle.asc_calls.specs.GuestCall.{early_answer, state_after_answer, negative_answer};
-ghost use Rattle.asc_calls.specs.World.{CallState, Faults, BlamesOnly, faults, world};
+ghost use Rattle.asc_calls.specs.World.{BlamesOnly, CallState, DeviceFaults, faults, outside_of, world, world_in};
 ghost use Rattle.asc_calls.specs.Serving.{Serves, failed_in};
 
-use crate::devices::fill;
+use crate::Devices;
+use crate::filling::fill;
 use asc_outside::{Failed, Sink, Source, put_all};
 use asc_shape::{State, Steps};
 use std::marker::Model;
@@ -71,29 +72,22 @@ impl Calls {
     pub fn serve<I: Source, O: Sink, E: Sink, L: Ledger>(
         &mut self,
         state: &mut State,
-        input: &mut I,
-        out: &mut O,
-        err: &mut E,
+        devices: &mut Devices<I, O, E>,
         steps: &mut Steps<L>,
     ) -> Served
         ensures served { Serves
-            (world state.old self.old (I.left input.old) (O.given out.old) (E.given err.old) steps.old
-            (faults (I.faults input.old) (O.faults out.old) (E.faults err.old)))
-            (world state.new self.new (I.left input.new) (O.given out.new) (E.given err.new) steps.new
-            (faults (I.faults input.new) (O.faults out.new) (E.faults err.new)))
-            result }
+            (world_in state.old self.old (outside_of devices.old steps.old))
+            (world_in state.new self.new (outside_of devices.new steps.new)) result }
 
         // Once the end of the input was found, the source is not asked.
-        ensures unasked { IsTrue self.old.ended → input.new ≡ input.old }
+        ensures unasked { IsTrue self.old.ended → devices.new.input ≡ devices.old.input }
 
         // The count of faults of the device that failed rises by one, and those of the others stay.
-        ensures faults { BlamesOnly (failed_in result)
-            (faults (I.faults input.old) (O.faults out.old) (E.faults err.old))
-            (faults (I.faults input.new) (O.faults out.new) (E.faults err.new)) }
+        ensures faults { BlamesOnly (failed_in result) devices.old.told.faults devices.new.told.faults }
     {
         match state.reg(17) {
-            READ => self.read(state, input, steps),
-            WRITE => write(state, out, err, steps),
+            READ => self.read(state, &mut devices.input, steps),
+            WRITE => write(state, &mut devices.out, &mut devices.err, steps),
             EXIT | EXIT_GROUP => {
                 steps.tick();
                 Served::Exit((state.reg(10) & 0xFF) as u8)
@@ -114,7 +108,7 @@ impl Calls {
         steps: &mut Steps<L>,
     ) -> Served
         requires { register (view_of state.old) 17 ≡ 63 }
-        ensures served { (out err : Given) (before after : Faults) → Serves
+        ensures served { (out err : Given) (before after : DeviceFaults) → Serves
             (world state.old self.old (I.left input.old) out err steps.old before)
             (world state.new self.new (I.left input.new) out err steps.new after)
             result }
@@ -179,7 +173,7 @@ fn write<O: Sink, E: Sink, L: Ledger>(
     steps: &mut Steps<L>,
 ) -> Served
     requires { register (view_of state.old) 17 ≡ 64 }
-    ensures served { (calls : CallState) (left : Option (List ℕ)) (before after : Faults) → Serves
+    ensures served { (calls : CallState) (left : Option (List ℕ)) (before after : DeviceFaults) → Serves
         (world state.old calls left (O.given out.old) (E.given err.old) steps.old before)
         (world state.new calls left (O.given out.new) (E.given err.new) steps.new after)
         result }

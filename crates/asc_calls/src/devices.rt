@@ -1,57 +1,113 @@
-//! How a call takes bytes: a source may give fewer than are asked for.
+//! A program's devices.
+ghost use Rattle.std.specs.Prelude.{◌≡◌};
+ghost use Rattle.asc_calls.specs.World.{faults, with_input, with_out};
 
-ghost use Rattle.std.specs.Prelude.{◌≡◌, ◌<◌, IsTrue, IfOk, OnErr};
-ghost use Rattle.asc_model.specs.Shape.{holds};
-ghost use Rattle.asc_outside.specs.Outside.{HasCause, IsAtEnd};
-ghost use Rattle.asc_calls.specs.Filling.{Fills, FillsPart};
+use asc_outside::{Sink, Source};
+use std::marker::Model;
 
-use asc_outside::{Failed, Source};
-use asc_shape::State;
-
-/// Takes bytes of a source into memory, where a buffer of n bytes begins, until it is full, or the end of the input is
-/// found, and tells how many. Where n is 0 the source is not asked.
-pub(crate) fn fill<I: Source>(
-    input: &mut I,
-    state: &mut State,
-    buffer: u32,
-    n: u32,
-) -> Result<u32, Failed>
-    requires { IsTrue (holds state.old.shape buffer n) }
-    ensures fills { IfOk result
-        (λ count. Fills (I.left input.old) (I.left input.new) state.old state.new buffer n count) }
-    ensures end { IfOk result (λ count. count < n → IsAtEnd (I.left input.new)) }
-    ensures part { OnErr result (FillsPart (I.left input.old) (I.left input.new) state.old state.new buffer n) }
-    ensures cause { HasCause (I.faults input.old) (I.faults input.new) result }
-{
-    // The shape tells that this is a state, so that its memory holds the buffer.
-    let _ = state.shape();
-    let mut filled = 0;
-    while filled < n {
-        let count = take_once(input, state, buffer + filled, n - filled)?;
-        if count == 0 {
-            break;
-        }
-        filled += count;
-    }
-    Ok(filled)
+/// A program's devices: its input, which is file 0, its output, which is file 1, and its error output, which is file 2.
+///
+/// Contracts see them as the three, with what they tell.
+#[derive(Drop)]
+pub struct Devices<I: Source, O: Sink, E: Sink> {
+    pub(crate) input: I,
+    pub(crate) out: O,
+    pub(crate) err: E,
 }
 
-/// Asks a source once for bytes, at most n, takes them into memory from an address on, and tells how many.
-///
-/// Where the source fails, nothing is taken, and the state stays.
-fn take_once<I: Source>(input: &mut I, state: &mut State, at: u32, n: u32) -> Result<u32, Failed>
-    requires within { IsTrue (holds state.old.shape at n) }
-    requires some { 0 < n }
-    ensures fills { IfOk result
-        (λ count. Fills (I.left input.old) (I.left input.new) state.old state.new at n count) }
-    ensures end { result ≡ Ok 0 → IsAtEnd (I.left input.new) }
-    ensures nothing { OnErr result (I.left input.new ≡ I.left input.old) }
-    ensures stays { OnErr result (state.new ≡ state.old) }
-    ensures cause { HasCause (I.faults input.old) (I.faults input.new) result }
-{
-    // The shape tells that this is a state, before the call and after it.
-    let _ = state.shape();
-    let count = state.take_in(at, n, input)? as u32;
-    let _ = state.shape();
-    Ok(count)
+impl<I: Source, O: Sink, E: Sink> Model for Devices<I, O, E> {
+    ghost use Rattle.asc_calls.specs.World as model;
+
+    ghost Value = { model.Devices I O E };
+
+    ghost view = { λ d. record {
+      input = d.input;
+      out = d.out;
+      err = d.err;
+      told = record {
+        left = I.left d.input;
+        out = O.given d.out;
+        err = E.given d.err;
+        faults = model.faults (I.faults d.input) (O.faults d.out) (E.faults d.err);
+      };
+    } };
+}
+
+impl<I: Source, O: Sink, E: Sink> Devices<I, O, E> {
+    ghost use Rattle.std.specs.Borrow.{Lends, sem};
+    ghost use Rattle.asc_calls.specs.contracts.devices.Devices.{the_row};
+
+    /// These three.
+    pub fn new(input: I, out: O, err: E) -> Devices<I, O, E>
+        ensures { result ≡ record {
+          input = input;
+          out = out;
+          err = err;
+          told = record {
+            left = I.left input;
+            out = O.given out;
+            err = E.given err;
+            faults = faults (I.faults input) (O.faults out) (E.faults err);
+          };
+        } }
+    {
+        Devices { input, out, err }
+    }
+
+    /// The three again.
+    pub fn into_parts(self) -> (I, O, E)
+        ensures parts { result ≡ (self.input, self.out, self.err) }
+        ensures told { self.told ≡ record {
+          left = I.left self.input;
+          out = O.given self.out;
+          err = E.given self.err;
+          faults = faults (I.faults self.input) (O.faults self.out) (E.faults self.err);
+        } }
+    {
+        (self.input, self.out, self.err)
+    }
+
+    /// The input. A caller's proof learns from it what is told of it.
+    pub fn input(&self) -> &I
+        ensures input { result.now ≡ self.now.input }
+        ensures left { self.now.told.left ≡ I.left self.now.input }
+        ensures faults { self.now.told.faults.input ≡ I.faults self.now.input }
+    {
+        &self.input
+    }
+
+    /// The output.
+    pub fn out(&self) -> &O
+        ensures out { result.now ≡ self.now.out }
+        ensures told { self.now.told.out ≡ O.given result.now }
+    {
+        &self.out
+    }
+
+    /// The error output.
+    pub fn err(&self) -> &E
+        ensures err { result.now ≡ self.now.err }
+        ensures told { self.now.told.err ≡ E.given result.now }
+    {
+        &self.err
+    }
+
+    /// The output, to be written to.
+    pub fn out_mut(&mut self) -> &mut O
+        ensures* writes_back { sem 𝓛 (Lends (the_row I.row O.row E.row I.Source O.Sink E.Sink) O.row self.entry result
+            (λ out. with_out self.old out (O.given out) (O.faults out))) }
+        ensures out { result.now ≡ self.old.out }
+        ensures told { self.old.told.out ≡ O.given result.now }
+        ensures faults { self.old.told.faults.out ≡ O.faults result.now }
+    {
+        &mut self.out
+    }
+
+    /// Takes an input in place of its own, which it leaves there.
+    pub fn swap_input(&mut self, input: &mut I)
+        ensures left { input.new ≡ self.old.input }
+        ensures taken { self.new ≡ with_input self.old input.old (I.left input.old) (I.faults input.old) }
+    {
+        std::mem::swap(&mut self.input, input);
+    }
 }

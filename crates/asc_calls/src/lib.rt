@@ -3,7 +3,9 @@
 
 mod calls;
 mod devices;
+mod filling;
 #[cfg(test)]
 mod tests;
 
 pub use calls::{Calls, Served};
+pub use devices::Devices;

@@ -1,6 +1,6 @@
 ghost use Rattle.std.specs.Prelude.{◌≡◌, ◌<◌};
 
-use crate::{Calls, Served};
+use crate::{Calls, Devices, Served};
 use asc_outside::{CountSink, ListSink, ListSource, Sink, Source, SureSource};
 use asc_shape::{Shape, State, Steps};
 use std::alloc::Global;
@@ -57,17 +57,14 @@ impl<L: Ledger> Guest<L> {
     fn ask<I: Source, O: Sink, E: Sink>(
         &mut self,
         call: Call,
-        input: &mut I,
-        out: &mut O,
-        err: &mut E,
+        devices: &mut Devices<I, O, E>,
     ) -> Served {
         let [number, first, second, third] = call;
         self.state.set_reg(17, number);
         self.state.set_reg(10, first);
         self.state.set_reg(11, second);
         self.state.set_reg(12, third);
-        self.calls
-            .serve(&mut self.state, input, out, err, &mut self.steps)
+        self.calls.serve(&mut self.state, devices, &mut self.steps)
     }
 
     /// The pc and x10.
@@ -81,6 +78,15 @@ impl<L: Ledger> Guest<L> {
         let bytes = self.state.mem(BUFFER, 4);
         [bytes[0], bytes[1], bytes[2], bytes[3]]
     }
+}
+
+/// Devices with no input.
+fn no_devices(alloc: Global) -> Devices<SureSource, CountSink, CountSink> {
+    Devices::new(
+        SureSource::new(Vec::new(alloc)),
+        CountSink::new(),
+        CountSink::new(),
+    )
 }
 
 /// Serves one call at `pc`, with no input, and gives the answer, the pc and x10.
@@ -97,10 +103,7 @@ fn serve_one<L: Ledger, R: Abort>(
     requires some { 0 < L.parts }
 {
     let mut guest = Guest::<L>::new(rt, alloc, blank, 65_536, pc, [0; 4]);
-    let mut input = SureSource::new(Vec::new(alloc));
-    let mut out = CountSink::new();
-    let mut err = CountSink::new();
-    let served = guest.ask([number, argument, 0, 0], &mut input, &mut out, &mut err);
+    let served = guest.ask([number, argument, 0, 0], &mut no_devices(alloc));
     for k in 0..32 {
         let want = match k {
             10 => guest.state.reg(10),
@@ -141,14 +144,13 @@ fn sink<R: Abort>(rt: &R, alloc: Global, room: usize, fails: u64) -> ListSink {
 }
 
 /// Reads from the input `abc`, of which the call that would come after the end was found fails.
-fn reads<L: Ledger, R: Abort>(rt: &R, alloc: Global, blank: Blank, mut input: ListSource)
+fn reads<L: Ledger, R: Abort>(rt: &R, alloc: Global, blank: Blank, input: ListSource)
     requires name { blank.name ≡ L.name }
     requires parts { blank.parts ≡ L.parts }
     requires some { 0 < L.parts }
 {
     let mut guest = Guest::<L>::new(rt, alloc, blank, 65_536, 0x10000, [0xEE; 4]);
-    let mut out = CountSink::new();
-    let mut err = CountSink::new();
+    let mut devices = Devices::new(input, CountSink::new(), CountSink::new());
     let mut pc = 0x10000_u32;
     for (call, x10, buffer) in [
         ([READ, 0, 0x1FFFE, 4], 0xFFFF_FFF2, [0xEE; 4]),
@@ -163,14 +165,14 @@ fn reads<L: Ledger, R: Abort>(rt: &R, alloc: Global, blank: Blank, mut input: Li
         ([READ, 0, BUFFER, 0], 0, *b"abc\xEE"),
         ([1000, 0, BUFFER, 4], 0xFFFF_FFDA, *b"abc\xEE"),
     ] {
-        let served = guest.ask(call, &mut input, &mut out, &mut err);
+        let served = guest.ask(call, &mut devices);
         pc = pc.wrapping_add(4);
         assert_eq!(rt;
             (served, guest.stands(), guest.buffer(rt)),
             (Served::Went, (pc, x10), buffer)
         );
     }
-    assert_eq!(rt; out.count(), 0);
+    assert_eq!(rt; devices.out().count(), 0);
 }
 
 #[test]
@@ -187,16 +189,15 @@ fn read_one<L: Ledger, R: Abort>(
     alloc: Global,
     blank: Blank,
     n: u32,
-    mut input: ListSource,
+    input: ListSource,
 ) -> (Served, (u32, u32), [u8; 4])
     requires name { blank.name ≡ L.name }
     requires parts { blank.parts ≡ L.parts }
     requires some { 0 < L.parts }
 {
     let mut guest = Guest::<L>::new(rt, alloc, blank, 65_536, 0x10000, [0xEE; 4]);
-    let mut out = CountSink::new();
-    let mut err = CountSink::new();
-    let served = guest.ask([READ, 0, BUFFER, n], &mut input, &mut out, &mut err);
+    let mut devices = Devices::new(input, CountSink::new(), CountSink::new());
+    let served = guest.ask([READ, 0, BUFFER, n], &mut devices);
     (served, guest.stands(), guest.buffer(rt))
 }
 
@@ -225,16 +226,14 @@ fn says_hi<L: Ledger, R: Abort>(
     alloc: Global,
     blank: Blank,
     file: u32,
-    out: &mut ListSink,
-    err: &mut ListSink,
+    devices: &mut Devices<SureSource, ListSink, ListSink>,
 ) -> (Served, (u32, u32))
     requires name { blank.name ≡ L.name }
     requires parts { blank.parts ≡ L.parts }
     requires some { 0 < L.parts }
 {
     let mut guest = Guest::<L>::new(rt, alloc, blank, 65_536, 0x10000, *b"Hi\n\0");
-    let mut input = SureSource::new(Vec::new(alloc));
-    let served = guest.ask([WRITE, file, BUFFER, 3], &mut input, out, err);
+    let served = guest.ask([WRITE, file, BUFFER, 3], devices);
     (served, guest.stands())
 }
 
@@ -252,20 +251,16 @@ fn asks_the_sinks(rt: HostRuntime) {
         (3, 3, 0, Served::Went, (0x10004, 0xFFFF_FFF7), b"", b""),
     ];
     for (file, room, fails, answer, after, put, said) in cases {
-        let mut out = sink(&rt, alloc, room, fails);
-        let mut err = sink(&rt, alloc, room, fails);
-        let (served, stands) = says_hi::<Brand, _>(
-            &rt,
-            alloc,
-            Blank::new(1),
-            file,
-            &mut out,
-            &mut err,
+        let mut devices = Devices::new(
+            SureSource::new(Vec::new(alloc)),
+            sink(&rt, alloc, room, fails),
+            sink(&rt, alloc, room, fails),
         );
+        let (served, stands) = says_hi::<Brand, _>(&rt, alloc, Blank::new(1), file, &mut devices);
         assert_eq!(rt; served, answer);
         assert_eq!(rt; stands, after);
-        assert_eq!(rt; out.bytes(), put);
-        assert_eq!(rt; err.bytes(), said);
+        assert_eq!(rt; devices.out().bytes(), put);
+        assert_eq!(rt; devices.err().bytes(), said);
     }
 }
 
@@ -276,9 +271,7 @@ fn breaks<L: Ledger, R: Abort>(rt: &R, alloc: Global, blank: Blank)
     requires some { 0 < L.parts }
 {
     let mut guest = Guest::<L>::new(rt, alloc, blank, 131_072, 0x10000, [0xEE; 4]);
-    let mut input = SureSource::new(Vec::new(alloc));
-    let mut out = CountSink::new();
-    let mut err = CountSink::new();
+    let mut devices = no_devices(alloc);
     for (address, brk) in [
         (0, 0x10010),
         (0x20000, 0x20000),
@@ -286,7 +279,7 @@ fn breaks<L: Ledger, R: Abort>(rt: &R, alloc: Global, blank: Blank)
         (0x1000F, 0x20000),
         (0x10010, 0x10010),
     ] {
-        let served = guest.ask([214, address, 0, 0], &mut input, &mut out, &mut err);
+        let served = guest.ask([214, address, 0, 0], &mut devices);
         assert_eq!(rt; served, Served::Went);
         assert_eq!(rt; guest.state.reg(10), brk);
         assert_eq!(rt; guest.buffer(rt), [0xEE; 4]);

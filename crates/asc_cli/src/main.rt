@@ -4,18 +4,19 @@
 ghost use Rattle.std.specs.Prelude.{◌≡◌, ◌<◌, map};
 ghost use Rattle.std.specs.Process.{exit_status};
 ghost use Rattle.std.specs.String.{string_bytes};
-ghost use Rattle.asc_calls.specs.World.{outside, faults};
-ghost use Rattle.asc_top.specs.Answer.{outcome_of};
+ghost use Rattle.asc_calls.specs.World.{outside_of};
+ghost use Rattle.asc_top.specs.Answer.{conclusion_of};
 ghost use Rattle.asc_words.specs.Answer.{refusal_of};
-ghost use Rattle.asc_top.specs.Answered.{devices};
+ghost use Rattle.asc_top.specs.Answered.{around};
 ghost use Rattle.asc_top.specs.Reported.{report_with};
 ghost use Rattle.asc_cli.specs.Status.{IsStatus, IsStatusFor, IsStatusOf, IsStatusOver};
 
+use asc_calls::Devices;
 use asc_outside::{Gate, Open, Sink, Source, Store};
 use asc_shape::Steps;
 use asc_streams::{FileStore, StreamSink, StreamSource};
-use asc_top::{Answer, Outcome, reported, top};
-use asc_words::{LineFault, given_words};
+use asc_top::{reported, top};
+use asc_words::{Answer, Conclusion, LineFault, given_words};
 use std::alloc::Global;
 use std::env::Args;
 use std::marker::Brand;
@@ -47,9 +48,9 @@ fn program<T: Threads + Wait + Sync + Copy + Drop + Send>(
 /// Reports why words were not read, and gives the exit status.
 fn refuse<R: Sink>(fault: LineFault, report: &mut R) -> ExitCode
     ensures { IsStatusOf (report_with (R.given report.old) (R.faults report.old))
-        (report_with (R.given report.new) (R.faults report.new)) (outcome_of (refusal_of fault)) (exit_status result) }
+        (report_with (R.given report.new) (R.faults report.new)) (conclusion_of (refusal_of fault)) (exit_status result) }
 {
-    ExitCode::from(reported(Outcome::of(Answer::from(fault)), report).code())
+    ExitCode::from(reported(Conclusion::of(Answer::from(fault)), report).code())
 }
 
 /// Runs the words over the system's files and streams, of which nothing is told, and gives the exit status. The ledger is
@@ -65,21 +66,25 @@ fn run<T: Threads + Wait + Sync + Copy + Drop + Send, L: Ledger>(
     requires some { 0 < L.parts }
     ensures { IsStatusOver (map string_bytes words.now) (exit_status result) }
 {
-    status(
+    let devices = Devices::new(
+        StreamSource::new(rt.stdin()),
+        StreamSink::new(rt.stdout()),
+        StreamSink::new(rt.stderr()),
+    );
+    let (status, _) = status(
         threads,
         rt.alloc(),
         words,
         &mut FileStore::new(rt),
-        &mut StreamSource::new(rt.stdin()),
-        &mut StreamSink::new(rt.stdout()),
-        &mut StreamSink::new(rt.stderr()),
+        devices,
         &mut StreamSink::new(rt.stderr()),
         &Open,
         &mut Steps::<L>::new(blank),
-    )
+    );
+    status
 }
 
-/// Runs the words over an outside that is handed in, and gives the exit status.
+/// Runs the words over an outside that is handed in, and gives the exit status, and the devices back.
 fn status<
     T: Threads + Wait + Sync + Copy + Drop + Send,
     F: Store,
@@ -94,26 +99,18 @@ fn status<
     alloc: Global,
     words: &[String],
     store: &mut F,
-    input: &mut I,
-    out: &mut O,
-    err: &mut E,
+    devices: Devices<I, O, E>,
     report: &mut R,
     gate: &G,
     steps: &mut Steps<L>,
-) -> ExitCode
+) -> (ExitCode, Devices<I, O, E>)
     // All that the program promises holds of an answer, which has the status as its code.
     ensures { IsStatus (map string_bytes words.now)
-        (devices (F.files store.old) (F.asked store.old) (F.faults store.old)
-        (outside (I.left input.old) (O.given out.old) (E.given err.old) steps.old
-        (faults (I.faults input.old) (O.faults out.old) (E.faults err.old))))
-        (devices (F.files store.new) (F.asked store.new) (F.faults store.new)
-        (outside (I.left input.new) (O.given out.new) (E.given err.new) steps.new
-        (faults (I.faults input.new) (O.faults out.new) (E.faults err.new))))
+        (around (F.files store.old) (F.asked store.old) (F.faults store.old) (outside_of devices steps.old))
+        (around (F.files store.new) (F.asked store.new) (F.faults store.new) (outside_of result.1 steps.new))
         (report_with (R.given report.old) (R.faults report.old))
-        (report_with (R.given report.new) (R.faults report.new)) (exit_status result) }
+        (report_with (R.given report.new) (R.faults report.new)) (exit_status result.0) }
 {
-    let answer = top(
-        rt, alloc, words, store, input, out, err, report, gate, steps,
-    );
-    ExitCode::from(answer.code())
+    let (answer, devices) = top(rt, alloc, words, store, devices, report, gate, steps);
+    (ExitCode::from(answer.code()), devices)
 }

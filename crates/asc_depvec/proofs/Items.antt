@@ -1,5 +1,5 @@
 -- Lemmas on the items of the list of touched places.
-use Rattle.std.proofs.Common.{◌≡◌, ℕ, zero, suc, ◌+◌, ◌*◌, ◌/◌, ◌%◌, ◌<◌, ◌≤◌, ◌==◌, Bool, true, false, List, [], ◌∷◌, ◌++◌, length, take, drop, refl, sym, ap, subst, ◌∙◌, slice_index, slice_index_or, slice_set, arith, append_assoc, append-nil, length-append, if◌then◌else◌}
+use Rattle.std.proofs.Common.{◌≡◌, ℕ, zero, suc, ◌+◌, ◌*◌, ◌/◌, ◌%◌, ◌<◌, ◌≤◌, List, [], ◌∷◌, ◌++◌, length, take, drop, refl, sym, ap, ◌∙◌, slice_index_or, slice_set, arith, append_assoc, append-nil, length-append}
 use Rattle.std.proofs.lemmas.Bool.{eq-eqb, ne_eqb}
 use Rattle.std.specs.Prelude.{All}
 use Rattle.std.proofs.lemmas.List.{drop_at, drop_more, map-set, take-append-drop, take_at, take_more}
@@ -8,31 +8,27 @@ use Rattle.asc_model.specs.declared.status.Status.{Status}
 use Rattle.asc_model.specs.declared.status.Status.TheVariants.{Untouched}
 use Rattle.asc_model.specs.Places.{places_from}
 use Rattle.asc_depvec.specs.Tracer.{places_of, places_of_item}
-use Rattle.asc_depvec.specs.Inside.{given, status_of, statuses_of, with_statuses, without}
+use Rattle.asc_depvec.specs.Inside.{statuses_of, with_statuses, without}
 use Rattle.asc_depvec.proofs.Mixed.{without-set, without-swap}
 
 -- one place
 pub item_place : (item : ℕ) → item % 2 ≡ 0 → places_of_item item ≡ item / 2 ∷ []
-item_place item even = ap (λ (b : Bool). if b then places_from (item / 2) 4 else item / 2 ∷ []) (ne_eqb (item % 2) 1 (λ e. absurd (omega (arith, even, e))))
+item_place item even = rw (ne_eqb (item % 2) 1 (λ e. absurd (omega (arith, even, e))))
 
 -- the places of a word
 pub item_word : (item : ℕ) → item % 2 ≡ 1 → places_of_item item ≡ places_from (item / 2) 4
-item_word item odd = ap (λ (b : Bool). if b then places_from (item / 2) 4 else item / 2 ∷ []) (eq-eqb (item % 2) 1 odd)
+item_word item odd = rw (eq-eqb (item % 2) 1 odd)
 
 pub item_of_place : (place : ℕ) → places_of_item (2 * place) ≡ place ∷ []
-item_of_place place =
-    let half : 2 * place / 2 ≡ place = omega arith in
-    item_place (2 * place) (omega arith) ∙ ap (λ (k : ℕ). k ∷ []) half
+item_of_place place = let half : 2 * place / 2 ≡ place = omega arith in rw (item_place (2 * place) (omega arith), half)
 
 pub item_of_word : (place : ℕ) → places_of_item (2 * place + 1) ≡ places_from place 4
-item_of_word place =
-    let half : (2 * place + 1) / 2 ≡ place = omega arith in
-    item_word (2 * place + 1) (omega arith) ∙ ap (λ (k : ℕ). places_from k 4) half
+item_of_word place = let half : (2 * place + 1) / 2 ≡ place = omega arith in rw (item_word (2 * place + 1) (omega arith), half)
 
 -- two lists of items
 pub places_of-append : (a b : List ℕ) → places_of (a ++ b) ≡ places_of a ++ places_of b
 places_of-append [] b = refl
-places_of-append (item ∷ a) b = ap (λ (list : List ℕ). places_of_item item ++ list) (places_of-append a b) ∙ sym (append_assoc (places_of_item item) (places_of a) (places_of b))
+places_of-append (item ∷ a) b = rw (places_of-append a b, append_assoc)
 
 -- an item more
 pub places_of-more : (items places : List ℕ) (item : ℕ) → places_of_item item ≡ places → places_of (items ++ item ∷ []) ≡ places_of items ++ places
@@ -40,11 +36,7 @@ places_of-more items places item is = places_of-append items (item ∷ []) ∙ a
 
 -- each item has a place at least
 some_place : (item : ℕ) → 1 ≤ length (places_of_item item)
-some_place item = by_test (item % 2 == 1)
-  where
-    by_test : (b : Bool) → 1 ≤ length (if b then places_from (item / 2) 4 else item / 2 ∷ [])
-    by_test true = omega arith
-    by_test false = omega arith
+some_place item = grind arith
 
 pub fewer_items : (items : List ℕ) → length items ≤ length (places_of items)
 fewer_items [] = omega arith
@@ -55,18 +47,9 @@ pub word_cut : (items : List ℕ) (item place : ℕ) → item % 2 ≡ 1 → item
     → places_of (items ++ item ∷ []) ≡ places_of (items ++ 2 * place ∷ (2 * (place + 1)) ∷ (2 * (place + 2)) ∷ []) ++ (place + 3) ∷ []
 word_cut items item place odd is =
     let third : place + 1 + 1 ≡ place + 2 = omega arith in
-    let fourth : place + 1 + 1 + 1 ≡ place + 3 = omega arith in
-    let three = 2 * place ∷ (2 * (place + 1)) ∷ (2 * (place + 2)) ∷ [] in
-    let each : places_of three ≡ place ∷ (place + 1) ∷ (place + 2) ∷ [] =
-    ap (λ (list : List ℕ). list ++ places_of (2 * (place + 1) ∷ (2 * (place + 2)) ∷ [])) (item_of_place place)
-    ∙ ap (λ (list : List ℕ). place ∷ list ++ places_of (2 * (place + 2) ∷ [])) (item_of_place (place + 1))
-    ∙ ap (λ (list : List ℕ). place ∷ (place + 1) ∷ list ++ []) (item_of_place (place + 2)) in
-    places_of-more items (places_from place 4) item (item_word item odd ∙ ap (λ (k : ℕ). places_from k 4) is)
-    ∙ ap (λ (k : ℕ). places_of items ++ place ∷ (place + 1) ∷ k ∷ (place + 1 + 1 + 1) ∷ []) third
-    ∙ ap (λ (k : ℕ). places_of items ++ place ∷ (place + 1) ∷ (place + 2) ∷ k ∷ []) fourth
-    ∙ sym (append_assoc (places_of items) (place ∷ (place + 1) ∷ (place + 2) ∷ []) ((place + 3) ∷ []))
-    ∙ ap (λ (list : List ℕ). (places_of items ++ list) ++ (place + 3) ∷ []) (sym each)
-    ∙ ap (λ (list : List ℕ). list ++ (place + 3) ∷ []) (sym (places_of-append items three))
+    let fourth : place + 2 + 1 ≡ place + 3 = omega arith in
+    rw (places_of-more items (places_from place 4) item (rw (item_word item odd, is)), third, fourth)
+    (rw (places_of-append items (2 * place ∷ (2 * (place + 1)) ∷ (2 * (place + 2)) ∷ []), item_of_place place, item_of_place (place + 1), item_of_place (place + 2), append_assoc))
 
 -- ---- what holds of all places
 
@@ -86,37 +69,27 @@ All-item P (item ∷ items) (suc k) d all within = All-item P items k d (All-beh
 
 -- the place of an item for one place, and the last one of one for a word
 pub place_within : (n item : ℕ) → item % 2 ≡ 0 → All (λ place. place < n) (places_of_item item) → item / 2 < n
-place_within n item even all = All-head (λ place. place < n) (item / 2) [] (subst (All (λ place. place < n)) (item_place item even) all)
+place_within n item even all = (rw (item_place item even) at all) 0 0 (omega arith)
 
 pub word_within : (n item : ℕ) → item % 2 ≡ 1 → All (λ place. place < n) (places_of_item item) → item / 2 + 4 ≤ n
-word_within n item odd all =
-    let P = λ (place : ℕ). place < n in
-    let p = item / 2 in
-    let row = subst (All P) (item_word item odd) all in
-    let last = All-head P (p + 1 + 1 + 1) [] (All-tail P (p + 1 + 1) ((p + 1 + 1 + 1) ∷ []) (All-tail P (p + 1) ((p + 1 + 1) ∷ (p + 1 + 1 + 1) ∷ []) (All-tail P p ((p + 1) ∷ (p + 1 + 1) ∷ (p + 1 + 1 + 1) ∷ []) row))) in
-    omega (arith, last)
+word_within n item odd all = let last = (rw (item_word item odd) at all) 3 0 (omega arith) in omega (arith, last)
 
 -- ---- items made untouched
 
 with_without : (n : ℕ) (statuses : List Status) (place : ℕ) → with_statuses statuses place Untouched n ≡ without statuses (places_from place n)
 with_without zero statuses place = refl
-with_without (suc n) statuses place = with_without n (slice_set statuses place Untouched) (place + 1) ∙ without-set statuses place (places_from (place + 1) n)
+with_without (suc n) statuses place = rw (with_without n (slice_set statuses place Untouched) (place + 1), without-set statuses place (places_from (place + 1) n))
 
 pub without_word : (statuses after : List Status) (item : ℕ) → item % 2 ≡ 1 → after ≡ with_statuses statuses (item / 2) Untouched 4 → after ≡ without statuses (places_of_item item)
-without_word statuses after item odd is = is ∙ with_without 4 statuses (item / 2) ∙ ap (without statuses) (sym (item_word item odd))
+without_word statuses after item odd is = rw (is, item_word item odd) (with_without 4 statuses (item / 2))
 
 pub without_place : (marks : List ℕ) (item : ℕ) → item % 2 ≡ 0 → statuses_of (slice_set marks (item / 2) 3) ≡ without (statuses_of marks) (places_of_item item)
-without_place marks item even = map-set status_of marks (item / 2) 3 ∙ ap (without (statuses_of marks)) (sym (item_place item even))
+without_place marks item even = rw (map-set, item_place item even)
 
 -- one item more
 pub without_more : (statuses after first : List Status) (items : List ℕ) (k d : ℕ) → k < length items → after ≡ without statuses (places_of_item (slice_index_or items k d))
     → without statuses (places_of (drop k items)) ≡ first → without after (places_of (drop (k + 1) items)) ≡ first
-without_more statuses after first items k d within is so_far =
-    let item = slice_index_or items k d in
-    ap (λ (list : List Status). without list (places_of (drop (k + 1) items))) is
-    ∙ without-swap statuses (places_of_item item) (places_of (drop (k + 1) items))
-    ∙ ap (λ (list : List ℕ). without statuses (places_of list)) (sym (drop_more items k d within))
-    ∙ so_far
+without_more statuses after first items k d within is so_far = rw (is, without-swap) (rw (drop_more items k d within) at so_far)
 
 -- ---- the last place taken back
 
@@ -130,22 +103,7 @@ pop_step all old new place cut is =
       ap (drop (length new)) split ∙ drop_at new (place ∷ rest) (length new) refl,
     )
 
--- one place more is untouched again
-pub back_more : (first : List Status) (marks rest more : List ℕ) (place : ℕ) → statuses_of marks ≡ without first rest → more ≡ place ∷ rest
-    → statuses_of (slice_set marks place 3) ≡ without first more
-back_more first marks rest more place so_far is =
-    map-set status_of marks place 3 ∙ ap (λ (list : List Status). slice_set list place Untouched) so_far ∙ sym (ap (without first) is)
-
--- and has the start's byte
-pub given_more : (start first bytes rest more : List ℕ) (place byte : ℕ) → bytes ≡ given start first rest → byte ≡ slice_index start place → more ≡ place ∷ rest
-    → slice_set bytes place byte ≡ given start first more
-given_more start first bytes rest more place byte so_far read is =
-    ap (λ (list : List ℕ). slice_set list place byte) so_far ∙ ap (slice_set (given start first rest) place) read ∙ sym (ap (given start first) is)
-
 -- the places so far, and those of one item more
 pub places_of-take : (items : List ℕ) (k d : ℕ) → k < length items
     → places_of (take (k + 1) items) ≡ places_of (take k items) ++ places_of_item (slice_index_or items k d)
-places_of-take items k d within =
-    let item = slice_index_or items k d in
-    ap places_of (take_more items k d within) ∙ places_of-append (take k items) (item ∷ [])
-    ∙ ap (λ (list : List ℕ). places_of (take k items) ++ list) (append-nil (places_of_item item))
+places_of-take items k d within = rw (take_more items k d within) (places_of-more (take k items) _ (slice_index_or items k d) refl)

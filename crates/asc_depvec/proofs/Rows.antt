@@ -1,11 +1,11 @@
 -- Places one after another of which none was touched before, or each was only read: what a touch of all of them leaves.
-use Rattle.std.proofs.Common.{◌≡◌, ℕ, zero, suc, ◌+◌, ◌<◌, ◌≤◌, false, List, [], ◌∷◌, ◌++◌, length, refl, sym, ap, subst, ◌∙◌, slice_index, slice_set, arith, append_assoc, if◌then◌else◌}
+use Rattle.std.proofs.Common.{◌≡◌, ℕ, zero, suc, ◌+◌, ◌<◌, ◌≤◌, false, List, [], ◌∷◌, ◌++◌, length, refl, sym, ap, ◌∙◌, slice_index, slice_set, arith, append_assoc}
 use Rattle.std.proofs.lemmas.List.{append-nil, get_or-set_other, map-set, set-get_or}
 use Rattle.asc_model.specs.declared.status.Status.{Status}
 use Rattle.asc_model.specs.declared.status.Status.TheVariants.{Untouched, Read, Written, ReadWritten}
 use Rattle.asc_model.specs.State.{State}
 use Rattle.asc_model.specs.Places.{bytes_after, cells, places_from}
-use Rattle.asc_shape.specs.Face.{Face, Told, is_untouched, status_after_read, status_after_write, face_after_read, face_after_put, face_after_reads, face_after_puts}
+use Rattle.asc_shape.specs.Face.{Face, Told, is_untouched, face_after_read, face_after_put, face_after_reads, face_after_puts}
 use Rattle.asc_shape.proofs.Guesses.{bytes_at}
 use Rattle.asc_depvec.specs.Tracer.{HaveStatus}
 use Rattle.asc_depvec.specs.Inside.{noted, status_of, statuses_of, with_statuses}
@@ -19,8 +19,7 @@ told state cap statuses touched = record { state = state; marks = Told cap statu
 bytes_at-set : (n : ℕ) (bytes : List ℕ) (place k byte : ℕ) → k < place → bytes_at (slice_set bytes k byte) place n ≡ bytes_at bytes place n
 bytes_at-set zero bytes place k byte before = refl
 bytes_at-set (suc n) bytes place k byte before =
-    ap (λ (b : ℕ). b ∷ bytes_at (slice_set bytes k byte) (place + 1) n) (get_or-set_other bytes k place byte 0 (omega arith))
-    ∙ ap (λ (list : List ℕ). slice_index bytes place ∷ list) (bytes_at-set n bytes (place + 1) k byte (omega arith))
+    rw (get_or-set_other bytes k place byte 0 (omega arith), bytes_at-set n bytes (place + 1) k byte (omega arith))
 
 -- bytes put where they stand
 pub put-same : (n : ℕ) (bytes : List ℕ) (place : ℕ) → bytes_after bytes (cells place (bytes_at bytes place n)) ≡ bytes
@@ -43,8 +42,7 @@ reads_new zero state cap statuses touched place all = ap (told state cap statuse
 reads_new (suc n) state cap statuses touched place all =
     let first = slice_index state.bytes place in
     let once : face_after_read (told state cap statuses touched) place ≡ told state cap (slice_set statuses place Read) (touched ++ (place, first) ∷ []) =
-    ap (λ (s : Status). told state cap (slice_set statuses place (status_after_read s)) (if is_untouched s then touched ++ (place, first) ∷ [] else touched))
-    (all place (omega arith) (omega arith)) in
+    rw (all place (omega arith) (omega arith)) in
     ap (λ (f : Face). face_after_reads f (places_from (place + 1) n)) once
     ∙ reads_new n state cap (slice_set statuses place Read) (touched ++ (place, first) ∷ []) (place + 1) (status_behind n statuses Untouched place Read all)
     ∙ ap (told state cap (with_statuses statuses place Read (suc n))) (append_assoc touched ((place, first) ∷ []) (cells (place + 1) (bytes_at state.bytes (place + 1) n)))
@@ -60,8 +58,7 @@ puts_new (byte ∷ row) state cap statuses touched place all =
     let first = slice_index state.bytes place in
     let later : State = record state { bytes = slice_set state.bytes place byte } in
     let once : face_after_put (told state cap statuses touched) place byte ≡ told later cap (slice_set statuses place Written) (touched ++ (place, first) ∷ []) =
-    ap (λ (s : Status). told later cap (slice_set statuses place (status_after_write s)) (if is_untouched s then touched ++ (place, first) ∷ [] else touched))
-    (all place (omega arith) (omega arith)) in
+    rw (all place (omega arith) (omega arith)) in
     let written = bytes_after state.bytes (cells place (byte ∷ row)) in
     ap (λ (f : Face). face_after_puts f (cells (place + 1) row)) once
     ∙ puts_new row later cap (slice_set statuses place Written) (touched ++ (place, first) ∷ []) (place + 1) (status_behind n statuses Untouched place Written all)
@@ -72,15 +69,12 @@ puts_new (byte ∷ row) state cap statuses touched place all =
 -- marks that fit their places do so after a touch of untouched places
 pub Fits-new : (m n : ℕ) (start : List ℕ) (statuses : List Status) (places : List ℕ) (place : ℕ) (status : Status) → is_untouched status ≡ false → place + m ≤ n
     → HaveStatus statuses Untouched place m → Fits n statuses (noted start places) → Fits n (with_statuses statuses place status m) (noted start (places ++ places_from place m))
-Fits-new zero n start statuses places place status touches within all fits = subst (λ (list : List ℕ). Fits n statuses (noted start list)) (sym (append-nil places)) fits
+Fits-new zero n start statuses places place status touches within all fits = rw append-nil fits
 Fits-new (suc m) n start statuses places place status touches within all fits =
-    let byte = slice_index start place in
-    let once = subst (λ (s : Status). Fits n (slice_set statuses place status) (if is_untouched s then noted start places ++ (place, byte) ∷ [] else noted start places))
-    (all place (omega arith) (omega arith))
-    (FitPlaces-touch n statuses (noted start places) place byte status (omega arith) touches fits) in
-    subst (λ (list : List ℕ). Fits n (with_statuses statuses place status (suc m)) (noted start list)) (append_assoc places (place ∷ []) (places_from (place + 1) m))
+    let once = FitPlaces-touch n statuses (noted start places) place (slice_index start place) status (omega arith) touches fits in
+    rw (append_assoc places (place ∷ []) (places_from (place + 1) m)) at
     (Fits-new m n start (slice_set statuses place status) (places ++ place ∷ []) (place + 1) status touches (omega arith) (status_behind m statuses Untouched place status all)
-    (subst (λ (list : List (ℕ × ℕ)). Fits n (slice_set statuses place status) list) (sym (noted-append start places (place ∷ []))) once))
+    (rw noted-append (rw (all place (omega arith) (omega arith)) at once)))
 
 -- puts at places that were only read
 pub puts_read : (row : List ℕ) (state : State) (cap : ℕ) (statuses : List Status) (touched : List (ℕ × ℕ)) (place : ℕ) → HaveStatus statuses Read place (length row)
@@ -92,8 +86,7 @@ puts_read (byte ∷ row) state cap statuses touched place all =
     let first = slice_index state.bytes place in
     let later : State = record state { bytes = slice_set state.bytes place byte } in
     let once : face_after_put (told state cap statuses touched) place byte ≡ told later cap (slice_set statuses place ReadWritten) touched =
-    ap (λ (s : Status). told later cap (slice_set statuses place (status_after_write s)) (if is_untouched s then touched ++ (place, first) ∷ [] else touched))
-    (all place (omega arith) (omega arith)) in
+    rw (all place (omega arith) (omega arith)) in
     ap (λ (f : Face). face_after_puts f (cells (place + 1) row)) once
     ∙ puts_read row later cap (slice_set statuses place ReadWritten) touched (place + 1) (status_behind (length row) statuses Read place ReadWritten all)
 
@@ -103,28 +96,13 @@ pub Fits-read : (m n : ℕ) (statuses : List Status) (touched : List (ℕ × ℕ
 Fits-read zero n statuses touched place within all fits = fits
 Fits-read (suc m) n statuses touched place within all fits =
     Fits-read m n (slice_set statuses place ReadWritten) touched (place + 1) (omega arith) (status_behind m statuses Read place ReadWritten all)
-    (subst (λ (s : Status). Fits n (slice_set statuses place ReadWritten) (if is_untouched s then touched ++ (place, 0) ∷ [] else touched))
-    (all place (omega arith) (omega arith))
-    (FitPlaces-touch n statuses touched place 0 ReadWritten (omega arith) refl fits))
+    (rw (all place (omega arith) (omega arith)) at (FitPlaces-touch n statuses touched place 0 ReadWritten (omega arith) refl fits))
 
 -- four marks set, one after another
 pub statuses-set_4 : (marks : List ℕ) (place mark : ℕ)
     → statuses_of (slice_set (slice_set (slice_set (slice_set marks place mark) (place + 1) mark) (place + 2) mark) (place + 3) mark)
     ≡ with_statuses (statuses_of marks) place (status_of mark) 4
 statuses-set_4 marks place mark =
-    let one = slice_set marks place mark in
-    let two = slice_set one (place + 1) mark in
-    let three = slice_set two (place + 2) mark in
-    let s = status_of mark in
-    map-set status_of three (place + 3) mark
-    ∙ ap (λ (list : List Status). slice_set list (place + 3) s) (map-set status_of two (place + 2) mark
-    ∙ ap (λ (list : List Status). slice_set list (place + 2) s) (map-set status_of one (place + 1) mark
-    ∙ ap (λ (list : List Status). slice_set list (place + 1) s) (map-set status_of marks place mark)))
-    ∙ ap (λ (k : ℕ). slice_set (slice_set (slice_set (slice_set (statuses_of marks) place s) (place + 1) s) k s) (place + 3) s) (shift place)
-    ∙ ap (λ (k : ℕ). slice_set (slice_set (slice_set (slice_set (statuses_of marks) place s) (place + 1) s) (place + 1 + 1) s) k s) (shift_more place)
-  where
-    shift : (n : ℕ) → n + 2 ≡ n + 1 + 1
-    shift n = omega arith
-
-    shift_more : (n : ℕ) → n + 3 ≡ n + 1 + 1 + 1
-    shift_more n = omega arith
+    let second : place + 2 ≡ place + 1 + 1 = omega arith in
+    let third : place + 3 ≡ place + 1 + 1 + 1 = omega arith in
+    rw (map-set, map-set, map-set, map-set, second, third)

@@ -2,17 +2,17 @@
 use Rattle.std.specs.Prelude.{◌≡◌, ℕ, ◌<◌, ◌≤◌, List, All, suc, length, map, slice_index}
 use Rattle.asc_model.specs.State.{State}
 use Rattle.asc_model.specs.declared.status.Status.TheVariants.{Untouched}
-use Rattle.asc_model.specs.Step.{At, next}
+use Rattle.asc_model.specs.Step.{Went, next}
 use Rattle.asc_model.specs.Plain.{plain}
 use Rattle.asc_model.specs.Places.{places_read, writes}
 use Rattle.asc_shape.specs.Face.{FitPlaces, status_at, face_after_reads, face_after_puts}
 use Rattle.asc_depvec.specs.Tracer.{Tracing, cap_of, face_of, undone, start_of_face}
 use Rattle.asc_depvec.specs.Dependency.{status_of}
 
--- Reads, and nothing else since a mark, that are taken back leave what code saw at the mark.
+-- Reads, and nothing else since then, that are taken back leave what code saw before.
 abbrev pub ReadsAreUndone : Type 0
-ReadsAreUndone = (marked now : Tracing) (places : List ℕ) → face_of now ≡ face_after_reads (face_of marked) places
-    → face_of (undone now (length marked.touched)) ≡ face_of marked
+ReadsAreUndone = (before now : Tracing) (places : List ℕ) → face_of now ≡ face_after_reads (face_of before) places
+    → face_of (undone now (length before.touched)) ≡ face_of before
 
 -- where a tracer started stays the same through reads and then puts of places of its state
 abbrev pub StartsStay : Type 0
@@ -47,8 +47,8 @@ HasStatusesOf n start t =
 -- A tracer that stands where n steps of a state lead, with their statuses, has after one step more, which goes on,
 -- those of n + 1 steps.
 abbrev pub StatusesFollow : Type 0
-StatusesFollow = (n : ℕ) (start after : State) (t later : Tracing) → plain n start ≡ At t.state
-    → next t.state ≡ At after → FitPlaces (length t.state.bytes) (face_of t).marks
+StatusesFollow = (n : ℕ) (start after : State) (t later : Tracing) → plain n start ≡ Went t.state
+    → next t.state ≡ Went after → FitPlaces (length t.state.bytes) (face_of t).marks
     → HasStatusesOf n start t
     → face_of later ≡ face_after_puts (face_after_reads (face_of t) (places_read t.state)) (writes t.state)
     → HasStatusesOf (suc n) start later

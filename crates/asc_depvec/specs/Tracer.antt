@@ -60,13 +60,13 @@ abbrev pub untouch : List Status → List (ℕ × ℕ) → List Status
 untouch statuses [] = statuses
 untouch statuses (noted ∷ rest) = slice_set (untouch statuses rest) noted.0 Untouched
 
--- The first touches since a mark taken back: the list is cut to its length at the mark, and each place cut off is
+-- The touched places behind the first `count` taken back: the list is cut there, and each place cut off is
 -- Untouched again and has the byte from before its first touch. No other byte and no other status changes.
-abbrev pub undone : Tracing → (mark : ℕ) → Tracing
-undone t mark = record t {
-  state = record t.state { bytes = bytes_after t.state.bytes (drop mark t.touched) };
-  statuses = untouch t.statuses (drop mark t.touched);
-  touched = take mark t.touched;
+abbrev pub undone : Tracing → (count : ℕ) → Tracing
+undone t count = record t {
+  state = record t.state { bytes = bytes_after t.state.bytes (drop count t.touched) };
+  statuses = untouch t.statuses (drop count t.touched);
+  touched = take count t.touched;
 }
 
 -- The places of an item of the list of touched places: where it is odd those of a word, and else one.

@@ -2,8 +2,8 @@
 
 ghost use Rattle.asc_depvec.specs.Laws.{LimitsStay, ReadsAreUndone, StartsStay, StartsAreTold, NoStatuses, StatusesFollow};
 
-/// Where nothing but reads came after a mark, `undo` of that mark leaves what code saw at the mark: each status and the
-/// list of touched places are as they were.
+/// Where nothing but reads came since, `undo` leaves what code saw before: each status and the list of touched places are as
+/// they were.
 pub fn reads_are_undone()
     ensures { ReadsAreUndone }
 {}

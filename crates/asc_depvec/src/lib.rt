@@ -7,7 +7,6 @@ mod touched;
 mod tracer;
 mod unfilled;
 
-pub use asc_shape::Status;
 pub use bitmap::Block;
 pub use laws::{
     limits_stay, no_statuses, reads_are_undone, starts_are_told, starts_stay, statuses_follow,

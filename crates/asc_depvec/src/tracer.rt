@@ -15,8 +15,9 @@ ghost use Rattle.asc_depvec.specs.Inside.{AreWritten, HaveMark, TellAmong, TellN
 use crate::bitmap::{Block, set_items, take_blocks};
 use crate::touched::Touched;
 use crate::unfilled::Unfilled;
+use asc_model::Status;
 use asc_outside::Memory;
-use asc_shape::{Bytes, Guess, Shape, Status, Words, get_by_bytes, put_by_bytes};
+use asc_shape::{Bytes, Guess, Shape, Words, get_by_bytes, put_by_bytes};
 use std::alloc::Global;
 use std::marker::Model;
 
@@ -260,19 +261,19 @@ impl Tracer {
 
     /// How many places are touched, for `undo`. A caller's proof learns from it what holds of every tracer.
     #[inline]
-    pub fn mark(&self) -> usize
-        ensures mark { result ≡ length self.now.touched }
+    pub fn touched_count(&self) -> usize
+        ensures count { result ≡ length self.now.touched }
         ensures tracer { IsTracing self.now }
     {
         self.touched.len()
     }
 
-    /// Makes the places that were first touched since a mark untouched again, with the bytes that they had. Where they
-    /// were only read, and nothing was put since, all is as it was at the mark. It costs what was touched since the start,
-    /// and not since the mark alone. Registers of a word may be untouched again, so no word is settled any more.
-    pub fn undo(&mut self, mark: usize)
-        requires { mark ≤ length self.old.touched }
-        ensures { self.new ≡ undone self.old mark }
+    /// Makes the touched places behind the first `count` untouched again, with the bytes that they had. Where they were
+    /// only read, and nothing was put since so many were touched, all is as it was then. It costs what was touched since
+    /// the start, and not since then alone. Registers of a word may be untouched again, so no word is settled any more.
+    pub fn undo(&mut self, count: usize)
+        requires { count ≤ length self.old.touched }
+        ensures { self.new ≡ undone self.old count }
     {
         // That it is a state.
         let _ = self.start.shape();
@@ -282,7 +283,7 @@ impl Tracer {
             &mut self.bytes,
             &mut self.marks,
             &mut self.touched,
-            mark,
+            count,
         );
     }
 
@@ -636,23 +637,23 @@ fn forget_place(marks: &mut [u8], place: u32)
     }
 }
 
-// Takes the places behind the first `mark` off the list, and makes them untouched with the start's bytes, the last one
+// Takes the places behind the first `count` off the list, and makes them untouched with the start's bytes, the last one
 // first.
-fn take_back(start: &Guess, bytes: &mut [u8], marks: &mut [u8], touched: &mut Touched, mark: usize)
-    requires mark { mark ≤ length (places_of touched.old.items) }
+fn take_back(start: &Guess, bytes: &mut [u8], marks: &mut [u8], touched: &mut Touched, count: usize)
+    requires count { count ≤ length (places_of touched.old.items) }
     requires low { length marks.old ≤ 2 ^ 30 }
     requires start { length_of start.now.shape ≡ length marks.old }
     requires bytes { length bytes.old ≡ length marks.old }
     requires places { All (λ place. place < length marks.old) (places_of touched.old.items) }
     ensures bytes { bytes.new
-        ≡ given start.now.bytes bytes.old (drop mark (places_of touched.old.items)) }
+        ≡ given start.now.bytes bytes.old (drop count (places_of touched.old.items)) }
     ensures statuses { statuses_of marks.new
-        ≡ without (statuses_of marks.old) (drop mark (places_of touched.old.items)) }
+        ≡ without (statuses_of marks.old) (drop count (places_of touched.old.items)) }
     ensures less { TellNoMore marks.old marks.new }
-    ensures places { places_of touched.new.items ≡ take mark (places_of touched.old.items) }
+    ensures places { places_of touched.new.items ≡ take count (places_of touched.old.items) }
     ensures cap { touched.new.cap ≡ touched.old.cap }
 {
-    while touched.len() > mark {
+    while touched.len() > count {
         let place = touched.pop();
         marks[place as usize] = UNTOUCHED;
         bytes[place as usize] = start.byte(place);

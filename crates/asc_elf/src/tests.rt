@@ -1,7 +1,8 @@
 ghost use Rattle.std.specs.Prelude.{◌≡◌};
 
 use crate::{ElfFault, read};
-use asc_shape::{State, Version};
+use asc_model::Version;
+use asc_shape::State;
 use std::test::Fail;
 
 // One segment of three instructions at 0x10000, where the program begins.

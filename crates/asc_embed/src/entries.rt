@@ -4,7 +4,7 @@ ghost use Rattle.std.specs.Arc.{arc_value};
 ghost use Rattle.asc_model.specs.Entry as model;
 ghost use Rattle.asc_model.specs.Entry.{Matches, entry_of};
 ghost use Rattle.asc_model.specs.Plain.{plain};
-ghost use Rattle.asc_model.specs.Step.{At};
+ghost use Rattle.asc_model.specs.Step.{Went};
 
 use asc_depvec::Tracer;
 use asc_outside::Memory;
@@ -56,7 +56,7 @@ pub fn keep(
 
 /// Puts the first of these entries that matches a state, and answers how many steps it stands for.
 pub fn jump(entries: &[Arc<Entry>], state: &mut State) -> Option<u64>
-    ensures some { IfSome result (λ n. plain n state.old ≡ At state.new) }
+    ensures some { IfSome result (λ n. plain n state.old ≡ Went state.new) }
     ensures none { IsNone result → state.new ≡ state.old }
     ensures unmatched { IsNone result → All (λ entry. Matches (arc_value entry) state.old → ⊥) entries.now }
 {

@@ -17,10 +17,11 @@ mod tests;
 mod walk;
 
 use crate::walk::{MOST_STEPS, walk};
-use asc_calls::{Calls, Served};
+use asc_calls::{Calls, Devices, Served};
 use asc_elf::read;
+use asc_model::Version;
 use asc_outside::{Memory, Sink, Source};
-use asc_shape::{State, Steps, Version};
+use asc_shape::{State, Steps};
 use asc_step::Stepped;
 use asc_streams::{StreamSink, StreamSource};
 use asc_traj::{Entry, Stop};
@@ -85,9 +86,11 @@ fn run<L: Ledger>(rt: &HostRuntime, blank: Blank) -> Result<u8, Trouble>
     let mut guest = Guest {
         state,
         calls: Calls::new(image.low(), image.high()),
-        input: StreamSource::new(rt.stdin()),
-        out: StreamSink::new(rt.stdout()),
-        err: StreamSink::new(rt.stderr()),
+        devices: Devices::new(
+            StreamSource::new(rt.stdin()),
+            StreamSink::new(rt.stdout()),
+            StreamSink::new(rt.stderr()),
+        ),
         steps: Steps::<L>::new(blank),
         entries: Vec::new(rt.alloc()),
         executed: 0,
@@ -121,12 +124,10 @@ fn words(rt: &HostRuntime) -> Result<(String, u32), Trouble> {
 
 /// A program on its way, with its devices, the entries of laps that it made, and its counts of steps.
 #[derive(Drop)]
-struct Guest<I, O, E, L: Ledger> {
+struct Guest<I: Source, O: Sink, E: Sink, L: Ledger> {
     state: State,
     calls: Calls,
-    input: I,
-    out: O,
-    err: E,
+    devices: Devices<I, O, E>,
     steps: Steps<L>,
     entries: Vec<Arc<Entry>>,
     executed: u64,
@@ -165,12 +166,7 @@ impl<I: Source, O: Sink, E: Sink, L: Ledger> Guest<I, O, E, L> {
 
     /// Serves the call at which the program stands.
     fn serve(&mut self) -> Served {
-        self.calls.serve(
-            &mut self.state,
-            &mut self.input,
-            &mut self.out,
-            &mut self.err,
-            &mut self.steps,
-        )
+        self.calls
+            .serve(&mut self.state, &mut self.devices, &mut self.steps)
     }
 }

@@ -1,9 +1,8 @@
 //! Steps of a state, and jumps in their place.
 ghost use Rattle.std.specs.Prelude.{◌≡◌, ◌≢◌, ◌+◌, ◌-◌, ◌^◌, ◌<◌, ◌≤◌, IfOk};
 ghost use Rattle.asc_model.specs.Plain.{plain};
-ghost use Rattle.asc_model.specs.Step.{At, next};
+ghost use Rattle.asc_model.specs.Step.{Went, next};
 ghost use Rattle.asc_step.specs.Step.{stepped_of};
-ghost use Rattle.asc_step.specs.declared.stepped.Stepped.TheVariants.{Went};
 
 use crate::entries::{jump, keep};
 use asc_outside::Memory;
@@ -40,9 +39,9 @@ pub fn walk<L: Ledger>(
     requires laps { 1 ≤ stop.now.laps }
     requires span { 1 ≤ stop.now.span }
     ensures goes { IfOk result (λ walked. walked.jumped < 2 ^ 64 - 1
-        → plain (walked.executed + walked.jumped) state.old ≡ At state.new) }
+        → plain (walked.executed + walked.jumped) state.old ≡ Went state.new) }
     ensures counter { IfOk result (λ walked. steps.new ≡ steps.old + walked.executed) }
-    ensures ends { IfOk result (λ walked. walked.ended ≢ Went → walked.ended ≡ stepped_of (next state.new)) }
+    ensures ends { IfOk result (λ walked. walked.ended ≢ Stepped.Went → walked.ended ≡ stepped_of (next state.new)) }
 {
     let mut executed = 0;
     let mut jumped: u64 = 0;

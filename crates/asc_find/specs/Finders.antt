@@ -1,12 +1,12 @@
 -- What the finders of this crate are.
 use Rattle.std.specs.Prelude.{ℕ, Bool, false, nat_lt, List, [], ◌∷◌, ◌++◌, length, Option, Some, None, if◌then◌else◌}
 use Rattle.asc_model.specs.Entry.{Entry}
-use Rattle.asc_find.specs.Finder.{Tally}
+use Rattle.asc_find.specs.Finder.{Jumps}
 
 -- a list of entries, and what was counted over it
 pub record Listed : Type 0 where
   pub entries : List Entry
-  pub tally : Tally
+  pub jumps : Jumps
 
 -- the first replies, at most so many, and whether they are all
 pub record Notes : Type 0 where

@@ -1,3 +1,4 @@
-pub mod Finder
-pub mod Finders
 pub mod Serial
+pub mod Finder
+pub mod Helper
+pub mod Finders

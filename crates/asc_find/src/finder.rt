@@ -3,7 +3,7 @@ ghost use Rattle.std.specs.Arc.{arc_value};
 ghost use Rattle.asc_traj.specs.Content.{longest};
 ghost use Rattle.asc_find.specs.Serial.{Serial, serial_reply};
 ghost use Rattle.asc_traj.specs.Jump.{IsJump};
-ghost use Rattle.asc_find.specs.Finder.{Tally, tally_after, Tells, Plan};
+ghost use Rattle.asc_find.specs.Finder.{Aid, bare_aid, jumps_after, Tells};
 
 use asc_shape::State;
 use asc_traj::{Entry, jump_longest};
@@ -12,42 +12,33 @@ use std::sync::Arc;
 
 /// Finds jumps of states, which are plain runs.
 pub trait Finder {
-    /// How often it was asked, how many steps it gave, and how often it found a jump.
-    ghost tally: { Self → Tally };
-
-    /// Its replies so far, where it tells them.
-    ghost replies: { Self → Option (List (Option ℕ)) };
-
-    /// What was made for it.
-    ghost plan: { Self → Plan };
-
-    /// The machine that it is, where it tells that.
-    ghost machine: { Self → Option Serial };
+    /// What it tells: how often it was asked and what it gave, its replies, what was made for it, and the machine that it is.
+    ghost aid: { Self → Aid };
 
     /// Jumps ahead by at most `left` steps, and answers by how many; where it finds no jump the state stays.
     fn jump(&mut self, state: &mut State, left: u64) -> Option<u64>
         requires left { left ≤ 2 ^ 40 }
-        requires asked { (tally self.old).asked < 2 ^ 62 }
-        requires given { (tally self.old).given < 2 ^ 62 }
+        requires asked { (aid self.old).jumps.asked < 2 ^ 62 }
+        requires given { (aid self.old).jumps.given < 2 ^ 62 }
         ensures jump { IsJump result left state.old state.new }
-        ensures tally { tally self.new ≡ tally_after (tally self.old) result }
-        ensures replies { Tells (result ∷ []) (replies self.old) (replies self.new) }
-        ensures plan { plan self.new ≡ plan self.old }
-        ensures machine { machine self.new ≡ machine self.old }
-        ensures longest { (m : Serial) → machine self.old ≡ Some m → result ≡ serial_reply m state.old left };
+        ensures jumps { (aid self.new).jumps ≡ jumps_after (aid self.old).jumps result }
+        ensures replies { Tells (result ∷ []) (aid self.old).replies (aid self.new).replies }
+        ensures plan { (aid self.new).plan ≡ (aid self.old).plan }
+        ensures machine { (aid self.new).machine ≡ (aid self.old).machine }
+        ensures longest { (m : Serial) → (aid self.old).machine ≡ Some m → result ≡ serial_reply m state.old left };
 
     /// How often it was asked.
     fn asked(&self) -> u64
-        ensures { result ≡ (tally self.now).asked };
+        ensures { result ≡ (aid self.now).jumps.asked };
 
     /// How many steps it gave.
     fn given(&self) -> u64
-        ensures { result ≡ (tally self.now).given };
+        ensures { result ≡ (aid self.now).jumps.given };
 
     /// How often it found a jump.
     fn hits(&self) -> u64
-        ensures hits { result ≡ (tally self.now).hits }
-        ensures few { result ≤ (tally self.now).asked };
+        ensures hits { result ≡ (aid self.now).jumps.hits }
+        ensures few { result ≤ (aid self.now).jumps.asked };
 }
 
 /// It finds no jump.
@@ -76,15 +67,7 @@ impl Nothing {
 }
 
 impl Finder for Nothing {
-    ghost use Rattle.std.specs.Prelude.{None};
-
-    ghost tally = { λ asked. record { asked = asked; given = 0; hits = 0 } };
-
-    ghost replies = { λ _. None };
-
-    ghost plan = { λ _. record { made = 0; refused = 0; full = 0; seen = None; queue = None } };
-
-    ghost machine = { λ _. None };
+    ghost aid = { λ asked. bare_aid (record { asked = asked; given = 0; hits = 0 }) };
 
     fn jump(&mut self, _state: &mut State, _left: u64) -> Option<u64> {
         self.asked += 1;
@@ -122,7 +105,7 @@ impl Model for ListFinder {
 
     ghost view = { λ s. record {
       entries = map arc_value s.entries.items;
-      tally = record { asked = s.asked; given = s.given; hits = s.hits };
+      jumps = record { asked = s.asked; given = s.given; hits = s.hits };
     } };
 
     ghost invariant = { λ s. s.hits ≤ s.asked };
@@ -133,7 +116,7 @@ impl ListFinder {
     pub fn new(entries: Vec<Arc<Entry>>) -> ListFinder
         ensures { result ≡ record {
           entries = map arc_value entries.items;
-          tally = record { asked = 0; given = 0; hits = 0 };
+          jumps = record { asked = 0; given = 0; hits = 0 };
         } }
     {
         ListFinder {
@@ -148,22 +131,16 @@ impl ListFinder {
 impl Finder for ListFinder {
     ghost use Rattle.std.specs.Prelude.{None};
 
-    ghost tally = { λ s. s.tally };
-
-    ghost replies = { λ _. None };
-
-    ghost plan = { λ _. record { made = 0; refused = 0; full = 0; seen = None; queue = None } };
-
-    ghost machine = { λ _. None };
+    ghost aid = { λ s. bare_aid s.jumps };
 
     fn jump(&mut self, state: &mut State, left: u64) -> Option<u64>
         requires left { left ≤ 2 ^ 40 }
-        requires asked { self.old.tally.asked < 2 ^ 62 }
-        requires given { self.old.tally.given < 2 ^ 62 }
+        requires asked { self.old.jumps.asked < 2 ^ 62 }
+        requires given { self.old.jumps.given < 2 ^ 62 }
         ensures entries { self.new.entries ≡ self.old.entries }
         ensures found { result ≡ longest self.old.entries state.old left }
         ensures jump { IsJump result left state.old state.new }
-        ensures tally { self.new.tally ≡ tally_after self.old.tally result }
+        ensures jumps { self.new.jumps ≡ jumps_after self.old.jumps result }
         ensures replies { Tells (result ∷ []) None None }
         ensures plan { Unit {0} }
         ensures machine { Unit {0} }

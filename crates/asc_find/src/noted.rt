@@ -1,7 +1,7 @@
 ghost use Rattle.std.specs.Prelude.{◌≡◌, ◌<◌, ◌≤◌, ◌^◌, ◌∷◌, [], true, Some, IfOk};
 ghost use Rattle.asc_find.specs.Serial.{Serial, serial_reply};
 ghost use Rattle.asc_traj.specs.Jump.{IsJump};
-ghost use Rattle.asc_find.specs.Finder.{tally_after, Tells};
+ghost use Rattle.asc_find.specs.Finder.{jumps_after, Tells};
 ghost use Rattle.asc_find.specs.Finders.{noted_after, told_of};
 
 use crate::Finder;
@@ -80,26 +80,20 @@ impl<F> Noted<F> {
 }
 
 impl<F: Finder> Finder for Noted<F> {
-    ghost tally = { λ n. F.tally n.finder };
-
-    ghost replies = { λ n. told_of n.notes };
-
-    ghost plan = { λ n. F.plan n.finder };
-
-    ghost machine = { λ n. F.machine n.finder };
+    ghost aid = { λ n. record (F.aid n.finder) { replies = told_of n.notes } };
 
     fn jump(&mut self, state: &mut State, left: u64) -> Option<u64>
         requires left { left ≤ 2 ^ 40 }
-        requires asked { (F.tally self.old.finder).asked < 2 ^ 62 }
-        requires given { (F.tally self.old.finder).given < 2 ^ 62 }
+        requires asked { (F.aid self.old.finder).jumps.asked < 2 ^ 62 }
+        requires given { (F.aid self.old.finder).jumps.given < 2 ^ 62 }
         ensures cap { self.new.cap ≡ self.old.cap }
         ensures noted { self.new.notes ≡ noted_after self.old.cap self.old.notes result }
         ensures jump { IsJump result left state.old state.new }
-        ensures tally { F.tally self.new.finder ≡ tally_after (F.tally self.old.finder) result }
+        ensures jumps { (F.aid self.new.finder).jumps ≡ jumps_after (F.aid self.old.finder).jumps result }
         ensures replies { Tells (result ∷ []) (told_of self.old.notes) (told_of self.new.notes) }
-        ensures plan { F.plan self.new.finder ≡ F.plan self.old.finder }
-        ensures machine { F.machine self.new.finder ≡ F.machine self.old.finder }
-        ensures longest { (m : Serial) → F.machine self.old.finder ≡ Some m
+        ensures plan { (F.aid self.new.finder).plan ≡ (F.aid self.old.finder).plan }
+        ensures machine { (F.aid self.new.finder).machine ≡ (F.aid self.old.finder).machine }
+        ensures longest { (m : Serial) → (F.aid self.old.finder).machine ≡ Some m
             → result ≡ serial_reply m state.old left }
     {
         let reply = self.finder.jump(state, left);

@@ -1,17 +1,12 @@
 -- Lemmas on the operations that programs do most.
-use Rattle.std.proofs.Common.{◌≡◌, ℕ, false, List, [], ◌∷◌, ◌++◌, Option, Some, None, ap, ◌∙◌, sym, inl, inr}
+use Rattle.std.proofs.Common.{◌≡◌, ℕ, false, List, [], ◌∷◌, ◌++◌, Option, Some, None, ◌∙◌, sym, inl, inr}
 use Rattle.std.proofs.lemmas.Bool.{cases_Bool, cond-true, cond-false}
 use Rattle.asc_model.specs.declared.version.Version.{Version}
 use Rattle.asc_model.specs.declared.version.Version.TheVariants.{One, Two}
-use Rattle.asc_model.specs.declared.instruction.Op.{Op}
 use Rattle.asc_model.specs.declared.instruction.Instr.{Instr}
 use Rattle.asc_model.specs.Instruction.{Row, decode, find, base_table, atomic_table, fits, operands, op_of}
 use Rattle.asc_isa.specs.Decode.{version_of}
 use Rattle.asc_isa.specs.Likely.{is_likely, likely}
-
--- what is not likely
-pub likely-none : (op : Op) (i : Instr) → op_of i ≡ op → is_likely op ≡ false → None ≡ likely (Some i)
-likely-none op i e h = sym (cond-false (is_likely (op_of i)) (Some i) None (ap is_likely e ∙ h))
 
 none-some : (i : Instr) → Some i ≡ None → ⊥
 none-some i h = cc

@@ -1,4 +1,4 @@
 pub mod Words
 pub mod Rows
 pub mod Frequent
-pub mod ByKind
+pub mod ByEncoding

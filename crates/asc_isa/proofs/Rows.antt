@@ -95,9 +95,6 @@ base_opcodes =
     0b0110111 ∷ 0b0010111 ∷ 0b1101111 ∷ 0b1100111 ∷ 0b1100011 ∷ 0b0000011 ∷ 0b0100011 ∷ 0b0010011 ∷ 0b0110011
     ∷ 0b0001111 ∷ 0b1110011 ∷ []
 
-abbrev pub all_opcodes : List ℕ
-all_opcodes = 0b0101111 ∷ base_opcodes
-
 -- without the atomics a word of their opcode is no instruction
 pub decode-no_atomic : (atomics : Bool) (word : ℕ) → atomics ≡ false → opcode word ≡ 0b0101111 → None ≡ decode (version_of atomics) word
 unfolding decode

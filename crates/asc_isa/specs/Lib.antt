@@ -1,4 +1,4 @@
 pub mod Rows
 pub mod Decode
 pub mod Likely
-pub mod Kinds
+pub mod Encodings

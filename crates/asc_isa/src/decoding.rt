@@ -4,8 +4,8 @@ ghost use Rattle.asc_model.specs.Instruction.{decode, find, fits, opcode, operan
 ghost use Rattle.asc_isa.specs.Decode.{version_of, HasRegisters};
 ghost use Rattle.asc_isa.specs.Rows.{rows_for};
 
+use crate::encoding::{Encoding, encoding_of};
 use crate::fields::{funct5, funct7, rs2};
-use crate::kind::{Kind, kind_of};
 use crate::operands::{b_type, i_type, j_type, r_type, s_type, shift, u_type};
 use asc_model::{Instr, Op};
 
@@ -27,51 +27,51 @@ pub fn decode<K>(word: u32, atomics: bool) -> Option<Instr>
     instruction::<K>(word, atomics)
 }
 
-/// The instruction of a word, by its kind. It is not in `decode`, so that what is said of registers is shown once.
+/// The instruction of a word, by its encoding. It is not in `decode`, so that what is said of registers is shown once.
 #[inline(always)]
 fn instruction<K>(word: u32, atomics: bool) -> Option<Instr>
     ensures { result ≡ decode (version_of atomics) word }
 {
-    match kind_of(word) {
-        Kind::Lui => Some(u_type(Op::Lui, word)),
-        Kind::Auipc => Some(u_type(Op::Auipc, word)),
-        Kind::Jal => Some(j_type(Op::Jal, word)),
-        Kind::Jalr => Some(i_type(Op::Jalr, word)),
-        Kind::Beq => Some(b_type(Op::Beq, word)),
-        Kind::Bne => Some(b_type(Op::Bne, word)),
-        Kind::Blt => Some(b_type(Op::Blt, word)),
-        Kind::Bge => Some(b_type(Op::Bge, word)),
-        Kind::Bltu => Some(b_type(Op::Bltu, word)),
-        Kind::Bgeu => Some(b_type(Op::Bgeu, word)),
-        Kind::Lb => Some(i_type(Op::Lb, word)),
-        Kind::Lh => Some(i_type(Op::Lh, word)),
-        Kind::Lw => Some(i_type(Op::Lw, word)),
-        Kind::Lbu => Some(i_type(Op::Lbu, word)),
-        Kind::Lhu => Some(i_type(Op::Lhu, word)),
-        Kind::Sb => Some(s_type(Op::Sb, word)),
-        Kind::Sh => Some(s_type(Op::Sh, word)),
-        Kind::Sw => Some(s_type(Op::Sw, word)),
-        Kind::Addi => Some(i_type(Op::Addi, word)),
-        Kind::Slti => Some(i_type(Op::Slti, word)),
-        Kind::Sltiu => Some(i_type(Op::Sltiu, word)),
-        Kind::Xori => Some(i_type(Op::Xori, word)),
-        Kind::Ori => Some(i_type(Op::Ori, word)),
-        Kind::Andi => Some(i_type(Op::Andi, word)),
-        Kind::Slli => slli(word),
-        Kind::Srli => srli_or_srai(word),
-        Kind::Add => op_or(word, Op::Add, Op::Sub, Op::Mul),
-        Kind::Sll => op(word, Op::Sll, Op::Mulh),
-        Kind::Slt => op(word, Op::Slt, Op::Mulhsu),
-        Kind::Sltu => op(word, Op::Sltu, Op::Mulhu),
-        Kind::Xor => op(word, Op::Xor, Op::Div),
-        Kind::Srl => op_or(word, Op::Srl, Op::Sra, Op::Divu),
-        Kind::Or => op(word, Op::Or, Op::Rem),
-        Kind::And => op(word, Op::And, Op::Remu),
-        Kind::Fence => Some(Instr::Plain { op: Op::Fence }),
-        Kind::FenceI => Some(Instr::Plain { op: Op::FenceI }),
-        Kind::System => system(word),
-        Kind::Atomic => if atomics { amo(word) } else { None },
-        Kind::Other => None,
+    match encoding_of(word) {
+        Encoding::Lui => Some(u_type(Op::Lui, word)),
+        Encoding::Auipc => Some(u_type(Op::Auipc, word)),
+        Encoding::Jal => Some(j_type(Op::Jal, word)),
+        Encoding::Jalr => Some(i_type(Op::Jalr, word)),
+        Encoding::Beq => Some(b_type(Op::Beq, word)),
+        Encoding::Bne => Some(b_type(Op::Bne, word)),
+        Encoding::Blt => Some(b_type(Op::Blt, word)),
+        Encoding::Bge => Some(b_type(Op::Bge, word)),
+        Encoding::Bltu => Some(b_type(Op::Bltu, word)),
+        Encoding::Bgeu => Some(b_type(Op::Bgeu, word)),
+        Encoding::Lb => Some(i_type(Op::Lb, word)),
+        Encoding::Lh => Some(i_type(Op::Lh, word)),
+        Encoding::Lw => Some(i_type(Op::Lw, word)),
+        Encoding::Lbu => Some(i_type(Op::Lbu, word)),
+        Encoding::Lhu => Some(i_type(Op::Lhu, word)),
+        Encoding::Sb => Some(s_type(Op::Sb, word)),
+        Encoding::Sh => Some(s_type(Op::Sh, word)),
+        Encoding::Sw => Some(s_type(Op::Sw, word)),
+        Encoding::Addi => Some(i_type(Op::Addi, word)),
+        Encoding::Slti => Some(i_type(Op::Slti, word)),
+        Encoding::Sltiu => Some(i_type(Op::Sltiu, word)),
+        Encoding::Xori => Some(i_type(Op::Xori, word)),
+        Encoding::Ori => Some(i_type(Op::Ori, word)),
+        Encoding::Andi => Some(i_type(Op::Andi, word)),
+        Encoding::Slli => slli(word),
+        Encoding::Srli => srli_or_srai(word),
+        Encoding::Add => op_or(word, Op::Add, Op::Sub, Op::Mul),
+        Encoding::Sll => op(word, Op::Sll, Op::Mulh),
+        Encoding::Slt => op(word, Op::Slt, Op::Mulhsu),
+        Encoding::Sltu => op(word, Op::Sltu, Op::Mulhu),
+        Encoding::Xor => op(word, Op::Xor, Op::Div),
+        Encoding::Srl => op_or(word, Op::Srl, Op::Sra, Op::Divu),
+        Encoding::Or => op(word, Op::Or, Op::Rem),
+        Encoding::And => op(word, Op::And, Op::Remu),
+        Encoding::Fence => Some(Instr::Plain { op: Op::Fence }),
+        Encoding::FenceI => Some(Instr::Plain { op: Op::FenceI }),
+        Encoding::System => system(word),
+        Encoding::Atomic => if atomics { amo(word) } else { None },
+        Encoding::Other => None,
     }
 }
 

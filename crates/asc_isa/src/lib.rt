@@ -2,14 +2,13 @@
 #![tactic(auto)]
 
 mod decoding;
+mod encoding;
 mod fields;
-mod kind;
 mod likely;
 mod operands;
 #[cfg(test)]
 mod tests;
 
-pub use asc_model::{Instr, Op};
 pub use decoding::decode;
 pub use likely::decode_likely;
 pub use operands::operation;

@@ -1,6 +1,7 @@
 //! Words and the instructions that they are. Where an instruction stands beside a word, llvm-mc (LLVM 14.0.6) made the
 //! word of it; the other words are written after the manual's encoding.
-use crate::{Instr, Op, decode, decode_likely};
+use crate::{decode, decode_likely};
+use asc_model::{Instr, Op};
 use std::process::Abort;
 
 /// The decoder answers this instruction for a word with the atomics, and that one without. The one of operations that

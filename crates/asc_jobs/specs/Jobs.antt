@@ -15,6 +15,16 @@ pub record Giver : Type 0 where
   -- all jobs, the oldest first
   pub pushed : List Job
 
+-- A queue: in how many parts it was opened, one for its giver and one for each taker, and how many jobs it may hold.
+pub record Queue : Type 0 where
+  pub table : TableId
+  pub parts : ℕ
+  pub capacity : ℕ
+
+-- the queue of a giver
+abbrev pub queue_of : Giver → Queue
+queue_of giver = record { table = giver.queue; parts = giver.opened; capacity = giver.capacity }
+
 -- a taker
 pub record Taker : Type 0 where
   pub queue : TableId

@@ -1,4 +1,3 @@
 pub mod Hands
 pub mod JobRule
 pub mod Jobs
-pub mod Tally

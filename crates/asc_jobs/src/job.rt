@@ -1,4 +1,4 @@
-use crate::Kind;
+use asc_guess::Kind;
 use asc_shape::Snapshot;
 use std::alloc::Global;
 use std::sync::Arc;

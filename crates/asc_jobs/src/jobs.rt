@@ -2,8 +2,9 @@ ghost use Rattle.std.specs.Prelude.{◌≡◌, ◌+◌, ◌<◌, ◌≤◌, ◌^
 ghost use Rattle.asc_jobs.specs.Hands.{join_hands};
 ghost use Rattle.asc_jobs.specs.Jobs.{AreOpened, HasAllParts, after_push, after_pop, hand_of};
 
+use crate::Job;
 use crate::hand::Hand;
-use crate::{Job, Kind};
+use asc_guess::Kind;
 use asc_outside::Memory;
 use asc_shape::Snapshot;
 use crossbeam_queue::protocol::{Join, Lesson, Outcome, Protocol, Split};
@@ -83,7 +84,7 @@ impl Lesson<Job, Hand> for Popped {
     ghost fact = { λ v items. HasAllParts v → v.popped ++ items ≡ v.pushed };
 }
 
-type Queue = RuledArrayQueue<Job, Hand, EachOnce>;
+type JobQueue = RuledArrayQueue<Job, Hand, EachOnce>;
 
 /// A bounded queue of jobs. Its giver and its takers own it together.
 #[derive(Clone, Copy, Debug)]
@@ -96,7 +97,7 @@ pub struct Full;
 /// The only one that pushes jobs into its queue.
 #[derive(Drop)]
 pub struct Giver {
-    queue: Arc<Queue, Global>,
+    queue: Arc<JobQueue, Global>,
     pass: Pass<Job, Hand>,
     next: u64,
 }
@@ -123,7 +124,7 @@ impl Model for Giver {
 /// One of those that pop jobs from their queue.
 #[derive(Drop)]
 pub struct Taker {
-    queue: Arc<Queue, Global>,
+    queue: Arc<JobQueue, Global>,
     pass: Pass<Job, Hand>,
 }
 
@@ -151,7 +152,7 @@ impl Jobs {
         requires takers { (0 < takers) × (takers ≤ 64) }
         ensures { IfOk result (λ r. AreOpened capacity takers r.0 r.1.items) }
     {
-        let (queue, pass) = Queue::ruled(alloc, capacity)?;
+        let (queue, pass) = JobQueue::ruled(alloc, capacity)?;
         let queue = Arc::new(alloc, queue)?;
         let mut giver = Giver {
             queue,

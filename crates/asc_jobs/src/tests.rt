@@ -1,6 +1,8 @@
 ghost use Rattle.std.specs.Prelude.{◌≡◌};
 
-use crate::{Column, Full, Giver, Jobs, Kind, Taker, Tally};
+use crate::{Full, Giver, Jobs, Taker};
+use asc_guess::Kind;
+use asc_model::{Column, Tally};
 use asc_shape::{Shape, Snapshot, State};
 use std::alloc::{AllocError, Global};
 use std::process::Abort;

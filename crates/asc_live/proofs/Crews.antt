@@ -1,17 +1,16 @@
 -- What a walk beside workers comes to.
 use Rattle.std.proofs.Common.{◌≡◌, ℕ, Bool, ◌+◌, [], Option, Some, None, refl, sym, ap, ◌∙◌, arith, length}
 use Rattle.asc_find.specs.declared.guessing.Guessing.{Guessing}
-use Rattle.asc_find.specs.Finder.{Plan, Queue}
-use Rattle.asc_jobs.specs.Jobs.{Giver}
+use Rattle.asc_find.specs.Finder.{Aid, Plan, bare_aid}
+use Rattle.asc_jobs.specs.Jobs.{Queue, Giver, queue_of}
 use Rattle.asc_calls.specs.World.{Outside}
 use Rattle.asc_run.specs.declared.walk.Ended.{Ended}
-use Rattle.asc_run.specs.Helped.{Aid, aid}
-use Rattle.asc_run.specs.Walk.{Walk, tally}
+use Rattle.asc_run.specs.Walk.{Walk, jumps}
 use Rattle.asc_run.proofs.Seeings.{visits-asked}
 use Rattle.asc_cache.specs.Cache.{ShardReaders}
 use Rattle.asc_live.specs.Due.{full_of}
 use Rattle.asc_live.specs.Laws.{new_plan}
-use Rattle.asc_live.specs.Live.{Live, IsLive, new_live, queue_of, plan_of}
+use Rattle.asc_live.specs.Live.{Live, IsLive, new_live, plan_of, told_over}
 use Rattle.asc_live.specs.Crew.{Walks, WentBeside}
 use Rattle.asc_live.specs.declared.crew.Crew.{Crew}
 use Rattle.asc_live.specs.declared.crew.Worked.{Worked}
@@ -19,7 +18,7 @@ use Rattle.asc_live.proofs.LawsHold.{guesses_are_counted}
 
 -- what a helper over the readers of a cache tells
 abbrev pub aid_of : Live ShardReaders → Aid
-aid_of l = aid l.finder.tally None (plan_of l) None
+aid_of l = told_over (bare_aid l.finder.jumps) l
 
 -- ---- the queue of a giver
 
@@ -39,7 +38,7 @@ kept_giver readers giver guessing was now old new l k ended left is walks end =
 
 -- what is known of the walk is known of the crew's work
 pub went : {many : ℕ} {knows : Bool} → (guessing : Guessing) (was now : Walk) (old new : Outside) (readers : ShardReaders) (giver : Giver) (l k : Live ShardReaders) (worked : Worked)
-    → l ≡ new_live readers giver guessing many knows → giver.pushed ≡ [] → readers.tally ≡ tally 0 0 0 → IsLive k
+    → l ≡ new_live readers giver guessing many knows → giver.pushed ≡ [] → readers.jumps ≡ jumps 0 0 0 → IsLive k
     → Walks was now old new (aid_of l) (aid_of k) worked.ended
     → worked.made ≡ length k.pusher.giver.pushed → worked.refused ≡ k.pusher.refused → worked.full ≡ full_of k.pusher
     → length k.pusher.giver.pushed ≡ worked.taken.tally.ran + worked.taken.left
@@ -52,7 +51,7 @@ went {many} {knows} guessing was now old new readers giver l k worked is none to
       last = aid_of k;
       goes = walks.goes;
       fresh = record {
-        tally_is = ap (λ (l : Live ShardReaders). l.finder.tally) is ∙ told;
+        jumps_are = ap (λ (l : Live ShardReaders). l.finder.jumps) is ∙ told;
         made = made_none;
         refused = ap (λ (p : Plan). p.refused) plan;
         full = ap (λ (p : Plan). p.full) plan;
@@ -70,12 +69,12 @@ went {many} {knows} guessing was now old new readers giver l k worked is none to
       few =
           let helped = walks.goes.goes.helped in
           let few = helped.plans.few in
-          let asked = visits-asked walks.goes.goes.visits now.tally (aid_of l).tally (aid_of k).tally helped.tally walks.raised in
+          let asked = visits-asked walks.goes.goes.visits now.jumps (aid_of l).jumps (aid_of k).jumps helped.jumps walks.raised in
           let full_none = ap (λ (p : Plan). p.full) plan in
           omega (arith, few, made, full, made_none, full_none, asked);
       room = λ some.
           let kept = (kept_giver readers giver guessing was now old new l k worked.ended k.pusher.giver is walks refl).1.1 in
           let filled = good.room (omega (arith, some, full)) in
           omega (arith, kept, filled, made, capacity);
-      guesses = λ h. let sum = guesses_are_counted guessing (Some (queue_of giver)) now.tally.asked (plan_of l) (plan_of k) plan walks.goes.seen (sym refused ∙ h) in omega (arith, made, full, sum);
+      guesses = λ h. let sum = guesses_are_counted guessing (Some (queue_of giver)) now.jumps.asked (plan_of l) (plan_of k) plan walks.goes.seen (sym refused ∙ h) in omega (arith, made, full, sum);
     }

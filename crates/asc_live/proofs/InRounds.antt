@@ -8,12 +8,10 @@ use Rattle.asc_guess.specs.Guess.{guess_of}
 use Rattle.asc_traj.specs.declared.made.Made.{Made}
 use Rattle.asc_traj.specs.Made.{IsMade}
 use Rattle.asc_find.specs.declared.guessing.Guessing.{Guessing}
-use Rattle.asc_find.specs.Serial.{Serial}
+use Rattle.asc_find.specs.Serial.{Serial, Task, bounds_at}
 use Rattle.asc_work.specs.Lanes.{Lanes, IsDone}
-use Rattle.asc_run.specs.Serial.{Task, bounds_at}
-use Rattle.asc_run.specs.Helped.{Aid, aid}
 use Rattle.asc_run.specs.VisitedBy.{IsVisit}
-use Rattle.asc_run.specs.SerialHelper.{SerialHelper, IsPlanned, IsSettled, plan_of, told_machine}
+use Rattle.asc_run.specs.SerialHelper.{SerialHelper, IsPlanned, IsSettled, aid_of}
 use Rattle.asc_run.specs.SerialInside.{MakesJob}
 use Rattle.asc_run.proofs.Visiting.{Counts, Works, visit-is, works-more}
 use Rattle.asc_live.specs.Rounds.{AreDone, AreFor, AreThere, HaveRun}
@@ -77,13 +75,13 @@ have_run h old new jobs prev last fits same p q done rest = record {
 
 -- what a plan leaves of the counts
 planned_counts : (number : ℕ) (now : State) (old plan : SerialHelper) → IsPlanned number now old plan → Counts old plan
-planned_counts number now old plan (inl (same, inl is)) = subst (Counts old) (sym is) (record { tally = refl; made = refl; refused = omega arith })
-planned_counts number now old plan (inl (same, inr is)) = subst (Counts old) (sym is) (record { tally = refl; made = omega arith; refused = omega arith })
-planned_counts number now old plan (inr (other, is)) = subst (Counts old) (sym is) (record { tally = refl; made = omega arith; refused = omega arith })
+planned_counts number now old plan (inl (same, inl is)) = subst (Counts old) (sym is) (record { jumps = refl; made = refl; refused = omega arith })
+planned_counts number now old plan (inl (same, inr is)) = subst (Counts old) (sym is) (record { jumps = refl; made = omega arith; refused = omega arith })
+planned_counts number now old plan (inr (other, is)) = subst (Counts old) (sym is) (record { jumps = refl; made = omega arith; refused = omega arith })
 
 -- once all jobs of the plan are settled, the visit is one
 pub visit_done : (number : ℕ) (now left : State) (old plan done : SerialHelper) (i : ℕ) → IsPlanned number now old plan → Works plan done i → i ≡ length plan.jobs → length plan.jobs ≤ 128 → left ≡ now
-    → IsVisit number now left (aid old.tally None (plan_of old) (told_machine old)) (aid done.tally None (plan_of done) (told_machine done))
+    → IsVisit number now left (aid_of old) (aid_of done)
 visit_done number now left old plan done i p w n few stays =
     let c = planned_counts number now old plan p in
     let made = w.made in
@@ -91,7 +89,7 @@ visit_done number now left old plan done i p w n few stays =
     let refused = w.refused in
     let refused_before = c.refused in
     record {
-      tally = w.tally ∙ c.tally;
+      jumps = w.jumps ∙ c.jumps;
       replies = refl;
       plan = record { made = omega (arith, made, made_before); full = omega arith; few = omega (arith, made, made_before, few); refused = omega (arith, refused, refused_before); queue = refl };
       seen = λ before is. absurd (cc);
@@ -99,15 +97,11 @@ visit_done number now left old plan done i p w n few stays =
       machine = visit-is number now old plan done i p w n;
     }
 
--- what a helper tells
-abbrev told : SerialHelper → Aid
-told h = aid h.tally None (plan_of h) (told_machine h)
-
 -- a visit of a state of another shape leaves what is told
-pub visit_elsewhere : (number : ℕ) (now : State) (old plan done : SerialHelper) (i : ℕ) → IsPlanned number now old plan → Works plan done i → i ≡ length plan.jobs → now.shape ≢ old.machine.shape → told done ≡ told old
+pub visit_elsewhere : (number : ℕ) (now : State) (old plan done : SerialHelper) (i : ℕ) → IsPlanned number now old plan → Works plan done i → i ≡ length plan.jobs → now.shape ≢ old.machine.shape → aid_of done ≡ aid_of old
 visit_elsewhere number now old plan done i (inl (same, planned)) w n other = absurd (other same)
 visit_elsewhere number now old plan done i (inr (apart, is)) w n other =
-    ap told (w.none (n ∙ ap (λ (h : SerialHelper). length h.jobs) is) ∙ is)
+    ap aid_of (w.none (n ∙ ap (λ (h : SerialHelper). length h.jobs) is) ∙ is)
 
 -- ---- the loop over the jobs
 

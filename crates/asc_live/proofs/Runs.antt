@@ -1,5 +1,5 @@
 -- The workers of a crew before and after a run.
-use Rattle.std.proofs.Common.{◌≡◌, ℕ, ◌<◌, List, [], ◌∷◌, All, Option, Some, None, length, get_or, refl, sym, ap, subst, ◌∙◌, arith, rules}
+use Rattle.std.proofs.Common.{◌≡◌, ℕ, ◌<◌, List, [], ◌∷◌, All, Option, Some, None, length, get_or, sym, ap, subst, ◌∙◌, arith, rules}
 use Rattle.std.proofs.lemmas.List.{get_or-map, length-map}
 use Rattle.std.proofs.lemmas.List.Elements.{All-nil, All-cons, All-head, All-tail}
 use Rattle.asc_model.specs.Shape.{Shape}
@@ -7,10 +7,9 @@ use Rattle.asc_find.specs.declared.guessing.Guessing.{Guessing}
 use Rattle.asc_calls.specs.World.{Outside}
 use Rattle.asc_cache.specs.Cache.{AreLater, IsOwnReader, ShardReader, ShardReaders, ShardWriter, id_of}
 use Rattle.asc_cache.specs.Insert.{ShardId}
-use Rattle.asc_jobs.specs.Jobs.{Taker}
 use Rattle.asc_run.specs.Walk.{Walk}
 use Rattle.asc_work.specs.Halting.{Flag}
-use Rattle.asc_work.specs.Posts.{HasServed, HaveWorked, IsRehalted, IsTakenIn, Team}
+use Rattle.asc_work.specs.Posts.{IsRehalted, IsTakenIn, Team}
 use Rattle.asc_work.specs.Worker.{Worker}
 use Rattle.asc_work.specs.declared.post.Post.{Post}
 use Rattle.asc_live.specs.Crew.{AreOfSameShards, AreSameWorkers, HasBoundsOf, IsForRun, IsOpenCrew, IsSameWorker, IsTeamOf, IsWriterOf, WentBeside, readers_in, writers_of}
@@ -21,21 +20,6 @@ use Rattle.asc_live.proofs.Meeting.{one_of}
 use Rattle.asc_live.proofs.Opening.{stays_writer}
 
 -- ---- one worker
-
-same_id : (a b : ShardId) → Some a ≡ Some b → a ≡ b
-same_id a b e = cc
-
-same_worked : (identity : ShardWriter → Option ShardId) → ((w : ShardWriter) → identity w ≡ Some (id_of w)) → (w v : Worker ShardWriter Flag) (t u : Option Taker)
-    → HaveWorked identity w t v u → IsSameWorker w v
-same_worked identity is w v (Some t) (Some u) worked = record {
-  shape = worked.shape;
-  laps = worked.laps;
-  span = worked.span;
-  join = worked.join;
-  shard = same_id (id_of v.writer) (id_of w.writer) (sym (is v.writer) ∙ worked.writer ∙ is w.writer);
-}
-same_worked identity is w v (Some t) None worked = absurd worked
-same_worked identity is w v None u worked = absurd worked
 
 pub same_rehalted : (p q : Post ShardWriter Flag) → IsRehalted p q → IsSameWorker p.worker q.worker
 same_rehalted p q is = record {
@@ -70,15 +54,6 @@ pub workers_twice : (one two three : List (Post ShardWriter Flag)) → AreSameWo
 workers_twice one two three a b = record {
   count = b.count ∙ a.count;
   each = λ i d l. same_twice (get_or one i d).worker (get_or two i d).worker (get_or three i d).worker (a.each i d l) (b.each i d (omega (arith, l, a.count)));
-}
-
--- workers that have served are the same
-pub served_workers : (count : Flag → ℕ) (old new : List (Post ShardWriter Flag)) → length new ≡ length old
-    → ((i : ℕ) (d : Post ShardWriter Flag) → i < length old → HasServed count (λ w. Some (id_of w)) (get_or old i d) (get_or new i d))
-    → AreSameWorkers old new
-served_workers count old new size served = record {
-  count = size;
-  each = λ i d l. same_worked (λ w. Some (id_of w)) (λ w. refl) (get_or old i d).worker (get_or new i d).worker (get_or old i d).taker (get_or new i d).taker (served i d l).worked;
 }
 
 -- so they are after a whole run

@@ -7,16 +7,15 @@ use Rattle.std.proofs.lemmas.Bool.Decides.{eqb_tells}
 use Rattle.asc_model.specs.State.{State}
 use Rattle.asc_guess.specs.declared.kind.Kind.TheVariants.{Last, Stride}
 use Rattle.asc_outside.specs.Outside.{one_more}
-use Rattle.asc_jobs.specs.Jobs.{Giver}
+use Rattle.asc_jobs.specs.Jobs.{Giver, queue_of}
 use Rattle.asc_find.specs.declared.guessing.Guessing.{Guessing}
 use Rattle.asc_find.specs.Finder.{Seen}
-use Rattle.asc_run.specs.Helped.{Plans}
-use Rattle.asc_run.specs.Serial.{kinds_of, tasks_of}
-use Rattle.asc_run.specs.Seen.{Sees, seen, newly_guessed, guesses_at}
+use Rattle.asc_find.specs.Helper.{Plans, Sees, seen, newly_guessed, guesses_at}
+use Rattle.asc_find.specs.Serial.{kinds_of, tasks_of}
 use Rattle.asc_run.proofs.Seeings.{newly-later, guesses_until-more}
 use Rattle.asc_live.specs.Budget.{Budget, pays}
 use Rattle.asc_live.specs.Due.{Due, Pusher, Pushes, full_of, is_filled, jobs_of, raised}
-use Rattle.asc_live.specs.Live.{Live, IsLive, HasSeen, Visits, queue_of, plan_of, charged, due_by, given_up, is_guessing, is_needless, is_passed_over, issued_by, offers_at, seen_after}
+use Rattle.asc_live.specs.Live.{Live, IsLive, HasSeen, Visits, plan_of, charged, due_by, given_up, is_guessing, is_needless, is_passed_over, issued_by, offers_at, seen_after}
 use Rattle.asc_live.proofs.Pushing.{nothing, Pushes-few, Pushes-none-offered, both-true, filled-is, full-is, pushed-length, room-more}
 use Rattle.asc_live.proofs.Tasks.{kinds-few, twice, visit-length}
 

@@ -4,17 +4,18 @@ use mathlib.Core.List.{IsPrefix}
 use Rattle.asc_model.specs.Entry.{Entry}
 use Rattle.asc_model.specs.Shape.{Shape}
 use Rattle.asc_find.specs.declared.guessing.Guessing.{Guessing}
-use Rattle.asc_calls.specs.World.{Outside, BlamesOnly}
+use Rattle.asc_calls.specs.World.{BlamesOnly, Outside, Told, outside}
 use Rattle.asc_cache.specs.Cache.{IsOwnReader, ShardReader, ShardReaders, ShardWriter, id_of}
 use Rattle.asc_shard.specs.Content.{content_of}
 use Rattle.asc_shard.specs.Shard.{run_capacity}
 use Rattle.asc_jobs.specs.Jobs as jobs
 use Rattle.asc_run.specs.declared.walk.Ended.{Ended}
 use Rattle.asc_run.specs.Execution.{device_of}
-use Rattle.asc_run.specs.Helped.{Aid}
-use Rattle.asc_run.specs.Seen.{seen, guesses_until}
+use Rattle.asc_find.specs.Finder.{Aid}
+use Rattle.asc_run.specs.Seen.{guesses_until}
+use Rattle.asc_find.specs.Helper.{seen}
 use Rattle.asc_run.specs.LastVisits.{no_visits}
-use Rattle.asc_run.specs.Walk.{Walk, GoesFirst, IsRaisedBy, tally}
+use Rattle.asc_run.specs.Walk.{Walk, GoesFirst, IsRaisedBy, jumps}
 use Rattle.asc_work.specs.Halting as halting
 use Rattle.asc_work.specs.Halting.{Flag}
 use Rattle.asc_work.specs.Posts.{Team}
@@ -26,11 +27,15 @@ use Rattle.asc_live.specs.declared.open_crew.RunParts.{RunParts}
 
 -- what a helper tells that was not asked yet, and for which nothing was made yet
 pub record IsNewAid (guessing : Guessing) (a : Aid) : Type 0 where
-  pub tally_is : a.tally ≡ tally 0 0 0
+  pub jumps_are : a.jumps ≡ jumps 0 0 0
   pub made : a.plan.made ≡ 0
   pub refused : a.plan.refused ≡ 0
   pub full : a.plan.full ≡ 0
   pub seen_is : a.plan.seen ≡ Some (seen 0 guessing)
+
+-- what devices tell, and the counter of steps
+abbrev pub outside_with : Told → (steps : ℕ) → Outside
+outside_with t steps = outside t.left t.out t.err steps t.faults
 
 -- A walk that had not ended went to its end beside a crew, with a helper that came from first to last. Each job that was
 -- pushed is counted as run or as left.
@@ -40,7 +45,7 @@ pub record WentBeside (guessing : Guessing) (crew : Crew) (was now : Walk) (old 
   pub last : Aid
   pub goes : GoesFirst was now old new first last worked.ended
   pub fresh : IsNewAid guessing first
-  pub raised : IsRaisedBy now.tally first.tally last.tally
+  pub raised : IsRaisedBy now.jumps first.jumps last.jumps
   pub limit : now.count ≤ was.settings.limit
   pub faults : BlamesOnly (device_of worked.ended) old.faults new.faults
   -- where no device failed, its state has the shape that it had
@@ -52,9 +57,9 @@ pub record WentBeside (guessing : Guessing) (crew : Crew) (was now : Walk) (old 
   -- each job that was pushed was run, or left
   pub jobs : worked.made ≡ worked.taken.tally.ran + worked.taken.left
   -- where memory was not wanting, each guess that was due was pushed, or found no room or was not offered
-  pub guesses : worked.refused ≡ 0 → worked.made + worked.full ≡ guesses_until guessing now.tally.asked
+  pub guesses : worked.refused ≡ 0 → worked.made + worked.full ≡ guesses_until guessing now.jumps.asked
   -- with memory or without, at most 128 guesses were pushed, found no room or were not offered at each visit
-  pub few : worked.made + worked.full ≤ 128 * now.tally.asked
+  pub few : worked.made + worked.full ≤ 128 * now.jumps.asked
   -- a guess found no room, or was not offered, only once as many were pushed as the queue holds
   pub room : 0 < worked.full → crew.queue ≤ worked.made
   -- as many workers were beside it as the crew has
@@ -104,7 +109,7 @@ pub record AreOfSameShards (old new : List ShardWriter) : Type 0 where
 -- a walk that had not ended went to its end with a helper
 pub record Walks (was now : Walk) (old new : Outside) (first last : Aid) (ended : Ended) : Type 0 where
   pub goes : GoesFirst was now old new first last ended
-  pub raised : IsRaisedBy now.tally first.tally last.tally
+  pub raised : IsRaisedBy now.jumps first.jumps last.jumps
   pub limit : now.count ≤ was.settings.limit
   pub faults : BlamesOnly (device_of ended) old.faults new.faults
   pub shape : device_of ended ≡ None → now.state.shape ≡ was.state.shape

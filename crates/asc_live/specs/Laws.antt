@@ -1,8 +1,10 @@
 -- The laws of how many guesses are made, and of the workers' share of them.
 use Rattle.std.specs.Prelude.{◌≡◌, ℕ, ◌+◌, ◌-◌, ◌*◌, ◌/◌, ◌<◌, nat_lt, Option, Some}
 use Rattle.asc_find.specs.declared.guessing.Guessing.{Guessing}
-use Rattle.asc_find.specs.Finder.{Plan, Queue}
-use Rattle.asc_run.specs.Seen.{SeesAll, seen, guesses_until}
+use Rattle.asc_find.specs.Finder.{Plan}
+use Rattle.asc_jobs.specs.Jobs.{Queue}
+use Rattle.asc_run.specs.Seen.{SeesAll, guesses_until}
+use Rattle.asc_find.specs.Helper.{seen}
 use Rattle.asc_live.specs.Due.{is_for_workers}
 
 -- what a helper tells that was not visited yet

@@ -6,12 +6,13 @@ use Rattle.asc_model.specs.Shape.{length_of}
 use Rattle.asc_model.specs.State.{State}
 use Rattle.asc_outside.specs.Outside.{one_more}
 use Rattle.asc_guess.specs.Guess.{targets_of}
-use Rattle.asc_jobs.specs.Jobs.{Giver}
+use Rattle.asc_jobs.specs.Jobs.{Giver, queue_of}
 use Rattle.asc_find.specs.declared.guessing.Guessing.{Guessing}
-use Rattle.asc_find.specs.Finder.{Plan, Queue}
-use Rattle.asc_run.specs.Serial.{kinds_of, tasks_of}
+use Rattle.asc_find.specs.Finder.{Aid, Plan}
+use Rattle.asc_find.specs.Serial.{kinds_of, tasks_of}
 use Rattle.asc_run.specs.LastVisits.{LastVisits}
-use Rattle.asc_run.specs.Seen.{seen, guesses_until}
+use Rattle.asc_run.specs.Seen.{guesses_until}
+use Rattle.asc_find.specs.Helper.{seen}
 use Rattle.asc_live.specs.Budget.{Budget, new_budget, passes, after_visit, visit_cost}
 use Rattle.asc_live.specs.Due.{Due, Pusher, Pushes, new_pusher, full_of, is_filled, is_for_workers, is_offered, jobs_of}
 
@@ -60,10 +61,6 @@ new_live finder giver guessing workers knows = record {
   budget = new_budget workers knows;
 }
 
--- the queue of a giver, as a finder tells it
-abbrev pub queue_of : Giver → Queue
-queue_of giver = record { table = giver.queue; parts = giver.opened; capacity = giver.capacity }
-
 -- what was made for it, as a finder tells it: a guess is made where its job is pushed
 abbrev pub plan_of : {F : Type 0} → Live F → Plan
 plan_of l = record {
@@ -73,6 +70,10 @@ plan_of l = record {
   seen = elim l.seen [ Some number ↦ Some (seen number l.guessing) | None ↦ None ];
   queue = Some (queue_of l.pusher.giver);
 }
+
+-- what it tells, over a finder that tells so much
+abbrev pub told_over : {F : Type 0} → Aid → Live F → Aid
+told_over told l = record told { plan = plan_of l; machine = None }
 
 -- The jobs that are due at a visit, by the states of the visit before and of this one. There are none where the former is
 -- not kept, and none once 2 ^ 60 were pushed.

@@ -3,9 +3,9 @@ use Rattle.std.specs.Prelude.{◌≡◌, ℕ, ◌<◌, ◌≤◌, true, List, le
 use Rattle.std.specs.Option.{is_some}
 use Rattle.asc_model.specs.State.{State}
 use Rattle.asc_traj.specs.declared.made.Made.{Made}
-use Rattle.asc_run.specs.Helped.{Aid, aid}
-use Rattle.asc_run.specs.Serial.{Task}
-use Rattle.asc_run.specs.SerialHelper.{SerialHelper, plan_of, told_machine}
+use Rattle.asc_find.specs.Finder.{Aid}
+use Rattle.asc_find.specs.Serial.{Task}
+use Rattle.asc_run.specs.SerialHelper.{SerialHelper, aid_of}
 use Rattle.asc_work.specs.Lanes.{Lanes, IsDone}
 
 -- the helper of a run without workers, and the lanes that do its jobs
@@ -15,7 +15,7 @@ pub record Rounds : Type 0 where
 
 -- what it tells: what the helper tells
 abbrev pub told_by : Rounds → Aid
-told_by r = aid r.helper.tally None (plan_of r.helper) (told_machine r.helper)
+told_by r = aid_of r.helper
 
 -- lanes trace a helper's guesses as the helper itself does
 pub record AreFor (h : SerialHelper) (l : Lanes) : Type 0 where

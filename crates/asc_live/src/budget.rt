@@ -24,7 +24,7 @@ const ROW: u64 = 32;
 
 /// What the visits of a walk may cost. It changes no answer of a run.
 #[derive(Drop)]
-pub(crate) struct Budget {
+pub struct Budget {
     // What a visit costs beside its pages, what is left for visits, and what they took beyond that, in steps of the guest.
     cost: u64,
     steps: u64,
@@ -49,7 +49,7 @@ impl Model for Budget {
 
 impl Budget {
     /// That of a walk with so many workers, which may know entries. It may begin with a row of visits.
-    pub(crate) fn new(workers: usize, knows: bool) -> Budget
+    pub fn new(workers: usize, knows: bool) -> Budget
         ensures { result ≡ new_budget workers knows }
     {
         let cost = VISIT_STEPS + WORKER_STEPS * workers.min(WORKERS) as u64;
@@ -65,7 +65,7 @@ impl Budget {
 
     /// Whether a visit is passed over. Where a kind of guess is on, each is made until the queue was filled up, also where
     /// the budget does not pay for it. Where none is, one is made only where entries are known and it is paid for.
-    pub(crate) fn passes(&self, guesses: bool, filled: bool) -> bool
+    pub fn passes(&self, guesses: bool, filled: bool) -> bool
         ensures { result ≡ passes guesses filled self.now }
     {
         if guesses {
@@ -88,7 +88,7 @@ impl Budget {
     }
 
     /// Notes that a visit is passed over.
-    pub(crate) fn pass(&mut self)
+    pub fn pass(&mut self)
         ensures noted { self.new ≡ record self.old { passing = true } }
         ensures after { (guesses filled : Bool) (pages : ℕ) → passes guesses filled self.old ≡ true
             → self.new ≡ after_visit guesses filled pages self.old }
@@ -98,7 +98,7 @@ impl Budget {
 
     /// Charges a visit that is made, and copies so many pages, where the budget pays for it: what it takes beyond the steps
     /// that are left is owed.
-    pub(crate) fn charge(&mut self, pages: usize)
+    pub fn charge(&mut self, pages: usize)
         requires { pages < 2 ^ 23 }
         ensures { (guesses filled : Bool) → passes guesses filled self.old ≡ false
             → self.new ≡ after_visit guesses filled pages self.old }
@@ -112,7 +112,7 @@ impl Budget {
     }
 
     /// How many steps a look-up may jump over, where so many are left: none at a visit that was passed over.
-    pub(crate) fn reach(&self, left: u64) -> u64
+    pub fn reach(&self, left: u64) -> u64
         ensures made { self.now.passing ≡ false → result ≡ left }
         ensures passed { self.now.passing ≡ true → result ≡ 0 }
     {
@@ -121,7 +121,7 @@ impl Budget {
 
     /// The steps since the last look-up, and what this one saved, pay what is owed. By the rest it grows, up to what a row
     /// of visits costs. This one had so many steps left, and jumped over some.
-    pub(crate) fn look_up(&mut self, left: u64, jumped: Option<u64>)
+    pub fn look_up(&mut self, left: u64, jumped: Option<u64>)
         requires left { left ≤ 2 ^ 40 }
         requires jumped { IfSome jumped (λ steps. steps ≤ 2 ^ 40) }
         ensures { self.new ≡ after_look_up left jumped self.old }

@@ -1,18 +1,20 @@
 ghost use Rattle.std.specs.Prelude.{◌≡◌, ◌≤◌, ◌^◌, length, IfOk, OnErr, IsNone, None, Some, true, false};
-ghost use Rattle.asc_calls.specs.World.{faults, outside};
+ghost use Rattle.asc_calls.specs.World.{outside_of};
 ghost use Rattle.asc_cache.specs.Cache.{AreLater};
-ghost use Rattle.asc_run.specs.Helped.{aid, HasRoom};
-ghost use Rattle.asc_run.specs.Walk.{tally};
+ghost use Rattle.asc_run.specs.Helped.{HasRoom};
+ghost use Rattle.asc_run.specs.Walk.{jumps};
 ghost use Rattle.atomic_table.specs.Seated.{TableId};
-ghost use Rattle.asc_live.specs.Crew.{AreSameWorkers, IsForRun, Walks, WentBeside};
+ghost use Rattle.asc_live.specs.Crew.{AreSameWorkers, IsForRun, Walks, WentBeside, outside_with};
 
 use crate::Live;
+use crate::ground::Ground;
 use crate::lent::{Lending, Lent};
 use crate::open_crew::{OpenCrew, RunParts};
 use asc_cache::{ShardReaders, ShardWriter};
-use asc_find::Guessing;
+use asc_calls::Devices;
+use asc_find::{Guessing, Helper};
 use asc_outside::{Gate, Memory, Point, Sink, Source};
-use asc_run::{Ended, Helper, Walk};
+use asc_run::{Ended, Walk};
 use asc_shape::Steps;
 use asc_traj::Entry;
 use asc_work::{Flag, Halter, TakenIn, Team};
@@ -73,9 +75,7 @@ pub fn go_beside<
     crew: Crew,
     first: &[Arc<Entry>],
     gate: &G,
-    input: &mut I,
-    out: &mut O,
-    err: &mut E,
+    devices: &mut Devices<I, O, E>,
     steps: &mut Steps<L>,
 ) -> Result<Worked, Memory>
     requires new { IsNone walk.old.ended }
@@ -84,18 +84,14 @@ pub fn go_beside<
     requires ahead { (1 ≤ guessing.ahead) × (guessing.ahead ≤ 64) }
     requires laps { 1 ≤ guessing.laps }
     requires span { 1 ≤ guessing.span }
-    ensures went { IfOk result (λ worked. WentBeside guessing crew walk.old walk.new
-        (outside (I.left input.old) (O.given out.old) (E.given err.old) steps.old
-        (faults (I.faults input.old) (O.faults out.old) (E.faults err.old)))
-        (outside (I.left input.new) (O.given out.new) (E.given err.new) steps.new
-        (faults (I.faults input.new) (O.faults out.new) (E.faults err.new))) worked) }
+    ensures went { IfOk result (λ worked. WentBeside guessing crew walk.old walk.new (outside_of devices.old steps.old)
+        (outside_of devices.new steps.new) worked) }
 
     // Where memory was wanting for the crew, nothing was done.
-    ensures memory { OnErr result ((walk.new ≡ walk.old) × (input.new ≡ input.old) × (out.new ≡ out.old)
-        × (err.new ≡ err.old) × (steps.new ≡ steps.old)) }
+    ensures memory { OnErr result ((walk.new ≡ walk.old) × (devices.new ≡ devices.old) × (steps.new ≡ steps.old)) }
 {
     let mut open = OpenCrew::open(alloc, *rt, walk.shape(), guessing, crew, first, 1)?;
-    Ok(open.go(rt, alloc, walk, gate, input, out, err, steps))
+    Ok(open.go(rt, alloc, walk, gate, devices, steps))
 }
 
 /// Runs a walk to its end beside a team that has no queue yet, with the parts of one run, and takes the team in. The
@@ -120,9 +116,7 @@ pub(crate) fn go_lent<
     knows: bool,
     walk: &mut Walk,
     gate: &'a G,
-    input: &mut I,
-    out: &mut O,
-    err: &mut E,
+    devices: &mut Devices<I, O, E>,
     steps: &mut Steps<L>,
 ) -> (Worked, ShardReaders<R>)
     requires new { IsNone walk.old.ended }
@@ -131,12 +125,9 @@ pub(crate) fn go_lent<
     requires workers { length team.old.posts ≡ crew.workers }
     requires idle { team.old.queue ≡ None }
     requires lent { N.lent ≡ readers.readers }
-    requires none_asked { readers.tally ≡ tally 0 0 0 }
-    ensures went { WentBeside parts.visits.guessing crew walk.old walk.new
-        (outside (I.left input.old) (O.given out.old) (E.given err.old) steps.old
-        (faults (I.faults input.old) (O.faults out.old) (E.faults err.old)))
-        (outside (I.left input.new) (O.given out.new) (E.given err.new) steps.new
-        (faults (I.faults input.new) (O.faults out.new) (E.faults err.new))) result.0 }
+    requires none_asked { readers.jumps ≡ jumps 0 0 0 }
+    ensures went { WentBeside parts.visits.guessing crew walk.old walk.new (outside_of devices.old steps.old)
+        (outside_of devices.new steps.new) result.0 }
     ensures idle { team.new.queue ≡ None }
     ensures team { AreSameWorkers team.old.posts team.new.posts }
     ensures readers { AreLater readers.readers result.1.readers }
@@ -161,9 +152,7 @@ pub(crate) fn go_lent<
         &mut halter,
         wakers,
         gate,
-        input,
-        out,
-        err,
+        devices,
         steps,
     );
     let (lent, giver) = live.into_parts();
@@ -185,9 +174,7 @@ fn go_served<
     R: Threads + Wait + Sync + Drop + Send,
     H: Helper,
     G: Gate + Sync,
-    I: Source,
-    O: Sink,
-    E: Sink,
+    D: Ground<H, L>,
     L: Ledger,
 >(
     rt: &R,
@@ -197,26 +184,18 @@ fn go_served<
     halter: &mut Halter,
     wakers: &[Unparker],
     gate: &G,
-    input: &mut I,
-    out: &mut O,
-    err: &mut E,
+    devices: &mut D,
     steps: &mut Steps<L>,
 ) -> (Ended, (u64, u64, u64))
     requires new { IsNone walk.old.ended }
     requires running { halter.old.halted ≡ false }
     requires queue { (queue : TableId) × (team.old.queue ≡ Some queue) }
-    requires room { HasRoom (2 ^ 61)
-        (aid (H.tally helper.old) (H.replies helper.old) (H.plan helper.old) (H.machine helper.old)) }
-    ensures walks { Walks walk.old walk.new
-        (outside (I.left input.old) (O.given out.old) (E.given err.old) steps.old
-        (faults (I.faults input.old) (O.faults out.old) (E.faults err.old)))
-        (outside (I.left input.new) (O.given out.new) (E.given err.new) steps.new
-        (faults (I.faults input.new) (O.faults out.new) (E.faults err.new)))
-        (aid (H.tally helper.old) (H.replies helper.old) (H.plan helper.old) (H.machine helper.old))
-        (aid (H.tally helper.new) (H.replies helper.new) (H.plan helper.new) (H.machine helper.new)) result.0 }
-    ensures made { result.1.0 ≡ (H.plan helper.new).made }
-    ensures refused { result.1.1 ≡ (H.plan helper.new).refused }
-    ensures full { result.1.2 ≡ (H.plan helper.new).full }
+    requires room { HasRoom (2 ^ 61) (H.aid helper.old) }
+    ensures walks { Walks walk.old walk.new (outside_with (D.told devices.old) steps.old)
+        (outside_with (D.told devices.new) steps.new) (H.aid helper.old) (H.aid helper.new) result.0 }
+    ensures made { result.1.0 ≡ (H.aid helper.new).plan.made }
+    ensures refused { result.1.1 ≡ (H.aid helper.new).plan.refused }
+    ensures full { result.1.2 ≡ (H.aid helper.new).plan.full }
     ensures queue { team.new.queue ≡ team.old.queue }
     ensures team { AreSameWorkers team.old.posts team.new.posts }
     ensures halted { halter.new.halted ≡ true }
@@ -224,66 +203,50 @@ fn go_served<
     let ended = team.beside(
         rt,
         gate,
-        &mut || { go_and_halt(walk, helper, halter, wakers, gate, input, out, err, steps) },
+        &mut || { go_and_halt(walk, helper, halter, wakers, gate, devices, steps) },
     );
     (ended, (helper.made(), helper.refused(), helper.full()))
 }
 
 // Runs a walk to its end while the workers may go on, and then stops them.
-fn go_and_halt<H: Helper, G: Gate, I: Source, O: Sink, E: Sink, L: Ledger>(
+fn go_and_halt<H: Helper, G: Gate, D: Ground<H, L>, L: Ledger>(
     walk: &mut Walk,
     helper: &mut H,
     halter: &mut Halter,
     wakers: &[Unparker],
     gate: &G,
-    input: &mut I,
-    out: &mut O,
-    err: &mut E,
+    devices: &mut D,
     steps: &mut Steps<L>,
 ) -> Ended
     requires new { IsNone walk.old.ended }
     requires running { halter.old.halted ≡ false }
-    requires room { HasRoom (2 ^ 61)
-        (aid (H.tally helper.old) (H.replies helper.old) (H.plan helper.old) (H.machine helper.old)) }
-    ensures walks { Walks walk.old walk.new
-        (outside (I.left input.old) (O.given out.old) (E.given err.old) steps.old
-        (faults (I.faults input.old) (O.faults out.old) (E.faults err.old)))
-        (outside (I.left input.new) (O.given out.new) (E.given err.new) steps.new
-        (faults (I.faults input.new) (O.faults out.new) (E.faults err.new)))
-        (aid (H.tally helper.old) (H.replies helper.old) (H.plan helper.old) (H.machine helper.old))
-        (aid (H.tally helper.new) (H.replies helper.new) (H.plan helper.new) (H.machine helper.new)) result }
+    requires room { HasRoom (2 ^ 61) (H.aid helper.old) }
+    ensures walks { Walks walk.old walk.new (outside_with (D.told devices.old) steps.old)
+        (outside_with (D.told devices.new) steps.new) (H.aid helper.old) (H.aid helper.new) result }
     ensures halted { halter.new.halted ≡ true }
 {
-    let ended = go_unhalted(walk, helper, halter, gate, input, out, err, steps);
+    let ended = go_unhalted(walk, helper, halter, gate, devices, steps);
     halter.halt();
     wake(wakers);
     ended
 }
 
 // Runs a walk to its end, and passes the gate. The halter of the workers is lent, and they are not stopped until then.
-fn go_unhalted<H: Helper, G: Gate, I: Source, O: Sink, E: Sink, L: Ledger>(
+fn go_unhalted<H: Helper, G: Gate, D: Ground<H, L>, L: Ledger>(
     walk: &mut Walk,
     helper: &mut H,
     _halter: &Halter,
     gate: &G,
-    input: &mut I,
-    out: &mut O,
-    err: &mut E,
+    devices: &mut D,
     steps: &mut Steps<L>,
 ) -> Ended
     requires new { IsNone walk.old.ended }
     requires running { _halter.now.halted ≡ false }
-    requires room { HasRoom (2 ^ 61)
-        (aid (H.tally helper.old) (H.replies helper.old) (H.plan helper.old) (H.machine helper.old)) }
-    ensures { Walks walk.old walk.new
-        (outside (I.left input.old) (O.given out.old) (E.given err.old) steps.old
-        (faults (I.faults input.old) (O.faults out.old) (E.faults err.old)))
-        (outside (I.left input.new) (O.given out.new) (E.given err.new) steps.new
-        (faults (I.faults input.new) (O.faults out.new) (E.faults err.new)))
-        (aid (H.tally helper.old) (H.replies helper.old) (H.plan helper.old) (H.machine helper.old))
-        (aid (H.tally helper.new) (H.replies helper.new) (H.plan helper.new) (H.machine helper.new)) result }
+    requires room { HasRoom (2 ^ 61) (H.aid helper.old) }
+    ensures { Walks walk.old walk.new (outside_with (D.told devices.old) steps.old)
+        (outside_with (D.told devices.new) steps.new) (H.aid helper.old) (H.aid helper.new) result }
 {
-    let ended = walk.go(helper, input, out, err, steps);
+    let ended = devices.go(walk, helper, steps);
     gate.pass(Point::Ended, helper.made());
     ended
 }

@@ -1,8 +1,8 @@
 ghost use Rattle.std.specs.Prelude.{◌≡◌, ◌≤◌, ◌<◌, ◌^◌, ◌∷◌, [], None, Some};
 ghost use Rattle.asc_traj.specs.Jump.{IsJump};
-ghost use Rattle.asc_find.specs.Finder.{Tells, tally_after};
+ghost use Rattle.asc_find.specs.Finder.{Tells, bare_aid, jumps_after};
 ghost use Rattle.asc_find.specs.Serial.{Serial, serial_reply};
-ghost use Rattle.asc_cache.specs.Cache.{AreLater, machine_of, plan_of, replies_of};
+ghost use Rattle.asc_cache.specs.Cache.{AreLater};
 
 use asc_cache::ShardReaders;
 use asc_find::Finder;
@@ -67,24 +67,18 @@ impl<N: Lending, R: Wait + Drop> Lent<N, R> {
 
 /// It passes all on to the readers.
 impl<N: Lending, R: Wait + Drop> Finder for Lent<N, R> {
-    ghost tally = { λ l. l.tally };
-
-    ghost replies = { replies_of };
-
-    ghost plan = { plan_of };
-
-    ghost machine = { machine_of };
+    ghost aid = { λ l. bare_aid l.jumps };
 
     fn jump(&mut self, state: &mut State, left: u64) -> Option<u64>
         requires left { left ≤ 2 ^ 40 }
-        requires asked { self.old.tally.asked < 2 ^ 62 }
-        requires given { self.old.tally.given < 2 ^ 62 }
+        requires asked { self.old.jumps.asked < 2 ^ 62 }
+        requires given { self.old.jumps.given < 2 ^ 62 }
         ensures jump { IsJump result left state.old state.new }
-        ensures tally { self.new.tally ≡ tally_after self.old.tally result }
-        ensures replies { Tells (result ∷ []) (replies_of self.old) (replies_of self.new) }
-        ensures plan { plan_of self.new ≡ plan_of self.old }
-        ensures machine { machine_of self.new ≡ machine_of self.old }
-        ensures longest { (m : Serial) → machine_of self.old ≡ Some m → result ≡ serial_reply m state.old left }
+        ensures jumps { self.new.jumps ≡ jumps_after self.old.jumps result }
+        ensures replies { Tells (result ∷ []) None None }
+        ensures plan { Unit {0} }
+        ensures machine { Unit {0} }
+        ensures longest { (m : Serial) → None ≡ Some m → result ≡ serial_reply m state.old left }
         ensures later { AreLater self.old.readers self.new.readers }
     {
         self.readers.jump(state, left)

@@ -3,8 +3,7 @@
 
 mod budget;
 mod crew;
-#[cfg(test)]
-mod crew_tests;
+mod ground;
 mod laws;
 mod lent;
 mod live;
@@ -13,9 +12,8 @@ mod pusher;
 mod rounds;
 mod shards;
 mod share;
-#[cfg(test)]
-mod tests;
 
+pub use budget::Budget;
 pub use crew::{Crew, Worked, go_beside};
 pub use laws::{guesses_are_counted, shares_rise};
 pub use live::Live;

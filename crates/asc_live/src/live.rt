@@ -2,23 +2,23 @@ ghost use Rattle.std.specs.Prelude.{◌≡◌, ◌⊎◌, ◌+◌, ◌/◌, ◌<
 ghost use Rattle.asc_model.specs.Shape.{length_of};
 ghost use Rattle.asc_model.specs.State.{State as state};
 ghost use Rattle.asc_traj.specs.Jump.{IsJump};
-ghost use Rattle.asc_find.specs.Finder.{Tells, tally_after};
+ghost use Rattle.asc_find.specs.Finder.{Tells, jumps_after};
 ghost use Rattle.asc_find.specs.Serial.{Serial, serial_reply};
-ghost use Rattle.asc_run.specs.Helped.{aid, Plans, VisitsMachine};
-ghost use Rattle.asc_run.specs.Seen.{Sees};
+ghost use Rattle.asc_find.specs.Helper.{Plans, VisitsMachine, Sees};
 ghost use Rattle.asc_run.specs.LastVisits.{no_visits};
 ghost use Rattle.asc_live.specs.Laws.{new_plan};
-ghost use Rattle.asc_live.specs.Live.{IsLive, new_live, queue_of, plan_of, given_up, refused_visit, due_by, is_needless, is_passed_over, issued_by, is_guessing, offers_at, seen_after as seen_by, Visits, VisitsWritten};
+ghost use Rattle.asc_live.specs.Live.{IsLive, new_live, plan_of, told_over, given_up, refused_visit, due_by, is_needless, is_passed_over, issued_by, is_guessing, offers_at, seen_after as seen_by, Visits, VisitsWritten};
+ghost use Rattle.asc_jobs.specs.Jobs.{queue_of};
 ghost use Rattle.asc_live.specs.Due.{Pushes, full_of, is_filled};
 ghost use Rattle.asc_live.specs.Budget.{after_look_up};
 
 use crate::budget::Budget;
 use crate::pusher::Pusher;
 use crate::share::Share;
-use asc_find::Finder;
+use asc_find::{Finder, Helper};
 use asc_jobs::Giver;
 use asc_outside::{Gate, Point};
-use asc_run::{Helper, LastVisits};
+use asc_run::LastVisits;
 use asc_shape::State;
 use crossbeam_utils::sync::Unparker;
 use std::alloc::Global;
@@ -318,28 +318,22 @@ fn seen_after(before: Option<u64>, number: u64, refused: u64) -> Option<u64>
 
 /// It passes all on to its finder, which is asked for no step at a visit that was passed over.
 impl<'a, F: Finder, G, R> Finder for Live<'a, F, G, R> {
-    ghost tally = { λ l. F.tally l.finder };
-
-    ghost replies = { λ l. F.replies l.finder };
-
-    ghost plan = { plan_of };
-
-    ghost machine = { λ _. None };
+    ghost aid = { λ l. told_over (F.aid l.finder) l };
 
     fn jump(&mut self, state: &mut State, left: u64) -> Option<u64>
         requires left { left ≤ 2 ^ 40 }
-        requires asked { (F.tally self.old.finder).asked < 2 ^ 62 }
-        requires given { (F.tally self.old.finder).given < 2 ^ 62 }
+        requires asked { (F.aid self.old.finder).jumps.asked < 2 ^ 62 }
+        requires given { (F.aid self.old.finder).jumps.given < 2 ^ 62 }
         ensures rest { self.new ≡ record self.old {
           finder = self.new.finder;
           budget = after_look_up left result self.old.budget;
         } }
         ensures passed { self.old.budget.passing ≡ true → result ≡ None }
         ensures made { self.old.budget.passing ≡ false
-            → (m : Serial) → F.machine self.old.finder ≡ Some m → result ≡ serial_reply m state.old left }
+            → (m : Serial) → (F.aid self.old.finder).machine ≡ Some m → result ≡ serial_reply m state.old left }
         ensures jump { IsJump result left state.old state.new }
-        ensures tally { F.tally self.new.finder ≡ tally_after (F.tally self.old.finder) result }
-        ensures replies { Tells (result ∷ []) (F.replies self.old.finder) (F.replies self.new.finder) }
+        ensures jumps { (F.aid self.new.finder).jumps ≡ jumps_after (F.aid self.old.finder).jumps result }
+        ensures replies { Tells (result ∷ []) (F.aid self.old.finder).replies (F.aid self.new.finder).replies }
         ensures plan { plan_of self.new ≡ plan_of self.old }
         ensures machine { Unit {0} }
         ensures longest { (m : Serial) → None ≡ Some m → result ≡ serial_reply m state.old left }
@@ -380,13 +374,12 @@ impl<'a, F: Finder, G: Gate, R: Wait> Helper for Live<'a, F, G, R> {
         requires full { (plan_of self.old).full < 2 ^ 62 }
         ensures visits { VisitsWritten number state.old self.old self.new }
         ensures stays { state.new ≡ state.old }
-        ensures tally { F.tally self.new.finder ≡ F.tally self.old.finder }
-        ensures replies { F.replies self.new.finder ≡ F.replies self.old.finder }
+        ensures jumps { (F.aid self.new.finder).jumps ≡ (F.aid self.old.finder).jumps }
+        ensures replies { (F.aid self.new.finder).replies ≡ (F.aid self.old.finder).replies }
         ensures plan { Plans 1 (plan_of self.old) (plan_of self.new) }
         ensures seen { Sees number (plan_of self.old) (plan_of self.new) }
         ensures machine { VisitsMachine number state.old
-            (aid (F.tally self.old.finder) (F.replies self.old.finder) (plan_of self.old) None)
-            (aid (F.tally self.new.finder) (F.replies self.new.finder) (plan_of self.new) None) }
+            (told_over (F.aid self.old.finder) self.old) (told_over (F.aid self.new.finder) self.new) }
     {
         // That it is a state bounds how many pages there are.
         let _ = state.shape();

@@ -1,13 +1,14 @@
 ghost use Rattle.std.specs.Prelude.{◌≡◌, ◌+◌, ◌<◌, ◌≤◌, List, length, All, IfOk, IsNone, map};
 ghost use Rattle.std.specs.Arc.{arc_value};
-ghost use Rattle.asc_calls.specs.World.{faults, outside};
+ghost use Rattle.asc_calls.specs.World.{outside_of};
 ghost use Rattle.asc_cache.specs.Cache.{AreLater, IsOwnReader, ShardReader};
-ghost use Rattle.asc_jobs.specs.Tally.{no_jobs};
+ghost use Rattle.asc_model.specs.Tally.{no_jobs};
 ghost use Rattle.asc_live.specs.Crew.{AreOfSameShards, HasBoundsOf, HasLearnt, HasMet, IsAskedFor, IsForRun, IsTeamOf, IsWriterOf, WentBeside};
 
 use crate::crew::{Crew, Worked, go_lent};
 use crate::shards::open_shards;
 use asc_cache::{ShardReaders, ShardWriter};
+use asc_calls::Devices;
 use asc_find::Guessing;
 use asc_jobs::{Giver, Jobs, Taker};
 use asc_outside::{Gate, Memory, Sink, Source};
@@ -145,20 +146,15 @@ impl<R: Wait + Drop> OpenCrew<R> {
         alloc: Global,
         walk: &mut Walk,
         gate: &G,
-        input: &mut I,
-        out: &mut O,
-        err: &mut E,
+        devices: &mut Devices<I, O, E>,
         steps: &mut Steps<L>,
     ) -> Worked
     where
         R: Threads + Sync + Copy + Send,
         requires new { IsNone walk.old.ended }
         requires runs { 1 ≤ self.old.runs }
-        ensures went { WentBeside self.old.guessing self.old.crew walk.old walk.new
-            (outside (I.left input.old) (O.given out.old) (E.given err.old) steps.old
-            (faults (I.faults input.old) (O.faults out.old) (E.faults err.old)))
-            (outside (I.left input.new) (O.given out.new) (E.given err.new) steps.new
-            (faults (I.faults input.new) (O.faults out.new) (E.faults err.new))) result }
+        ensures went { WentBeside self.old.guessing self.old.crew walk.old walk.new (outside_of devices.old steps.old)
+            (outside_of devices.new steps.new) result }
         ensures runs { self.new.runs + 1 ≡ self.old.runs }
         ensures rest { self.new ≡ record self.old {
           runs = self.new.runs;
@@ -188,9 +184,7 @@ impl<R: Wait + Drop> OpenCrew<R> {
             self.knows,
             walk,
             gate,
-            input,
-            out,
-            err,
+            devices,
             steps,
         );
         meet_all(&mut readers, &self.team);

@@ -3,7 +3,7 @@ ghost use Rattle.std.specs.Arc.{arc_value};
 ghost use Rattle.asc_model.specs.State.{State};
 ghost use Rattle.asc_outside.specs.Outside.{one_more};
 ghost use Rattle.asc_live.specs.Due.{Pushes, full_of, is_filled, is_offered, jobs_of, new_pusher};
-ghost use Rattle.asc_run.specs.Serial.{kinds_of};
+ghost use Rattle.asc_find.specs.Serial.{kinds_of};
 
 use crate::share::Share;
 use asc_find::Guessing;

@@ -1,15 +1,15 @@
 ghost use Rattle.std.specs.Prelude.{◌≡◌, ◌≢◌, ◌^◌, ◌<◌, ◌≤◌, ◌∷◌, [], length, true, None, Some};
 ghost use Rattle.std.specs.Option.{is_some};
 ghost use Rattle.asc_traj.specs.Jump.{IsJump};
-ghost use Rattle.asc_find.specs.Finder.{Tells, tally_after};
+ghost use Rattle.asc_find.specs.Finder.{Tells, jumps_after};
 ghost use Rattle.asc_find.specs.Serial.{Serial as machine, serial_reply};
-ghost use Rattle.asc_run.specs.SerialHelper.{plan_of, told_machine};
+ghost use Rattle.asc_run.specs.SerialHelper.{aid_of, told_machine};
 ghost use Rattle.asc_run.specs.VisitedBy.{IsVisit, MayVisit};
 ghost use Rattle.asc_live.specs.Rounds.{AreFor, HaveRun, told_by};
 
-use asc_find::Finder;
+use asc_find::{Finder, Helper};
 use asc_outside::Gate;
-use asc_run::{Helper, Serial};
+use asc_run::Serial;
 use asc_shape::State;
 use asc_work::Lanes;
 use std::marker::Model;
@@ -96,23 +96,17 @@ impl Rounds {
 
 /// Where a walk lands on a visit it learns of the state there, and is asked for a jump by its entries.
 impl Finder for Rounds {
-    ghost tally = { λ r. r.helper.tally };
-
-    ghost replies = { λ _. None };
-
-    ghost plan = { λ r. plan_of r.helper };
-
-    ghost machine = { λ r. told_machine r.helper };
+    ghost aid = { λ r. aid_of r.helper };
 
     fn jump(&mut self, state: &mut State, left: u64) -> Option<u64>
         requires left { left ≤ 2 ^ 40 }
-        requires asked { self.old.helper.tally.asked < 2 ^ 62 }
-        requires given { self.old.helper.tally.given < 2 ^ 62 }
+        requires asked { self.old.helper.jumps.asked < 2 ^ 62 }
+        requires given { self.old.helper.jumps.given < 2 ^ 62 }
         ensures found { result ≡ serial_reply self.old.helper.machine state.old left }
         ensures jump { IsJump result left state.old state.new }
-        ensures tally { self.new.helper.tally ≡ tally_after self.old.helper.tally result }
+        ensures jumps { self.new.helper.jumps ≡ jumps_after self.old.helper.jumps result }
         ensures replies { Tells (result ∷ []) None None }
-        ensures plan { plan_of self.new.helper ≡ plan_of self.old.helper }
+        ensures plan { (aid_of self.new.helper).plan ≡ (aid_of self.old.helper).plan }
         ensures machine { told_machine self.new.helper ≡ told_machine self.old.helper }
         ensures longest { (m : machine) → told_machine self.old.helper ≡ Some m → result ≡ serial_reply m state.old left }
     {

@@ -2,7 +2,7 @@ ghost use Rattle.std.specs.Prelude.{◌≡◌, ◌≤◌, All, IfOk, fold, lengt
 ghost use Rattle.std.specs.Arc.{arc_value};
 ghost use Rattle.asc_cache.specs.Cache.{shard_of};
 ghost use Rattle.asc_shard.specs.Content.{add};
-ghost use Rattle.asc_run.specs.Walk.{tally};
+ghost use Rattle.asc_run.specs.Walk.{jumps};
 ghost use Rattle.asc_live.specs.Crew.{HasLearnt, IsWriterOf};
 
 use asc_cache::{Cache, ShardReaders, ShardWriter};
@@ -23,7 +23,7 @@ pub(crate) fn open_shards<R: Wait + Copy + Drop>(
     ensures writer_count { IfOk result (λ r. length r.0.items ≡ shards) }
     ensures reader_count { IfOk result (λ r. length r.1.readers ≡ shards) }
     ensures own { IfOk result (λ r. All (IsWriterOf r.1.readers) r.0.items) }
-    ensures none_asked { IfOk result (λ r. r.1.tally ≡ tally 0 0 0) }
+    ensures none_asked { IfOk result (λ r. r.1.jumps ≡ jumps 0 0 0) }
     ensures learnt { IfOk result (λ r. HasLearnt (map arc_value first.now) r.1.readers) }
 {
     let (mut writers, mut readers) = Cache::open(alloc, rt, shards, RUN_CAPACITY)?.split();

@@ -1,8 +1,8 @@
-//! Marked pages and their copies.
+//! Dirty pages and their copies.
 ghost use Rattle.std.specs.Prelude.{◌+◌, ◌*◌, ◌^◌, ◌<◌, ◌≤◌, length};
 
 use asc_outside::Memory;
-use asc_pages::{FRONT, GROUP, Marks, PAGE, Pages};
+use asc_pages::{DirtyPages, FRONT, GROUP, PAGE, Pages};
 use std::alloc::Global;
 use std::marker::Model;
 
@@ -71,14 +71,14 @@ fn over(alloc: Global, spare: Pages, len: usize) -> Option<Pages> {
     }
     let mut bytes = vec![in alloc; 5; len].ok()?;
     bytes[len - 1] = 9;
-    let mut marks = Marks::new(alloc, len / PAGE + 1).ok()?;
-    marks.mark_all();
+    let mut dirty = DirtyPages::new(alloc, len / PAGE + 1).ok()?;
+    dirty.add_all();
     let base = Some(Pages::none(alloc).ok()?);
     let mut pages = spare;
-    if marks.len() != bytes.len() / PAGE + 1 {
+    if dirty.len() != bytes.len() / PAGE + 1 {
         return None;
     }
-    pages.renew(alloc, &bytes, &marks, &base).ok()?;
+    pages.renew(alloc, &bytes, &dirty, &base).ok()?;
     Some(pages)
 }
 
@@ -144,10 +144,10 @@ fn made_row(alloc: Global, len: usize) -> Result<Row, Memory>
 {
     let mut bytes = vec![in alloc; 7; len]?;
     bytes[len - 1] = 9;
-    let mut marks = Marks::new(alloc, len / PAGE + 1)?;
-    marks.mark_all();
+    let mut dirty = DirtyPages::new(alloc, len / PAGE + 1)?;
+    dirty.add_all();
     let spare = Pages::none(alloc)?;
-    let pages = Pages::of(alloc, &bytes, &marks, &None)?;
+    let pages = Pages::of(alloc, &bytes, &dirty, &None)?;
     Ok(Row {
         bytes,
         pages: Some(pages),
@@ -167,11 +167,11 @@ fn changed_row(alloc: Global, row: Row, p: usize) -> Result<Row, Memory>
     requires { 1024 * p + 1024 ≤ length row }
 {
     let mut bytes = row.bytes;
-    let mut marks = Marks::new(alloc, bytes.len() / PAGE + 1)?;
-    marks.mark(p);
+    let mut dirty = DirtyPages::new(alloc, bytes.len() / PAGE + 1)?;
+    dirty.add(p);
     bytes[p * PAGE + FRONT] = bytes[p * PAGE + FRONT].wrapping_add(1);
     let mut pages = row.spare;
-    pages.renew(alloc, &bytes, &marks, &row.pages)?;
+    pages.renew(alloc, &bytes, &dirty, &row.pages)?;
     let spare = match row.pages {
         Some(pages) => pages,
         None => Pages::none(alloc)?,
@@ -211,37 +211,37 @@ fn no_pages(rt: HostRuntime) {
 }
 
 #[test]
-fn marks_of_pages(rt: HostRuntime) {
-    let mut marks = Marks::new(rt.alloc(), 70).expect(&rt, "memory");
-    assert!(rt; marks.is_clear());
+fn dirty_pages(rt: HostRuntime) {
+    let mut dirty = DirtyPages::new(rt.alloc(), 70).expect(&rt, "memory");
+    assert!(rt; dirty.is_clear());
     for (p, count) in [(69, 1), (0, 2), (69, 2), (32, 3), (31, 4)] {
-        mark(&mut marks, p);
-        assert!(rt; is_marked(&marks, p) && !is_marked(&marks, 33) && !marks.is_clear());
-        assert_eq!(rt; marks.count(), count);
+        add(&mut dirty, p);
+        assert!(rt; is_dirty(&dirty, p) && !is_dirty(&dirty, 33) && !dirty.is_clear());
+        assert_eq!(rt; dirty.count(), count);
     }
-    clear(&mut marks);
-    assert!(rt; marks.is_clear() && marks.count() == 0);
-    marks.mark_all();
-    assert!(rt; is_marked(&marks, 33) && marks.count() == 70);
-    clear(&mut marks);
-    assert_eq!(rt; marks.count(), 0);
+    clear(&mut dirty);
+    assert!(rt; dirty.is_clear() && dirty.count() == 0);
+    dirty.add_all();
+    assert!(rt; is_dirty(&dirty, 33) && dirty.count() == 70);
+    clear(&mut dirty);
+    assert_eq!(rt; dirty.count(), 0);
     for p in 0..70 {
-        assert!(rt; !is_marked(&marks, p), "page {p}");
+        assert!(rt; !is_dirty(&dirty, p), "page {p}");
     }
 }
 
-fn mark(marks: &mut Marks, p: usize) {
-    if p < marks.len() {
-        marks.mark(p);
+fn add(dirty: &mut DirtyPages, p: usize) {
+    if p < dirty.len() {
+        dirty.add(p);
     }
 }
 
-fn is_marked(marks: &Marks, p: usize) -> bool {
-    p < marks.len() && marks.is_marked(p)
+fn is_dirty(dirty: &DirtyPages, p: usize) -> bool {
+    p < dirty.len() && dirty.is_dirty(p)
 }
 
-fn clear(marks: &mut Marks) {
-    if marks.len() == 70 {
-        marks.clear();
+fn clear(dirty: &mut DirtyPages) {
+    if dirty.len() == 70 {
+        dirty.clear();
     }
 }

@@ -4,7 +4,8 @@ ghost use Rattle.asc_model.specs.Shape.{length_of, holds};
 ghost use Rattle.asc_shape.specs.Face.{room_of};
 ghost use Rattle.asc_shape.specs.State.{memory_at, with_memory};
 
-use asc_shape::{Bytes, Guess, Shape, ShapeFault, Snapshot, State, Version, Words};
+use asc_model::Version;
+use asc_shape::{Bytes, Guess, Shape, ShapeFault, Snapshot, State, Words};
 use std::alloc::Global;
 use std::sync::Arc;
 use std::thread;

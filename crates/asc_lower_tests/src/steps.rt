@@ -1,8 +1,9 @@
 //! Steps of a state.
 ghost use Rattle.std.specs.Prelude.{◌≡◌, ◌<◌};
 
+use asc_model::{Fault, FaultKind};
 use asc_shape::{Shape, State, Steps};
-use asc_step::{Fault, FaultKind, Stepped, step, step_down, step_many, step_until, try_step};
+use asc_step::{Stepped, step, step_down, step_many, step_until, try_step};
 use std::alloc::Global;
 use std::marker::Brand;
 use std::process::Abort;
@@ -28,7 +29,7 @@ fn shape_at<R: Abort>(rt: &R, base: u32) -> Shape {
 }
 
 fn fault(kind: FaultKind, pc: u32, value: u32) -> Stepped {
-    Stepped::Fault(Fault { kind, pc, value })
+    Stepped::Faulted(Fault { kind, pc, value })
 }
 
 #[test]

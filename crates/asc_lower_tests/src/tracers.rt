@@ -3,9 +3,10 @@ ghost use Rattle.std.specs.Prelude.{◌≡◌};
 ghost use Rattle.asc_model.specs.Shape.{length_of};
 
 use crate::tracers::Call::{Get, GetWord, Put, PutWord, Reset, Undo};
-use asc_depvec::Status::{Read, ReadWritten, Untouched, Written};
 use asc_depvec::{Block, LEAST_CAP, Tracer, Unfilled};
-use asc_shape::{Bytes, Guess, Shape, Snapshot, State, Status, Words};
+use asc_model::Status;
+use asc_model::Status::{Read, ReadWritten, Untouched, Written};
+use asc_shape::{Bytes, Guess, Shape, Snapshot, State, Words};
 use std::alloc::Global;
 use std::process::Abort;
 use std::sync::Arc;
@@ -51,9 +52,9 @@ fn make<R: Abort>(rt: &R, tracer: &mut Tracer, call: Call) -> u32 {
             tracer.put_word(place, word);
             0
         }
-        Undo(mark) => {
-            assert!(rt; mark <= tracer.mark());
-            tracer.undo(mark);
+        Undo(count) => {
+            assert!(rt; count <= tracer.touched_count());
+            tracer.undo(count);
             0
         }
         Reset => {
@@ -79,7 +80,7 @@ fn start<R: Abort>(rt: &R, alloc: Global, tracer: &mut Tracer, state: &State) {
 
 fn start_from<R: Abort>(rt: &R, tracer: &mut Tracer, from: Guess) {
     // That its state is of its shape.
-    let _ = tracer.mark();
+    let _ = tracer.touched_count();
     assert!(rt; from.shape() == Bytes::shape(tracer));
     tracer.start(from);
 }
@@ -128,7 +129,10 @@ fn touches(rt: HostRuntime) {
     ] {
         assert_eq!(rt; make(&rt, &mut tracer, call), answer);
         assert_eq!(rt; tracer.status(place), status);
-        assert_eq!(rt; (tracer.mark(), last(&rt, &tracer)), (touched, seen));
+        assert_eq!(rt;
+            (tracer.touched_count(), last(&rt, &tracer)),
+            (touched, seen)
+        );
         assert_eq!(rt; tracer.room(), left);
     }
 }
@@ -175,12 +179,15 @@ fn words(rt: HostRuntime) {
             ),
             statuses
         );
-        assert_eq!(rt; tracer.mark(), touched);
+        assert_eq!(rt; tracer.touched_count(), touched);
     }
     for index in 0..8 {
         assert_eq!(rt; make(&rt, &mut tracer, GetWord(8 * index)), 0);
     }
-    assert_eq!(rt; (tracer.room(), tracer.mark(), tracer.pc()), (0, 32, 0));
+    assert_eq!(rt;
+        (tracer.room(), tracer.touched_count(), tracer.pc()),
+        (0, 32, 0)
+    );
 }
 
 /// How many places the calls of a random row touch at most.
@@ -214,8 +221,8 @@ impl Plain {
         self.bytes[at]
     }
 
-    fn undo<R: Abort>(&mut self, rt: &R, mark: usize) {
-        for _ in mark..self.touched.len() {
+    fn undo<R: Abort>(&mut self, rt: &R, count: usize) {
+        for _ in count..self.touched.len() {
             let at = self.touched.pop().expect(rt, "a place") as usize;
             assert!(rt; at < self.statuses.len() && at < self.bytes.len() && at < self.start.len());
             self.statuses[at] = Untouched;
@@ -248,9 +255,9 @@ impl Plain {
                 }
                 (PutWord(from.wrapping_add(place), word), 0)
             }
-            Undo(mark) => {
-                self.undo(rt, mark);
-                (Undo(mark), 0)
+            Undo(count) => {
+                self.undo(rt, count);
+                (Undo(count), 0)
             }
             Reset => {
                 self.undo(rt, 0);
@@ -262,7 +269,7 @@ impl Plain {
 
     /// Compares all that a tracer tells of the row.
     fn look<R: Abort>(&self, rt: &R, alloc: Global, tracer: &mut Tracer, from: u32) {
-        assert_eq!(rt; tracer.mark(), self.touched.len());
+        assert_eq!(rt; tracer.touched_count(), self.touched.len());
         let blocks = tracer.touched_blocks(alloc).expect(rt, "memory");
         for place in 0..ROW {
             let at = place as usize;
@@ -310,7 +317,7 @@ fn random_call(seed: &mut u64, touched: usize) -> Call {
         6 => PutWord(place, value),
         7 => PutWord(place / 4 * 4, value),
         _ => match touched.checked_sub((value % 7) as usize) {
-            Some(mark) => Undo(mark),
+            Some(count) => Undo(count),
             None => Reset,
         },
     }
@@ -468,7 +475,7 @@ fn look_untouched<R: Abort>(rt: &R, tracer: &Tracer) {
     for place in 0..places(Bytes::shape(tracer)) {
         assert_eq!(rt; (tracer.byte(place), tracer.status(place)), (0, Untouched));
     }
-    assert_eq!(rt; (tracer.mark(), tracer.room()), (0, LEAST_CAP));
+    assert_eq!(rt; (tracer.touched_count(), tracer.room()), (0, LEAST_CAP));
 }
 
 /// Starts a tracer of a state, and reads and puts its first word and its last one.
@@ -486,7 +493,10 @@ fn use_ends<R: Abort>(rt: &R, alloc: Global, tracer: &mut Tracer) {
         (GetWord(0), 0x0403_0201, 0, ReadWritten, 8),
     ] {
         assert_eq!(rt; make(rt, tracer, call), answer);
-        assert_eq!(rt; (tracer.status(place), tracer.mark()), (status, touched));
+        assert_eq!(rt;
+            (tracer.status(place), tracer.touched_count()),
+            (status, touched)
+        );
     }
     let blocks = tracer.touched_blocks(alloc).expect(rt, "memory");
     for (word, there) in [(0, true), (1, false), (last / 4, true)] {

@@ -6,27 +6,27 @@ use Rattle.std.proofs.lemmas.Bool.{cases_lt, eq-eqb}
 use Rattle.asc_model.specs.declared.why.Why.{Why}
 use Rattle.asc_model.specs.declared.why.Why.TheVariants as whys
 use Rattle.asc_model.specs.State.{State}
-use Rattle.asc_model.specs.Step.{At, Call, Bad, next}
+use Rattle.asc_model.specs.Step.{Went, Call, Faulted, next}
 use Rattle.asc_model.specs.Plain.{plain}
 use Rattle.asc_model.specs.Reach.{Bounds, why_after, IsReach, reach_from}
 use Rattle.asc_model.specs.Laws.{ReachesAreComputed}
 use Rattle.asc_model.proofs.PlainSteps.{plain-first, plain-suc_next, plain-zero, plain_steps_join}
 
 -- fewer steps reach a state too
-prefix : (k n : ℕ) (s after : State) → k ≤ n → plain n s ≡ At after → (now : State) × (plain k s ≡ At now)
+prefix : (k n : ℕ) (s after : State) → k ≤ n → plain n s ≡ Went after → (now : State) × (plain k s ≡ Went now)
 prefix zero n s after le h = (s, plain-zero s)
 prefix (suc k) zero s after le h = absurd (let x : ⊥ = omega arith in x)
 prefix (suc k) (suc n) s after le h =
     let first = plain-first n s after h in
     let rest = prefix k n first.0 after (omega arith) first.2 in
-    (rest.0, plain-suc_next k s (At first.0) first.1 ∙ rest.1)
+    (rest.0, plain-suc_next k s (Went first.0) first.1 ∙ rest.1)
 
 -- one step more
-plain-more : (k : ℕ) (s now after : State) → plain k s ≡ At now → next now ≡ At after → plain (k + 1) s ≡ At after
+plain-more : (k : ℕ) (s now after : State) → plain k s ≡ Went now → next now ≡ Went after → plain (k + 1) s ≡ Went after
 plain-more k s now after h e =
-    plain_steps_join k 1 s now h ∙ plain-suc_next 0 now (At after) e ∙ plain-zero after
+    plain_steps_join k 1 s now h ∙ plain-suc_next 0 now (Went after) e ∙ plain-zero after
 
-at-same : (a b : State) → At a ≡ At b → a ≡ b
+at-same : (a b : State) → Went a ≡ Went b → a ≡ b
 at-same a b e = cc
 
 ends_here : (bounds : Bounds) (start : State) (k fuel : ℕ) (now : State) (why : Why) → why_after bounds k start now ≡ Some why → reach_from bounds start k fuel now ≡ k
@@ -35,20 +35,20 @@ ends_here bounds start k zero now why e = refl
 ends_here bounds start k (suc fuel) now why e =
     ap (λ w. elim w [
       | Some why ↦ k
-      | None ↦ elim (next now) [ At after ↦ reach_from bounds start (k + 1) fuel after | Call ↦ k | Bad fault ↦ k ]
+      | None ↦ elim (next now) [ Went after ↦ reach_from bounds start (k + 1) fuel after | Call ↦ k | Faulted fault ↦ k ]
     ]) e
 
-goes_on : (bounds : Bounds) (start : State) (k fuel : ℕ) (now after : State) → why_after bounds k start now ≡ None → next now ≡ At after
+goes_on : (bounds : Bounds) (start : State) (k fuel : ℕ) (now after : State) → why_after bounds k start now ≡ None → next now ≡ Went after
     → reach_from bounds start k (suc fuel) now ≡ reach_from bounds start (k + 1) fuel after
 unfolding reach_from
 goes_on bounds start k fuel now after e h =
     ap (λ w. elim w [
       | Some why ↦ k
-      | None ↦ elim (next now) [ At after ↦ reach_from bounds start (k + 1) fuel after | Call ↦ k | Bad fault ↦ k ]
+      | None ↦ elim (next now) [ Went after ↦ reach_from bounds start (k + 1) fuel after | Call ↦ k | Faulted fault ↦ k ]
     ]) e
-    ∙ ap (λ x. elim x [ At after ↦ reach_from bounds start (k + 1) fuel after | Call ↦ k | Bad fault ↦ k ]) h
+    ∙ ap (λ x. elim x [ Went after ↦ reach_from bounds start (k + 1) fuel after | Call ↦ k | Faulted fault ↦ k ]) h
 
-from : (bounds : Bounds) (start : State) (n : ℕ) (why : Why) → IsReach bounds start n why → (d k fuel : ℕ) (now : State) → k + d ≡ n → d ≤ fuel → plain k start ≡ At now
+from : (bounds : Bounds) (start : State) (n : ℕ) (why : Why) → IsReach bounds start n why → (d k fuel : ℕ) (now : State) → k + d ≡ n → d ≤ fuel → plain k start ≡ Went now
     → reach_from bounds start k fuel now ≡ n
 from bounds start n why r zero k fuel now e le h =
     let q : k ≡ n = omega arith in
@@ -56,7 +56,7 @@ from bounds start n why r zero k fuel now e le h =
     ends_here bounds start k fuel now why (ap (λ m. why_after bounds m start now) q ∙ ap (λ s. why_after bounds n start s) same ∙ r.ends) ∙ q
 from bounds start n why r (suc d) k zero now e le h = absurd (let x : ⊥ = omega arith in x)
 from bounds start n why r (suc d) k (suc fuel) now e le h =
-    let rest : plain (suc d) now ≡ At r.now = sym (plain_steps_join k (suc d) start now h) ∙ ap (λ m. plain m start) e ∙ r.goes in
+    let rest : plain (suc d) now ≡ Went r.now = sym (plain_steps_join k (suc d) start now h) ∙ ap (λ m. plain m start) e ∙ r.goes in
     let first = plain-first d now r.now rest in
     goes_on bounds start k fuel now first.0 (r.least k now (omega arith) h) first.1
     ∙ from bounds start n why r d (k + 1) fuel first.0 (omega arith) (omega arith) (plain-more k start now first.0 h first.1)

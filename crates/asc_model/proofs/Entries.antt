@@ -7,7 +7,7 @@ use Rattle.std.proofs.lemmas.List.Elements.{All-nil, All-cons, All-head, All-tai
 use Rattle.asc_model.specs.Shape.{length_of}
 use Rattle.asc_model.specs.Number.{AreBytes}
 use Rattle.asc_model.specs.State.{State, IsState}
-use Rattle.asc_model.specs.Step.{Next, At, Call, Bad}
+use Rattle.asc_model.specs.Step.{Next, Went, Call, Faulted}
 use Rattle.asc_model.specs.Plain.{plain}
 use Rattle.asc_model.specs.Places.{places_from, bytes_after}
 use Rattle.asc_model.specs.DependencyVector.{is_among, first_reads, written_in}
@@ -219,9 +219,9 @@ made n s after = record {
 
 -- the entry of n steps of a state, by what they come to
 abbrev pub entry_at : ℕ → State → Next → Option Entry
-entry_at n s (At after) = Some (made n s after)
+entry_at n s (Went after) = Some (made n s after)
 entry_at n s Call = None
-entry_at n s (Bad fault) = None
+entry_at n s (Faulted fault) = None
 
 -- steps that come to this have this entry
 pub entry_of-is : (n : ℕ) (s : State) (x : Next) → plain n s ≡ x → entry_of n s ≡ entry_at n s x
@@ -230,10 +230,10 @@ entry_of-is n s x e = ap (entry_at n s) e
 
 -- steps that have an entry go on, and it is the one of the state to which they lead
 pub entry_by : (n : ℕ) (s : State) (e : Entry) (x : Next) → plain n s ≡ x → entry_of n s ≡ Some e
-    → (after : State) × (plain n s ≡ At after) × (made n s after ≡ e)
-entry_by n s e (At after) p h = (after, p, let same : Some (made n s after) ≡ Some e = sym (entry_of-is n s (At after) p) ∙ h in cc)
+    → (after : State) × (plain n s ≡ Went after) × (made n s after ≡ e)
+entry_by n s e (Went after) p h = (after, p, let same : Some (made n s after) ≡ Some e = sym (entry_of-is n s (Went after) p) ∙ h in cc)
 entry_by n s e Call p h = let none : None ≡ Some e = sym (entry_of-is n s Call p) ∙ h in absurd (cc)
-entry_by n s e (Bad fault) p h = let none : None ≡ Some e = sym (entry_of-is n s (Bad fault) p) ∙ h in absurd (cc)
+entry_by n s e (Faulted fault) p h = let none : None ≡ Some e = sym (entry_of-is n s (Faulted fault) p) ∙ h in absurd (cc)
 
 -- states of one shape with the same bytes
 same_state : (a b : State) → a.shape ≡ b.shape → a.bytes ≡ b.bytes → a ≡ b
@@ -245,7 +245,7 @@ zeros-byte zero k = refl
 zeros-byte (suc n) zero = refl
 zeros-byte (suc n) (suc k) = zeros-byte n k
 
-module _ (n : ℕ) (s after : State) (good : IsState s) (goes : plain n s ≡ At after) where
+module _ (n : ℕ) (s after : State) (good : IsState s) (goes : plain n s ≡ Went after) where
   -- their entry
   abbrev e : Entry
   e = made n s after
@@ -293,7 +293,7 @@ module _ (n : ℕ) (s after : State) (good : IsState s) (goes : plain n s ≡ At
       let long : length other.bytes ≡ length t.bytes = kept'.0.length ∙ ap length_of kept'.1 ∙ sym good'.length in
       let bytes : other.bytes ≡ put.bytes = ext_get_or 0 other.bytes put.bytes (long ∙ sym (length-bytes_after t.bytes e.writes))
       (λ k lt. byte_left t good' h.shape alike k (omega (arith, lt, long))) in
-      alike.goes ∙ ap At (same_state other put kept'.1 bytes)
+      alike.goes ∙ ap Went (same_state other put kept'.1 bytes)
 
   is_entry : 1 ≤ n → IsEntry e
   is_entry least = record {
@@ -346,7 +346,7 @@ module _ (n : ℕ) (s after : State) (good : IsState s) (goes : plain n s ≡ At
       let agree = agree_by_cells (first_reads n s) s t (same_length t good' h.shape) h.reads in
       let reads = cells_among-same (first_reads n s) (first_reads n t) s t alike.read (same_length t good' h.shape) agree in
       let writes = cells_among-same (written_in n s) (written_in n t) after other alike.written long alike.alike.agree in
-      entry_of-is n t (At other) alike.goes ∙ λ i. Some (record { shape = h.shape i; reads = reads i; writes = writes i; steps = n })
+      entry_of-is n t (Went other) alike.goes ∙ λ i. Some (record { shape = h.shape i; reads = reads i; writes = writes i; steps = n })
 
   is_own : IsCanonical e
   is_own = again (own_start e) own-IsState own-Matches

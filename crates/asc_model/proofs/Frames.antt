@@ -17,7 +17,7 @@ use Rattle.asc_model.specs.Machine.{Machine, register, load, is_reserved, Change
 use Rattle.asc_model.specs.Arithmetic.{◌+w◌, one_if}
 use Rattle.asc_model.specs.Instruction.{decode, op_of, rd_of, rs1_of, rs2_of, imm_of}
 use Rattle.asc_model.specs.Effect.{Effect, Set, Load, Store, Jump, LoadReserved, StoreConditional, Modify, GuestCall, Breakpoint, effect}
-use Rattle.asc_model.specs.Step.{Outcome, Goes, Calls, Fails, fault_outcome, is_aligned, loaded_word, effect_of, outcome_of, fetch, outcome_of_word, outcome, Next, At, Call, Bad, next}
+use Rattle.asc_model.specs.Step.{Outcome, Goes, Calls, Faults, fault_outcome, is_aligned, loaded_word, effect_of, outcome_of, fetch, outcome_of_word, outcome, Next, Went, Call, Faulted, next}
 use Rattle.asc_model.specs.Places.{places_from, register_places, reservation_places, data_places, operand_places, places_read, cells_of_outcome, writes, places_written, bytes_after}
 use Rattle.asc_model.specs.DependencyVector.{without, first_reads, written_in}
 use Rattle.asc_model.specs.Laws.{KeepsOthers, AgreeOn, GoesAlike, StepsAlike, OneStepFrame, ManyStepsFrame}
@@ -88,12 +88,12 @@ places_read-fetched s p q = rw (p, q) refl
 
 -- what a pc comes to at which no word can be fetched
 abbrev unfetched_outcome : ℕ → Outcome
-unfetched_outcome pc = Fails (record { kind = if not (is_aligned pc) then Misaligned else FetchOutside; pc = pc; value = pc })
+unfetched_outcome pc = Faults (record { kind = if not (is_aligned pc) then Misaligned else FetchOutside; pc = pc; value = pc })
 
 -- a step whose word cannot be fetched
 unfetched : (x y : Bool) (m : Machine) (o : Outcome) → x && y ≡ false
     → (if not x then fault_outcome m Misaligned m.pc else (if not y then fault_outcome m FetchOutside m.pc else o))
-    ≡ Fails (record { kind = if not x then Misaligned else FetchOutside; pc = m.pc; value = m.pc })
+    ≡ Faults (record { kind = if not x then Misaligned else FetchOutside; pc = m.pc; value = m.pc })
 unfetched true true m o e = absurd (cc)
 unfetched true false m o e = refl
 unfetched false y m o e = refl
@@ -173,7 +173,7 @@ module _ (shape : Shape) (a b : List ℕ) where
   -- ---- outcomes
 
   fault-alike : (view_of s).pc ≡ (view_of t).pc → (kind : FaultKind) (value : ℕ) → fault_outcome (view_of s) kind value ≡ fault_outcome (view_of t) kind value
-  fault-alike p kind value = ap (λ x. Fails (record { kind = kind; pc = x; value = value })) p
+  fault-alike p kind value = ap (λ x. Faults (record { kind = kind; pc = x; value = value })) p
 
   if-alike : (test : Bool) (x y z w : Outcome) → (test ≡ true → x ≡ z) → y ≡ w → (if test then x else y) ≡ (if test then z else w)
   if-alike true x y z w p q = p refl
@@ -376,13 +376,13 @@ module _ (shape : Shape) (a b : List ℕ) (good : IsState (made shape a)) (good'
   unfolding writes
   writes-alike = ap (cells_of_outcome shape) (sym both_alike.outcomes)
 
-  goes_on : (list : List Change) → outcome shape (view_of from) ≡ Goes list → (after : State) → next from ≡ At after
-      → (end : State) × (next other ≡ At end) × GoesAlike (places_written from) from after other end
+  goes_on : (list : List Change) → outcome shape (view_of from) ≡ Goes list → (after : State) → next from ≡ Went after
+      → (end : State) × (next other ≡ Went end) × GoesAlike (places_written from) from after other end
   goes_on list e after h =
-      let there : next from ≡ At (made shape (bytes_after a (writes from))) = next-goes from list good e in
+      let there : next from ≡ Went (made shape (bytes_after a (writes from))) = next-goes from list good e in
       let same : made shape (bytes_after a (writes from)) ≡ after = cc in
       let end = made shape (bytes_after b (writes from)) in
-      let reached : next other ≡ At end = next-goes other list good' (sym both_alike.outcomes ∙ e) ∙ ap (λ (list : List (ℕ × ℕ)). At (made shape (bytes_after b list))) writes-alike in
+      let reached : next other ≡ Went end = next-goes other list good' (sym both_alike.outcomes ∙ e) ∙ ap (λ (list : List (ℕ × ℕ)). Went (made shape (bytes_after b list))) writes-alike in
       let n = length_of shape in
       let written = after-written n a b (writes from) good.length good'.length (places_written-AllBelow from good) in (
         end,
@@ -413,7 +413,7 @@ module _ (shape : Shape) (a b : List ℕ) (good : IsState (made shape a)) (good'
         calls = λ h. next-calls other (sym both_alike.outcomes ∙ e);
         fails = λ fault h. absurd (cc);
       }
-  steps-alike (Fails fault) e =
+  steps-alike (Faults fault) e =
       let n = next-fails from fault e in
       record {
         read = sym both_alike.places;
@@ -435,20 +435,20 @@ one_step_frame s t good good' e agree =
 
 -- ---- many steps
 
-pub first_reads-suc : (n : ℕ) (s first : State) → next s ≡ At first → first_reads (suc n) s ≡ places_read s ++ without (places_written s) (first_reads n first)
+pub first_reads-suc : (n : ℕ) (s first : State) → next s ≡ Went first → first_reads (suc n) s ≡ places_read s ++ without (places_written s) (first_reads n first)
 unfolding first_reads
 first_reads-suc n s first e = ap (λ (x : Next). elim x [
-  | At after ↦ places_read s ++ without (places_written s) (first_reads n after)
+  | Went after ↦ places_read s ++ without (places_written s) (first_reads n after)
   | Call ↦ []
-  | Bad fault ↦ []
+  | Faulted fault ↦ []
 ]) e
 
-pub written_in-suc : (n : ℕ) (s first : State) → next s ≡ At first → written_in (suc n) s ≡ places_written s ++ written_in n first
+pub written_in-suc : (n : ℕ) (s first : State) → next s ≡ Went first → written_in (suc n) s ≡ places_written s ++ written_in n first
 unfolding written_in
 written_in-suc n s first e = ap (λ (x : Next). elim x [
-  | At after ↦ places_written s ++ written_in n after
+  | Went after ↦ places_written s ++ written_in n after
   | Call ↦ []
-  | Bad fault ↦ []
+  | Faulted fault ↦ []
 ]) e
 
 -- places at which two states agree, but for those that were written, agree after steps that go alike
@@ -519,7 +519,7 @@ many_steps_frame (suc n) s after t good good' e h agree =
     let places : places_written t ≡ places_written s = ap places_of step.writes in
     record {
       other = rest.other;
-      goes = plain-suc_next n t (At went.0) went.1 ∙ rest.goes;
+      goes = plain-suc_next n t (Went went.0) went.1 ∙ rest.goes;
       alike = subst (λ (list : List ℕ). GoesAlike list s after t rest.other) (sym (written_in-suc n s first.0 first.1))
           (goes_both (places_written s) (written_in n first.0) s first.0 after t went.0 rest.other went.2 rest.alike);
       read =

@@ -8,7 +8,7 @@ use Rattle.std.proofs.lemmas.List.Elements.{All-nil, All-cons, All-head, All-tai
 use Rattle.asc_model.specs.Shape.{Shape, IsShape, length_of}
 use Rattle.asc_model.specs.Number.{AreBytes}
 use Rattle.asc_model.specs.State.{State, IsState}
-use Rattle.asc_model.specs.Step.{At}
+use Rattle.asc_model.specs.Step.{Went}
 use Rattle.asc_model.specs.Plain.{plain}
 use Rattle.asc_model.specs.Places.{places_from, places_read, places_written, bytes_after}
 use Rattle.asc_model.specs.DependencyVector.{is_among, without, first_reads, written_in}
@@ -222,7 +222,7 @@ reads_later false false true v x = refl
 reads_later false false false v x = refl
 
 -- a place that the first steps read first, or that they do not write and the others read first
-first_reads-both : (m n : ℕ) (s between : State) → plain m s ≡ At between → (place : ℕ)
+first_reads-both : (m n : ℕ) (s between : State) → plain m s ≡ Went between → (place : ℕ)
     → is_among place (first_reads (m + n) s) ≡ (is_among place (first_reads m s) || (not (is_among place (written_in m s)) && is_among place (first_reads n between)))
 unfolding first_reads written_in
 first_reads-both zero n s between h place =
@@ -246,7 +246,7 @@ or_assoc : (x y z : Bool) → (x || (y || z)) ≡ ((x || y) || z)
 or_assoc true y z = refl
 or_assoc false y z = refl
 
-written_in-both : (m n : ℕ) (s between : State) → plain m s ≡ At between → (place : ℕ)
+written_in-both : (m n : ℕ) (s between : State) → plain m s ≡ Went between → (place : ℕ)
     → is_among place (written_in (m + n) s) ≡ (is_among place (written_in m s) || is_among place (written_in n between))
 unfolding written_in
 written_in-both zero n s between h place =
@@ -310,9 +310,9 @@ again_true e is s good h =
     let found = entry_by e.steps (own_start e) e (plain e.steps (own_start e)) refl is.own in
     again e.steps (own_start e) found.0 begun found.1 s good (subst (λ x. Matches x s) (sym found.2) h) ∙ ap Some found.2
 
-made_again : (e : Entry) → IsTrueEntry e → (s after : State) → IsState s → Matches e s → plain e.steps s ≡ At after → made e.steps s after ≡ e
+made_again : (e : Entry) → IsTrueEntry e → (s after : State) → IsState s → Matches e s → plain e.steps s ≡ Went after → made e.steps s after ≡ e
 made_again e is s after good h goes =
-    let one : Some (made e.steps s after) ≡ Some e = sym (entry_of-is e.steps s (At after) goes) ∙ again_true e is s good h in
+    let one : Some (made e.steps s after) ≡ Some e = sym (entry_of-is e.steps s (Went after) goes) ∙ again_true e is s good h in
     cc
 
 -- the entry of both
@@ -379,7 +379,7 @@ module _ (a b : Entry) (first : IsTrueEntry a) (second : IsTrueEntry b) (can : c
   abbrev mid : State
   mid = put_entry a own
 
-  mid-goes : plain a.steps own ≡ At mid
+  mid-goes : plain a.steps own ≡ Went mid
   mid-goes = first.everywhere own own-good own-matches
 
   mid-good : IsState mid
@@ -409,7 +409,7 @@ module _ (a b : Entry) (first : IsTrueEntry a) (second : IsTrueEntry b) (can : c
   abbrev fin : State
   fin = put_entry b mid
 
-  fin-goes : plain b.steps mid ≡ At fin
+  fin-goes : plain b.steps mid ≡ Went fin
   fin-goes = second.everywhere mid mid-good mid-matches
 
   fin-byte : (p : ℕ) → p < n → slice_index fin.bytes p ≡ unwrap_or (byte_in b.writes p) (slice_index mid.bytes p)
@@ -418,7 +418,7 @@ module _ (a b : Entry) (first : IsTrueEntry a) (second : IsTrueEntry b) (can : c
   fin-good : IsState fin
   fin-good = (plain_steps_keep_states b.steps mid fin mid-good fin-goes).0
 
-  whole : plain (a.steps + b.steps) own ≡ At fin
+  whole : plain (a.steps + b.steps) own ≡ Went fin
   whole = plain_steps_join a.steps b.steps own mid mid-goes ∙ fin-goes
 
   -- ---- what each of them has at a place, by what its steps touch
@@ -481,7 +481,7 @@ module _ (a b : Entry) (first : IsTrueEntry a) (second : IsTrueEntry b) (can : c
   own_entry =
       let reads = sym reads-same in
       let writes = sym writes-same in
-      entry_of-is (a.steps + b.steps) own (At fin) whole ∙ λ i. Some (record { shape = a.shape; reads = reads i; writes = writes i; steps = a.steps + b.steps })
+      entry_of-is (a.steps + b.steps) own (Went fin) whole ∙ λ i. Some (record { shape = a.shape; reads = reads i; writes = writes i; steps = a.steps + b.steps })
 
   pub join_true : IsTrueEntry e
   join_true = entries_are_true (a.steps + b.steps) own e own-good (omega (arith, first.entry.steps)) own_entry

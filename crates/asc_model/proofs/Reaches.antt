@@ -3,7 +3,7 @@ use Rattle.std.proofs.Common.{◌≡◌, ℕ, ◌<◌, Option, Some, None, sym, 
 use Rattle.std.proofs.lemmas.Bool.{cases_order}
 use Rattle.asc_model.specs.declared.why.Why.{Why}
 use Rattle.asc_model.specs.State.{State}
-use Rattle.asc_model.specs.Step.{Next, At}
+use Rattle.asc_model.specs.Step.{Next, Went}
 use Rattle.asc_model.specs.Plain.{plain}
 use Rattle.asc_model.specs.Reach.{Bounds, why_after, IsReach}
 use Rattle.asc_model.specs.Laws.{ReachesAreOne}
@@ -17,8 +17,8 @@ same_reason : (found : Option Why) (why other : Why) → found ≡ Some why → 
 same_reason found why other p q = let e : Some why ≡ Some other = sym p ∙ q in cc
 
 -- steps lead to one state
-same_state : (x : Next) (a b : State) → x ≡ At a → x ≡ At b → a ≡ b
-same_state x a b p q = let e : At a ≡ At b = sym p ∙ q in cc
+same_state : (x : Next) (a b : State) → x ≡ Went a → x ≡ Went b → a ≡ b
+same_state x a b p q = let e : Went a ≡ Went b = sym p ∙ q in cc
 
 -- of two reaches none is before the other
 not_before : (bounds : Bounds) (start : State) (m n : ℕ) (why other : Why) → IsReach bounds start m why

@@ -21,7 +21,7 @@ use Rattle.asc_model.specs.Machine.{Machine, Change, Pc, Register, Memory, reser
 use Rattle.asc_model.specs.Arithmetic.{◌+w◌, signed, one_if}
 use Rattle.asc_model.specs.Effect.{Effect, Set, Load, Store, Jump, LoadReserved, StoreConditional, Modify, GuestCall, Breakpoint, branch, effect}
 use Rattle.asc_model.specs.Instruction.{Format, U, J, I, Shift, S, B, R, Plain, Row, operands, fits, find, table, decode, op_of, rd_of, rs1_of, rs2_of, imm_of}
-use Rattle.asc_model.specs.Step.{Outcome, Goes, Calls, Fails, fault_outcome, is_aligned, atomic_outcome, loaded_word, effect_of, outcome_of, fetch, outcome, At, next}
+use Rattle.asc_model.specs.Step.{Outcome, Goes, Calls, Faults, fault_outcome, is_aligned, atomic_outcome, loaded_word, effect_of, outcome_of, fetch, outcome, Went, next}
 use Rattle.asc_model.specs.Places.{places_from, register_places, reservation_places, data_places, operand_places, places_read, places_written, cells, cells_of, cells_of_outcome, writes}
 use Rattle.asc_model.specs.DependencyVector.{is_among}
 use Rattle.asc_model.specs.Laws.{RegistersFollowWords}
@@ -210,7 +210,7 @@ abbrev WritesRegisters : Shape → ℕ → Outcome → Type 0
 WritesRegisters shape rd (Goes list) = (place : ℕ) → place < 128
     → is_among place (map (λ cell. cell.0) (flat_map (cells_of shape) list)) ≡ is_among place (registers_written rd)
 WritesRegisters shape rd Calls = Unit {0}
-WritesRegisters shape rd (Fails fault) = Unit {0}
+WritesRegisters shape rd (Faults fault) = Unit {0}
 
 register-cells : (shape : Shape) (rd value : ℕ) → map (λ cell. cell.0) (cells_of shape (Register rd value)) ≡ register_places rd
 register-cells shape zero value = refl
@@ -283,22 +283,22 @@ record StepsBy (s : State) (i : Instr) : Type 0 where
   read : (place : ℕ) → place < 128 → is_among place (places_read s) ≡ is_among place (registers_read i)
   written : (place : ℕ) → place < 128 → is_among place (places_written s) ≡ is_among place (registers_written (rd_of i))
 
-goes≢ : (s after : State) (fault : Fault) → outcome s.shape (view_of s) ≡ Fails fault → next s ≡ At after → ⊥
+goes≢ : (s after : State) (fault : Fault) → outcome s.shape (view_of s) ≡ Faults fault → next s ≡ Went after → ⊥
 goes≢ s after fault e h = let n = next-fails s fault e in absurd (cc)
 
-refused≢ : (s after : State) (kind : FaultKind) (value : ℕ) → outcome s.shape (view_of s) ≡ fault_outcome (view_of s) kind value → next s ≡ At after → ⊥
+refused≢ : (s after : State) (kind : FaultKind) (value : ℕ) → outcome s.shape (view_of s) ≡ fault_outcome (view_of s) kind value → next s ≡ Went after → ⊥
 refused≢ s after kind value e h = goes≢ s after (record { kind = kind; pc = (view_of s).pc; value = value }) e h
 
-calls≢ : (s after : State) → outcome s.shape (view_of s) ≡ Calls → next s ≡ At after → ⊥
+calls≢ : (s after : State) → outcome s.shape (view_of s) ≡ Calls → next s ≡ Went after → ⊥
 calls≢ s after e h = let n = next-calls s e in absurd (cc)
 
-written_by : (shape : Shape) (rd : ℕ) (o : Outcome) → WritesRegisters shape rd o → (o ≡ Calls → ⊥) → ((fault : Fault) → o ≡ Fails fault → ⊥) → (place : ℕ) → place < 128
+written_by : (shape : Shape) (rd : ℕ) (o : Outcome) → WritesRegisters shape rd o → (o ≡ Calls → ⊥) → ((fault : Fault) → o ≡ Faults fault → ⊥) → (place : ℕ) → place < 128
     → is_among place (map (λ cell. cell.0) (cells_of_outcome shape o)) ≡ is_among place (registers_written rd)
 written_by shape rd (Goes list) h calls fails place low = h place low
 written_by shape rd Calls h calls fails place low = absurd (calls refl)
-written_by shape rd (Fails fault) h calls fails place low = absurd (fails fault refl)
+written_by shape rd (Faults fault) h calls fails place low = absurd (fails fault refl)
 
-goes_by : (s after : State) (aligned held : Bool) (i : Option Instr) → next s ≡ At after → is_aligned (view_of s).pc ≡ aligned → holds s.shape (view_of s).pc 4 ≡ held
+goes_by : (s after : State) (aligned held : Bool) (i : Option Instr) → next s ≡ Went after → is_aligned (view_of s).pc ≡ aligned → holds s.shape (view_of s).pc 4 ≡ held
     → decode s.shape.version (fetch s.shape (view_of s)) ≡ i → (found : Instr) × StepsBy s found
 unfolding outcome places_read writes
 goes_by s after false held i h a b d = absurd (refused≢ s after Misaligned (view_of s).pc (rw a refl) h)

@@ -7,7 +7,7 @@ use Rattle.asc_model.specs.declared.version.Version.{Version}
 use Rattle.asc_model.specs.Shape.{Shape}
 use Rattle.asc_model.specs.State.{State, IsState}
 use Rattle.asc_model.specs.Machine.{view_of}
-use Rattle.asc_model.specs.Step.{At, next, fetch}
+use Rattle.asc_model.specs.Step.{Went, next, fetch}
 use Rattle.asc_model.specs.Plain.{plain}
 use Rattle.asc_model.specs.Places.{places_read, places_written}
 use Rattle.asc_model.specs.DependencyVector.{is_among, without, first_reads, written_in}
@@ -40,7 +40,7 @@ record Carried (n : ℕ) (s then : State) (place : ℕ) : Type 0 where
   read : is_among place (places_read then) ≡ true → (is_among place (first_reads n s) || is_among place (written_in n s)) ≡ true
   written : is_among place (places_written then) ≡ true → is_among place (written_in n s) ≡ true
 
-carried : (k n : ℕ) (s then now : State) → k < n → plain k s ≡ At then → plain n s ≡ At now → (place : ℕ) → Carried n s then place
+carried : (k n : ℕ) (s then now : State) → k < n → plain k s ≡ Went then → plain n s ≡ Went now → (place : ℕ) → Carried n s then place
 carried k zero s then now few at end place = absurd (let x : ⊥ = omega (arith, few) in x)
 carried zero (suc n) s then now few at end place =
     let first = plain-first n s now end in
@@ -53,8 +53,8 @@ carried zero (suc n) s then now few at end place =
 carried (suc k) (suc n) s then now few at end place =
     let first = plain-first n s now end in
     let begun = plain-first k s then at in
-    let same : begun.0 ≡ first.0 = (let e : At begun.0 ≡ At first.0 = sym begun.1 ∙ first.1 in cc) in
-    let rest = carried k n first.0 then now (omega (arith, few)) (subst (λ x. plain k x ≡ At then) same begun.2) first.2 place in
+    let same : begun.0 ≡ first.0 = (let e : Went begun.0 ≡ Went first.0 = sym begun.1 ∙ first.1 in cc) in
+    let rest = carried k n first.0 then now (omega (arith, few)) (subst (λ x. plain k x ≡ Went then) same begun.2) first.2 place in
     let reads = ap (is_among place) (first_reads-suc n s first.0 first.1) ∙ among-append place (places_read s) (without (places_written s) (first_reads n first.0))
     ∙ ap (λ (b : Bool). is_among place (places_read s) || b) (among-without place (places_written s) (first_reads n first.0)) in
     let writes = ap (is_among place) (written_in-suc n s first.0 first.1) ∙ among-append place (places_written s) (written_in n first.0) in

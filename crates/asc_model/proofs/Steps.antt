@@ -23,7 +23,7 @@ use Rattle.asc_model.specs.Machine.{Machine, IsMachine, register, load, is_reser
 use Rattle.asc_model.specs.Instruction.{Format, U, J, I, Shift, S, B, R, Plain, Row, operands, fits, find, table, decode, rd_of, rs1_of, rs2_of, imm_of, op_of}
 use Rattle.asc_model.specs.Arithmetic.{signed, word_of, ◌+w◌, one_if, even_part, shift_right_signed, shift_amount, high_word, quotient, quotient_unsigned, remainder, remainder_unsigned}
 use Rattle.asc_model.specs.Effect.{Effect, Set, Load, Store, Jump, LoadReserved, StoreConditional, Modify, GuestCall, Breakpoint, branch, effect}
-use Rattle.asc_model.specs.Step.{Outcome, Goes, Calls, Fails, fault_outcome, is_aligned, atomic_outcome, loaded_word, effect_of, outcome_of, fetch, outcome_of_word, outcome, At, Call, Bad, next_of, next}
+use Rattle.asc_model.specs.Step.{Outcome, Goes, Calls, Faults, fault_outcome, is_aligned, atomic_outcome, loaded_word, effect_of, outcome_of, fetch, outcome_of_word, outcome, Went, Call, Faulted, next_of, next}
 use Rattle.asc_model.specs.Places.{cells_of_outcome, writes, bytes_after}
 use Rattle.asc_model.proofs.Numbers.{number_of-below, length-bytes_of, AreBytes-bytes_of, AreBytes-append, AreBytes-take, AreBytes-drop}
 use Rattle.asc_model.proofs.Changes.{IsChange, AreChanges, IsMachine-view_of, state_of-after_changes}
@@ -368,7 +368,7 @@ loaded_word-below n number false h small = let most : 2 ^ (8 * n) ≤ 2 ^ 32 = p
 abbrev pub IsOutcome : Shape → Outcome → Type 0
 IsOutcome shape (Goes list) = AreChanges shape list
 IsOutcome shape Calls = ⊤
-IsOutcome shape (Fails fault) = ⊤
+IsOutcome shape (Faults fault) = ⊤
 
 -- changes at an atomic's word may be, if they may be where that word is in memory
 atomic-IsOutcome : (shape : Shape) (m : Machine) (outside : FaultKind) (address : ℕ) (list : List Change) → (holds shape address 4 ≡ true → AreChanges shape list)
@@ -449,18 +449,18 @@ pub outcome-AreChanges : (s : State) (list : List Change) → IsState s → outc
 outcome-AreChanges s list good e = subst (IsOutcome s.shape) e (outcome-IsOutcome s.shape (view_of s) (IsMachine-view_of s good))
 
 -- a step that goes on writes its changes into the state
-pub next-goes : (s : State) (list : List Change) → IsState s → outcome s.shape (view_of s) ≡ Goes list → next s ≡ At (record s { bytes = bytes_after s.bytes (writes s) })
+pub next-goes : (s : State) (list : List Change) → IsState s → outcome s.shape (view_of s) ≡ Goes list → next s ≡ Went (record s { bytes = bytes_after s.bytes (writes s) })
 unfolding next writes
 next-goes s list good e =
     ap (next_of s.shape (view_of s)) e
-    ∙ ap At (state_of-after_changes s list good (outcome-AreChanges s list good e))
-    ∙ ap (λ o. At (record s { bytes = bytes_after s.bytes (cells_of_outcome s.shape o) })) (sym e)
+    ∙ ap Went (state_of-after_changes s list good (outcome-AreChanges s list good e))
+    ∙ ap (λ o. Went (record s { bytes = bytes_after s.bytes (cells_of_outcome s.shape o) })) (sym e)
 
 pub next-calls : (s : State) → outcome s.shape (view_of s) ≡ Calls → next s ≡ Call
 unfolding next
 next-calls s e = ap (next_of s.shape (view_of s)) e
 
-pub next-fails : (s : State) (fault : Fault) → outcome s.shape (view_of s) ≡ Fails fault → next s ≡ Bad fault
+pub next-fails : (s : State) (fault : Fault) → outcome s.shape (view_of s) ≡ Faults fault → next s ≡ Faulted fault
 unfolding next
 next-fails s fault e = ap (next_of s.shape (view_of s)) e
 
@@ -468,6 +468,6 @@ pub writes-calls : (s : State) → outcome s.shape (view_of s) ≡ Calls → wri
 unfolding writes
 writes-calls s e = ap (cells_of_outcome s.shape) e
 
-pub writes-fails : (s : State) (fault : Fault) → outcome s.shape (view_of s) ≡ Fails fault → writes s ≡ []
+pub writes-fails : (s : State) (fault : Fault) → outcome s.shape (view_of s) ≡ Faults fault → writes s ≡ []
 unfolding writes
 writes-fails s fault e = ap (cells_of_outcome s.shape) e

@@ -3,7 +3,7 @@
 use Rattle.std.specs.Prelude.{ℕ, zero, suc, Bool, not, ◌==◌, List, [], ◌++◌, filter}
 use Rattle.std.specs.List.{list_any}
 use Rattle.asc_model.specs.State.{State}
-use Rattle.asc_model.specs.Step.{At, Call, Bad, next}
+use Rattle.asc_model.specs.Step.{Went, Call, Faulted, next}
 use Rattle.asc_model.specs.Places.{places_read, places_written}
 
 -- whether a place is in a list
@@ -19,16 +19,16 @@ without others places = filter (λ place. not (is_among place others)) places
 unfoldable pub first_reads : ℕ → State → List ℕ
 first_reads zero s = []
 first_reads (suc n) s = elim (next s) [
-  | At after ↦ places_read s ++ without (places_written s) (first_reads n after)
+  | Went after ↦ places_read s ++ without (places_written s) (first_reads n after)
   | Call ↦ []
-  | Bad fault ↦ []
+  | Faulted fault ↦ []
 ]
 
 -- the places that n steps of a state write, where they all go on
 unfoldable pub written_in : ℕ → State → List ℕ
 written_in zero s = []
 written_in (suc n) s = elim (next s) [
-  | At after ↦ places_written s ++ written_in n after
+  | Went after ↦ places_written s ++ written_in n after
   | Call ↦ []
-  | Bad fault ↦ []
+  | Faulted fault ↦ []
 ]

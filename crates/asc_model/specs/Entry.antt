@@ -4,7 +4,7 @@ use Rattle.std.specs.Prelude.{◌≡◌, ℕ, ◌^◌, ◌<◌, ◌≤◌, List,
 use Rattle.std.specs.List.Sorted.{IsStrictlyIncreasing}
 use Rattle.asc_model.specs.Shape.{Shape, IsShape, length_of}
 use Rattle.asc_model.specs.State.{State, IsState}
-use Rattle.asc_model.specs.Step.{At, Call, Bad}
+use Rattle.asc_model.specs.Step.{Went, Call, Faulted}
 use Rattle.asc_model.specs.Plain.{plain}
 use Rattle.asc_model.specs.Places.{places_from, bytes_after}
 use Rattle.asc_model.specs.DependencyVector.{is_among, first_reads, written_in}
@@ -40,7 +40,7 @@ put_entry e s = record s { bytes = bytes_after s.bytes e.writes }
 -- An entry holds everywhere: from every state that it matches its steps, plainly run, go on to that state with its
 -- writes in place.
 abbrev pub HoldsEverywhere : Entry → Type 0
-HoldsEverywhere e = (s : State) → IsState s → Matches e s → plain e.steps s ≡ At (put_entry e s)
+HoldsEverywhere e = (s : State) → IsState s → Matches e s → plain e.steps s ≡ Went (put_entry e s)
 
 -- the places of a state that are among these, rising, each with its byte
 abbrev pub cells_among : List ℕ → State → List (ℕ × ℕ)
@@ -51,14 +51,14 @@ cells_among places s = map (λ place. (place, slice_index s.bytes place))
 -- of that state, and the places that they write, with the bytes of the state to which they lead
 unfoldable pub entry_of : ℕ → State → Option Entry
 entry_of n s = elim (plain n s) [
-  | At after ↦ Some (record {
+  | Went after ↦ Some (record {
     shape = s.shape;
     reads = cells_among (first_reads n s) s;
     writes = cells_among (written_in n s) after;
     steps = n;
   })
   | Call ↦ None
-  | Bad fault ↦ None
+  | Faulted fault ↦ None
 ]
 
 -- the state of an entry's shape that has its reads, and 0 at all other places

@@ -5,7 +5,7 @@ use Rattle.asc_model.specs.declared.fault.Fault.{Fault}
 use Rattle.asc_model.specs.Shape.{Shape}
 use Rattle.asc_model.specs.State.{State, IsState}
 use Rattle.asc_model.specs.Machine.{Machine, IsMachine, view_of, state_of}
-use Rattle.asc_model.specs.Step.{At, Call, Bad, fetch, next}
+use Rattle.asc_model.specs.Step.{Went, Call, Faulted, fetch, next}
 use Rattle.asc_model.specs.Instruction.{Row, fits, operands, table, decode}
 use Rattle.asc_model.specs.Places.{places_read, places_written, writes, bytes_after}
 use Rattle.asc_model.specs.Plain.{plain}
@@ -34,12 +34,12 @@ KeepsOthers places before after = (place : ℕ) → All (λ written. written ≢
 -- what the writes of a state's step come to, in each case of the step
 pub record WritesOfStep (s : State) : Type 0 where
   -- the next state is this one with the writes put into its bytes
-  pub goes : (after : State) → next s ≡ At after → after ≡ record s { bytes = bytes_after s.bytes (writes s) }
+  pub goes : (after : State) → next s ≡ Went after → after ≡ record s { bytes = bytes_after s.bytes (writes s) }
   -- a place that is not written keeps its byte
-  pub others : (after : State) → next s ≡ At after → KeepsOthers (places_written s) s after
+  pub others : (after : State) → next s ≡ Went after → KeepsOthers (places_written s) s after
   -- a guest call and a fault write nothing
   pub calls : next s ≡ Call → writes s ≡ []
-  pub fails : (fault : Fault) → next s ≡ Bad fault → writes s ≡ []
+  pub fails : (fault : Fault) → next s ≡ Faulted fault → writes s ≡ []
 
 -- A step changes the bytes of its state by what it writes, and by nothing else.
 abbrev pub StepWritesBytes : Type 0
@@ -47,7 +47,7 @@ StepWritesBytes = (s : State) → IsState s → WritesOfStep s
 
 -- A step leads from a state to a state of the same shape.
 abbrev pub StepsKeepStates : Type 0
-StepsKeepStates = (s after : State) → IsState s → next s ≡ At after → IsState after × (after.shape ≡ s.shape)
+StepsKeepStates = (s after : State) → IsState s → next s ≡ Went after → IsState after × (after.shape ≡ s.shape)
 
 -- the places that a step reads and those that it writes are places of its state
 pub record TouchesPlaces (s : State) : Type 0 where
@@ -60,11 +60,11 @@ StepsTouchPlaces = (s : State) → IsState s → TouchesPlaces s
 
 -- Plain steps that reach a state, and then plain steps of that state, are as many plain steps in one go.
 abbrev pub PlainStepsJoin : Type 0
-PlainStepsJoin = (m n : ℕ) (s between : State) → plain m s ≡ At between → plain (m + n) s ≡ plain n between
+PlainStepsJoin = (m n : ℕ) (s between : State) → plain m s ≡ Went between → plain (m + n) s ≡ plain n between
 
 -- Plain steps lead from a state to a state of the same shape.
 abbrev pub PlainStepsKeepStates : Type 0
-PlainStepsKeepStates = (n : ℕ) (s after : State) → IsState s → plain n s ≡ At after
+PlainStepsKeepStates = (n : ℕ) (s after : State) → IsState s → plain n s ≡ Went after
     → IsState after × (after.shape ≡ s.shape)
 
 -- no word is for both rows
@@ -98,14 +98,14 @@ pub record RegistersAlike (s t : State) : Type 0 where
 -- states of one version whose steps fetch the same word.
 abbrev pub RegistersFollowWords : Type 0
 RegistersFollowWords = (s t after other : State) → t.shape.version ≡ s.shape.version
-    → fetch t.shape (view_of t) ≡ fetch s.shape (view_of s) → next s ≡ At after → next t ≡ At other
+    → fetch t.shape (view_of t) ≡ fetch s.shape (view_of s) → next s ≡ Went after → next t ≡ Went other
     → RegistersAlike s t
 
 -- after k steps of a state its next step goes on, from this state
 pub record GoesOnAfter (k : ℕ) (s now : State) : Type 0 where
-  pub reached : plain k s ≡ At now
+  pub reached : plain k s ≡ Went now
   pub after : State
-  pub goes : next now ≡ At after
+  pub goes : next now ≡ Went after
 
 -- Of the pc and the registers the step after n steps of a state reads only what these read first or write. It writes only
 -- what they write.
@@ -138,10 +138,10 @@ pub record GoesAlike (written : List ℕ) (s after t other : State) : Type 0 whe
 pub record StepsAlike (s t : State) : Type 0 where
   pub read : places_read t ≡ places_read s
   pub writes : writes t ≡ writes s
-  pub goes : (after : State) → next s ≡ At after
-      → (other : State) × (next t ≡ At other) × GoesAlike (places_written s) s after t other
+  pub goes : (after : State) → next s ≡ Went after
+      → (other : State) × (next t ≡ Went other) × GoesAlike (places_written s) s after t other
   pub calls : next s ≡ Call → next t ≡ Call
-  pub fails : (fault : Fault) → next s ≡ Bad fault → next t ≡ Bad fault
+  pub fails : (fault : Fault) → next s ≡ Faulted fault → next t ≡ Faulted fault
 
 -- States of one shape that agree on the places that a step of one reads step alike.
 abbrev pub OneStepFrame : Type 0
@@ -151,7 +151,7 @@ OneStepFrame = (s t : State) → IsState s → IsState t → t.shape ≡ s.shape
 -- n steps of two states alike: the same places are read first, and the same are written
 pub record PlainStepsAlike (n : ℕ) (s after t : State) : Type 0 where
   pub other : State
-  pub goes : plain n t ≡ At other
+  pub goes : plain n t ≡ Went other
   pub alike : GoesAlike (written_in n s) s after t other
   pub read : first_reads n t ≡ first_reads n s
   pub written : written_in n t ≡ written_in n s
@@ -159,7 +159,7 @@ pub record PlainStepsAlike (n : ℕ) (s after t : State) : Type 0 where
 -- States of one shape that agree on the places that n steps of one read first take these steps alike.
 abbrev pub ManyStepsFrame : Type 0
 ManyStepsFrame = (n : ℕ) (s after t : State) → IsState s → IsState t → t.shape ≡ s.shape
-    → plain n s ≡ At after → AgreeOn (first_reads n s) s t → PlainStepsAlike n s after t
+    → plain n s ≡ Went after → AgreeOn (first_reads n s) s t → PlainStepsAlike n s after t
 
 -- ---- entries and traces
 

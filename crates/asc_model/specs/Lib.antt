@@ -14,4 +14,5 @@ pub mod Case
 pub mod EntryFile
 pub mod Join
 pub mod Reach
+pub mod Tally
 pub mod Laws

@@ -6,7 +6,7 @@ use Rattle.asc_model.specs.declared.why.Why.{Why}
 use Rattle.asc_model.specs.declared.why.Why.TheVariants as whys
 use Rattle.asc_model.specs.State.{State}
 use Rattle.asc_model.specs.Machine.{view_of}
-use Rattle.asc_model.specs.Step.{Next, At, Call, Bad, next}
+use Rattle.asc_model.specs.Step.{Next, Went, Call, Faulted, next}
 use Rattle.asc_model.specs.Plain.{plain}
 use Rattle.asc_model.specs.Places.{places_from}
 use Rattle.asc_model.specs.DependencyVector.{is_among, first_reads, written_in}
@@ -23,9 +23,9 @@ pub record Bounds : Type 0 where
 
 -- whether steps lead to a state with this pc
 abbrev pub leads_to : ℕ → Next → Bool
-leads_to pc (At now) = (view_of now).pc == pc
+leads_to pc (Went now) = (view_of now).pc == pc
 leads_to pc Call = false
-leads_to pc (Bad fault) = false
+leads_to pc (Faulted fault) = false
 
 -- how many of the first n steps lead to this pc
 abbrev pub laps_in : ℕ → (n : ℕ) → State → ℕ
@@ -51,9 +51,9 @@ bound_met bounds n start =
 
 -- why there is no next step
 abbrev pub why_no_step : Next → Option Why
-why_no_step (At after) = None
+why_no_step (Went after) = None
 why_no_step Call = Some whys.Call
-why_no_step (Bad fault) = Some (whys.Fault fault)
+why_no_step (Faulted fault) = Some (whys.Fault fault)
 
 -- why a trace of a start ends after n steps, which lead to now; none where it goes on
 abbrev pub why_after : Bounds → ℕ → (start now : State) → Option Why
@@ -61,14 +61,14 @@ why_after bounds n start now = option_or (bound_met bounds n start) (why_no_step
 
 -- nothing ends a trace of a start before n steps
 abbrev pub GoesOn : Bounds → State → ℕ → Type 0
-GoesOn bounds start n = (k : ℕ) (now : State) → k < n → plain k start ≡ At now
+GoesOn bounds start n = (k : ℕ) (now : State) → k < n → plain k start ≡ Went now
     → why_after bounds k start now ≡ None
 
 -- A trace of a start reaches n steps, and ends there for this reason, which is the first that stands: it does so after
 -- these steps, and before them none does.
 pub record IsReach (bounds : Bounds) (start : State) (n : ℕ) (why : Why) : Type 0 where
   pub now : State
-  pub goes : plain n start ≡ At now
+  pub goes : plain n start ≡ Went now
   pub ends : why_after bounds n start now ≡ Some why
   pub least : GoesOn bounds start n
 
@@ -78,9 +78,9 @@ reach_from bounds start k zero now = k
 reach_from bounds start k (suc n) now = elim (why_after bounds k start now) [
   | Some why ↦ k
   | None ↦ elim (next now) [
-    | At after ↦ reach_from bounds start (k + 1) n after
+    | Went after ↦ reach_from bounds start (k + 1) n after
     | Call ↦ k
-    | Bad fault ↦ k
+    | Faulted fault ↦ k
   ]
 ]
 

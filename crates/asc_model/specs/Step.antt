@@ -19,10 +19,10 @@ use Rattle.asc_model.specs.Effect.{Effect, Set, Load, Store, Jump, LoadReserved,
 pub data Outcome : Type 0 where
   Goes : List Change → Outcome
   Calls : Outcome
-  Fails : Fault → Outcome
+  Faults : Fault → Outcome
 
 abbrev pub fault_outcome : Machine → FaultKind → ℕ → Outcome
-fault_outcome m kind value = Fails (record { kind = kind; pc = m.pc; value = value })
+fault_outcome m kind value = Faults (record { kind = kind; pc = m.pc; value = value })
 
 abbrev pub is_aligned : ℕ → Bool
 is_aligned address = address % 4 == 0
@@ -84,14 +84,14 @@ outcome shape m =
 
 -- what a step makes of a state
 pub data Next : Type 0 where
-  At : State → Next
+  Went : State → Next
   Call : Next
-  Bad : Fault → Next
+  Faulted : Fault → Next
 
 abbrev pub next_of : Shape → Machine → Outcome → Next
-next_of shape m (Goes list) = At (state_of shape (after_changes shape m list))
+next_of shape m (Goes list) = Went (state_of shape (after_changes shape m list))
 next_of shape m Calls = Call
-next_of shape m (Fails fault) = Bad fault
+next_of shape m (Faults fault) = Faulted fault
 
 -- one step of a state, by way of its machine
 unfoldable pub next : State → Next

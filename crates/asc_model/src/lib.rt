@@ -1,14 +1,16 @@
 //! The meaning of the machine: what a state is, which instruction a word is, and what one step of it does.
 //!
-//! The definitions stand in `specs/`. The code has the plain data types that they speak of, and functions that stand
-//! for the laws that tie the definitions to one another.
+//! The definitions stand in `specs/`. The code has the plain data types that they speak of, the numbers of a run and of
+//! its workers, and functions that stand for the laws that tie the definitions to one another.
 #![tactic(auto)]
 
 mod fault;
 mod instruction;
 mod laws;
+mod run_counts;
 mod save_fault;
 mod status;
+mod tally;
 mod version;
 mod why;
 
@@ -21,7 +23,9 @@ pub use laws::{
     states_determine_views, step_writes_bytes, steps_keep_states, steps_touch_places,
     views_determine_states,
 };
+pub use run_counts::RunCounts;
 pub use save_fault::SaveFault;
 pub use status::Status;
+pub use tally::{Column, Tally};
 pub use version::Version;
 pub use why::Why;

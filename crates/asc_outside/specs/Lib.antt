@@ -1,3 +1,3 @@
 pub mod Outside
-pub mod Course
+pub mod Failures
 pub mod Lists

@@ -8,25 +8,25 @@ use Rattle.std.specs.declared.vec.Vec.{Vec}
 use Rattle.std.specs.declared.string.String.{String}
 use Rattle.std.specs.declared.alloc.Global.{Global}
 use Rattle.asc_outside.specs.Outside.{Given, File, content_of}
-use Rattle.asc_outside.specs.Course.{Course, fails_next, course_after_call, course_after_failure}
+use Rattle.asc_outside.specs.Failures.{Failures, fails_next, after_call, after_failure}
 
 -- a source: the bytes that are left, at most how many it gives a call, and how its calls go
 pub record Reading : Type 0 where
   pub left : List ℕ
   pub most : ℕ
-  pub course : Course
+  pub failures : Failures
 
 -- how many bytes a source gives into a buffer of this length
 abbrev pub given_count : Reading → ℕ → ℕ
 given_count source room =
-    if fails_next source.course then 0 else min source.most (min room (length source.left))
+    if fails_next source.failures then 0 else min source.most (min room (length source.left))
 
 -- a source after a call with a buffer of this length
 abbrev pub after_take : Reading → ℕ → Reading
 after_take source room = record {
   left = drop (given_count source room) source.left;
   most = source.most;
-  course = course_after_call source.course;
+  failures = after_call source.failures;
 }
 
 -- what a sink that keeps only a number was given
@@ -38,7 +38,7 @@ pub record Writing : Type 0 where
   pub bytes : List ℕ
   pub room : ℕ
   pub most : ℕ
-  pub course : Course
+  pub failures : Failures
 
 -- what a sink was given; its number stops at 2 ^ 64 - 1
 abbrev pub given_to : Writing → Given
@@ -46,14 +46,14 @@ given_to sink = record { bytes = Some sink.bytes; number = Some (min (length sin
 
 -- how many bytes of a piece of this length a sink takes; where none, the call fails
 abbrev pub accepted_count : Writing → ℕ → ℕ
-accepted_count sink n = if fails_next sink.course then 0 else min sink.most (min n sink.room)
+accepted_count sink n = if fails_next sink.failures then 0 else min sink.most (min n sink.room)
 
 -- how its calls went after one with a piece of this length
-abbrev pub course_after_put : Writing → ℕ → Course
-course_after_put sink n =
-    if fails_next sink.course then course_after_call sink.course
-    else (if accepted_count sink n == 0 then course_after_failure (course_after_call sink.course)
-    else course_after_call sink.course)
+abbrev pub failures_after_put : Writing → ℕ → Failures
+failures_after_put sink n =
+    if fails_next sink.failures then after_call sink.failures
+    else (if accepted_count sink n == 0 then after_failure (after_call sink.failures)
+    else after_call sink.failures)
 
 -- a sink after a call with this piece
 abbrev pub after_put : Writing → List ℕ → Writing
@@ -61,14 +61,14 @@ after_put sink piece = record {
   bytes = sink.bytes ++ take (accepted_count sink (length piece)) piece;
   room = sink.room - accepted_count sink (length piece);
   most = sink.most;
-  course = course_after_put sink (length piece);
+  failures = failures_after_put sink (length piece);
 }
 
 -- a store: its files, the names that it was asked for, where it tells them, and how its calls go
 pub record Stock : Type 0 where
   pub files : List File
   pub asked : Option (List (List ℕ))
-  pub course : Course
+  pub failures : Failures
 
 -- what a store answers where it has this content
 abbrev pub answer_of : Option (List ℕ) → ℕ → Result Loaded StoreFault
@@ -77,7 +77,7 @@ answer_of (Some content) most = if nat_lt most (length content) then Ok Longer e
 
 -- what a store answers, but for want of memory
 abbrev pub answer : Stock → List ℕ → ℕ → Result Loaded StoreFault
-answer store name most = if fails_next store.course then Err Failed else answer_of (content_of store.files name) most
+answer store name most = if fails_next store.failures then Err Failed else answer_of (content_of store.files name) most
 
 -- a store answers so: as it must, or, where it must give the whole file, that it wants memory
 abbrev pub Answers : Stock → List ℕ → ℕ → Result Loaded StoreFault → Type 0
@@ -94,7 +94,7 @@ told_names true names = Some (map string_bytes names)
 told_names false names = None
 
 -- how the calls of a store went after one that was answered so
-abbrev pub course_after_read : Course → Option (List ℕ) → Course
-course_after_read course (Some content) = course_after_call course
-course_after_read course None =
-    if fails_next course then course_after_call course else course_after_failure (course_after_call course)
+abbrev pub failures_after_read : Failures → Option (List ℕ) → Failures
+failures_after_read failures (Some content) = after_call failures
+failures_after_read failures None =
+    if fails_next failures then after_call failures else after_failure (after_call failures)

@@ -1,6 +1,6 @@
 ghost use Rattle.std.specs.Prelude.{◌≡◌, is_err};
 ghost use Rattle.asc_outside.specs.Outside.{HasCause};
-ghost use Rattle.asc_outside.specs.Course.{course_of, fails_next, course_after_failure, course_after_call};
+ghost use Rattle.asc_outside.specs.Failures.{failures_of, fails_next, after_failure, after_call};
 
 use crate::Failed;
 use std::marker::Model;
@@ -16,9 +16,9 @@ pub(crate) struct Failures {
 }
 
 impl Model for Failures {
-    ghost use Rattle.asc_outside.specs.Course.{Course};
+    ghost use Rattle.asc_outside.specs.Failures as model;
 
-    ghost Value = { Course };
+    ghost Value = { model.Failures };
 
     ghost view = { λ f. record { fails = f.fails.items; calls = f.calls; faults = f.faults } };
 }
@@ -26,7 +26,7 @@ impl Model for Failures {
 impl Failures {
     /// The calls whose numbers these are fail.
     pub(crate) fn new(fails: Vec<u64>) -> Failures
-        ensures { result ≡ course_of fails.items }
+        ensures { result ≡ failures_of fails.items }
     {
         Failures {
             fails,
@@ -38,7 +38,7 @@ impl Failures {
     /// Counts a call. The error is that the call is one that fails, and it is counted.
     pub(crate) fn call(&mut self) -> Result<(), Failed>
         ensures fails { is_err result ≡ fails_next self.old }
-        ensures after { self.new ≡ course_after_call self.old }
+        ensures after { self.new ≡ after_call self.old }
         ensures cause { HasCause self.old.faults self.new.faults result }
     {
         self.calls = self.calls.saturating_add(1);
@@ -50,7 +50,7 @@ impl Failures {
 
     /// Counts a failure of a call that was counted.
     pub(crate) fn fail(&mut self) -> Failed
-        ensures { self.new ≡ course_after_failure self.old }
+        ensures { self.new ≡ after_failure self.old }
     {
         self.faults = self.faults.saturating_add(1);
         Failed

@@ -1,6 +1,6 @@
 ghost use Rattle.std.specs.Prelude.{◌≡◌, ◌≤◌, ◌<◌, [], IfOk, OnErr, length, take};
 ghost use Rattle.asc_outside.specs.Outside.{HasCause, given_after};
-ghost use Rattle.asc_outside.specs.Course.{course_of};
+ghost use Rattle.asc_outside.specs.Failures.{failures_of};
 ghost use Rattle.asc_outside.specs.Lists.{given_to, accepted_count, after_put};
 
 use crate::failures::Failures;
@@ -24,7 +24,7 @@ impl Model for ListSink {
 
     ghost Value = { Writing };
 
-    ghost view = { λ s. record { bytes = s.bytes.items; room = s.room; most = s.most; course = s.failures } };
+    ghost view = { λ s. record { bytes = s.bytes.items; room = s.room; most = s.most; failures = s.failures } };
 
     ghost invariant = { λ s. (1 ≤ s.most) × (vec_len s.bytes + s.room ≤ vec_capacity s.bytes) };
 }
@@ -35,7 +35,7 @@ impl ListSink {
     pub fn new(alloc: Global, room: usize, most: usize, fails: Vec<u64>) -> Result<ListSink, Memory>
         requires { 1 ≤ most }
         ensures { IfOk result
-            (λ s. s ≡ record { bytes = []; room = room; most = most; course = course_of fails.items }) }
+            (λ s. s ≡ record { bytes = []; room = room; most = most; failures = failures_of fails.items }) }
     {
         Ok(ListSink {
             bytes: Vec::with_capacity(alloc, room)?,
@@ -56,7 +56,7 @@ impl ListSink {
 impl Sink for ListSink {
     ghost given = { given_to };
 
-    ghost faults = { λ s. s.course.faults };
+    ghost faults = { λ s. s.failures.faults };
 
     fn put(&mut self, piece: &[u8]) -> Result<usize, Failed>
         ensures accepts { IfOk result (λ k. k ≡ accepted_count self.old (length piece.now)) }
@@ -67,7 +67,7 @@ impl Sink for ListSink {
         ensures given { IfOk result
             (λ k. given_to self.new ≡ given_after (given_to self.old) (take k piece.now)) }
         ensures nothing { OnErr result (given_to self.new ≡ given_to self.old) }
-        ensures cause { HasCause self.old.course.faults self.new.course.faults result }
+        ensures cause { HasCause self.old.failures.faults self.new.failures.faults result }
     {
         self.failures.call()?;
         let n = self.most.min(piece.len()).min(self.room);

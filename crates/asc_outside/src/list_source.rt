@@ -1,6 +1,6 @@
 ghost use Rattle.std.specs.Prelude.{◌≡◌, ◌≤◌, ◌<◌, Some, IfOk, OnErr, is_err, length, take, drop};
 ghost use Rattle.asc_outside.specs.Outside.{HasCause, Takes, IsAtEnd};
-ghost use Rattle.asc_outside.specs.Course.{course_of, fails_next};
+ghost use Rattle.asc_outside.specs.Failures.{failures_of, fails_next};
 ghost use Rattle.asc_outside.specs.Lists.{given_count, after_take};
 
 use crate::failures::Failures;
@@ -22,7 +22,7 @@ impl Model for ListSource {
 
     ghost Value = { Reading };
 
-    ghost view = { λ s. record { left = drop s.at s.bytes.items; most = s.most; course = s.failures } };
+    ghost view = { λ s. record { left = drop s.at s.bytes.items; most = s.most; failures = s.failures } };
 
     ghost invariant = { λ s. (1 ≤ s.most) × (s.at ≤ length s.bytes.items) };
 }
@@ -32,7 +32,7 @@ impl ListSource {
     /// stand in `fails`.
     pub fn new(bytes: Vec<u8>, most: usize, fails: Vec<u64>) -> ListSource
         requires { 1 ≤ most }
-        ensures { result ≡ record { left = bytes.items; most = most; course = course_of fails.items } }
+        ensures { result ≡ record { left = bytes.items; most = most; failures = failures_of fails.items } }
     {
         ListSource {
             bytes,
@@ -46,11 +46,11 @@ impl ListSource {
 impl Source for ListSource {
     ghost left = { λ s. Some s.left };
 
-    ghost faults = { λ s. s.course.faults };
+    ghost faults = { λ s. s.failures.faults };
 
     fn take(&mut self, into: &mut [u8]) -> Result<usize, Failed>
         requires { 0 < length into.old }
-        ensures fails { is_err result ≡ fails_next self.old.course }
+        ensures fails { is_err result ≡ fails_next self.old.failures }
         ensures gives { IfOk result (λ k. k ≡ given_count self.old (length into.old)) }
         ensures after { self.new ≡ after_take self.old (length into.old) }
         ensures count { IfOk result (λ k. k ≤ length into.old) }
@@ -59,7 +59,7 @@ impl Source for ListSource {
         ensures end { result ≡ Ok 0 → IsAtEnd (Some self.old.left) }
         ensures nothing { OnErr result (self.new.left ≡ self.old.left) }
         ensures buffer { OnErr result (into.new ≡ into.old) }
-        ensures cause { HasCause self.old.course.faults self.new.course.faults result }
+        ensures cause { HasCause self.old.failures.faults self.new.failures.faults result }
     {
         self.failures.call()?;
         let n = self.most.min(into.len()).min(self.bytes.len() - self.at);

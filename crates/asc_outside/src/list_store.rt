@@ -1,8 +1,8 @@
 ghost use Rattle.std.specs.Prelude.{◌≡◌, ◌≤◌, [], Some, Ok, OnErr, map, option_map, vec_len};
 ghost use Rattle.std.specs.String.{string_bytes};
 ghost use Rattle.asc_outside.specs.Outside.{AsksFor, HasStoreCause, MayHoldLonger, content_of};
-ghost use Rattle.asc_outside.specs.Course.{course_of};
-ghost use Rattle.asc_outside.specs.Lists.{files_of, Answers, course_after_read};
+ghost use Rattle.asc_outside.specs.Failures.{failures_of};
+ghost use Rattle.asc_outside.specs.Lists.{files_of, Answers, failures_after_read};
 
 use crate::failures::Failures;
 use crate::{Loaded, Store, StoreFault};
@@ -28,7 +28,7 @@ impl Model for ListStore {
     ghost view = { λ s. record {
       files = files_of s.files.items;
       asked = told_names s.tells s.asked.items;
-      course = s.failures;
+      failures = s.failures;
     } };
 }
 
@@ -38,7 +38,7 @@ impl ListStore {
         ensures { result ≡ record {
           files = files_of files.items;
           asked = Some [];
-          course = course_of fails.items;
+          failures = failures_of fails.items;
         } }
     {
         let asked = Vec::new(*files.allocator());
@@ -60,7 +60,7 @@ impl ListStore {
     /// Notes a name that it is asked for.
     fn note(&mut self, name: &str)
         ensures files { self.new.files ≡ self.old.files }
-        ensures course { self.new.course ≡ self.old.course }
+        ensures failures { self.new.failures ≡ self.old.failures }
         ensures asked { AsksFor name.now self.old.asked self.new.asked }
     {
         let noted = match String::from_str(*self.asked.allocator(), name) {
@@ -76,11 +76,11 @@ impl Store for ListStore {
 
     ghost asked = { λ s. s.asked };
 
-    ghost faults = { λ s. s.course.faults };
+    ghost faults = { λ s. s.failures.faults };
 
     fn read(&mut self, name: &str, into: &mut Vec<u8>, most: usize) -> Result<Loaded, StoreFault>
         ensures answer { Answers self.old name.now most result }
-        ensures course { self.new.course ≡ course_after_read self.old.course (content_of self.old.files name.now) }
+        ensures failures { self.new.failures ≡ failures_after_read self.old.failures (content_of self.old.files name.now) }
         ensures files { self.new.files ≡ self.old.files }
         ensures asked { AsksFor name.now self.old.asked self.new.asked }
         ensures whole { result ≡ Ok Loaded.Whole → content_of self.old.files name.now ≡ Some into.new.items }
@@ -88,7 +88,7 @@ impl Store for ListStore {
         ensures longer { result ≡ Ok Loaded.Longer → MayHoldLonger (Some self.old.files) name.now most }
         ensures empty { result ≡ Ok Loaded.Longer → into.new.items ≡ [] }
         ensures err { OnErr result (into.new.items ≡ []) }
-        ensures cause { HasStoreCause self.old.course.faults self.new.course.faults result }
+        ensures cause { HasStoreCause self.old.failures.faults self.new.failures.faults result }
     {
         into.clear();
         self.note(name);

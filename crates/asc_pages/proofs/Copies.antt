@@ -8,7 +8,7 @@ use Rattle.std.specs.declared.sync.Arc.{Arc}
 use Rattle.std.specs.Global.{Vec, Global}
 use Rattle.asc_model.specs.Number.{word_at}
 use Rattle.asc_model.proofs.Numbers.{word_at-from_le_bytes}
-use Rattle.asc_pages.specs.Marks.{IsUnlisted, IsUnmarked}
+use Rattle.asc_pages.specs.DirtyPages.{IsUnlisted, IsClean}
 use Rattle.asc_pages.specs.Pages.{Page, Group, held, page_bytes, page_in, with_gap, group_in, IsPage, ArePages, AreGroups, IsShared, Tells, Keeps}
 use Rattle.asc_pages.specs.Numbers.{end_of, place_of}
 use Rattle.asc_pages.specs.Tops.{bytes_in, groups_in, page_of}
@@ -111,16 +111,16 @@ page_read bytes top page p is here i at =
     ∙ ap (λ (l : List ℕ). slice_index l (i % 1024)) (sym here)
 
 -- a page that is kept
-pub kept_page : (marks : List Bool) (bytes : List ℕ) (top : Top) (p : ℕ) → Keeps marks (bytes_in top) bytes → slice_index_or marks p true ≡ false → IsPage bytes p (page_of top p)
-kept_page marks bytes top p kept free i far inside here =
-    kept i far inside (ap (λ q. slice_index_or marks q true) here ∙ free) ∙ byte-bytes_in top i ∙ ap (λ q. slice_index (page_of top q) (i % 1024)) here
+pub kept_page : (dirty : List Bool) (bytes : List ℕ) (top : Top) (p : ℕ) → Keeps dirty (bytes_in top) bytes → slice_index_or dirty p true ≡ false → IsPage bytes p (page_of top p)
+kept_page dirty bytes top p kept free i far inside here =
+    kept i far inside (ap (λ q. slice_index_or dirty q true) here ∙ free) ∙ byte-bytes_in top i ∙ ap (λ q. slice_index (page_of top q) (i % 1024)) here
 
 -- and one of a group
-pub kept_plain : (marks : List Bool) (bytes : List ℕ) (top : Top) (g k : ℕ) → Keeps marks (bytes_in top) bytes → k < 32 → slice_index_or marks (32 * g + k) true ≡ false
+pub kept_plain : (dirty : List Bool) (bytes : List ℕ) (top : Top) (g k : ℕ) → Keeps dirty (bytes_in top) bytes → k < 32 → slice_index_or dirty (32 * g + k) true ≡ false
     → IsUnlisted top.patched (32 * g + k) → IsPage bytes (32 * g + k) (page_in (group_in (groups_in top.groups) g) k)
-kept_plain marks bytes top g k kept within free other i far inside here =
+kept_plain dirty bytes top g k kept within free other i far inside here =
     let groups = groups_in top.groups in
-    kept_page marks bytes top (32 * g + k) kept free i far inside here
+    kept_page dirty bytes top (32 * g + k) kept free i far inside here
     ∙ ap (λ (l : List ℕ). slice_index l (i % 1024)) (page_plain top (32 * g + k) (place_past top.patched (32 * g + k) other)
     ∙ ap (λ h. page_in (group_in groups h) ((32 * g + k) % 32)) (let e : (32 * g + k) / 32 ≡ g = omega arith in e)
     ∙ ap (λ j. page_in (group_in groups g) j) (let e : (32 * g + k) % 32 ≡ k = omega arith in e))
@@ -136,17 +136,17 @@ told_whole bytes top each none = told bytes top
     ∙ ap (λ (l : List ℕ). slice_index l (i % 1024)) (sym (page_plain top p (let e = ap (λ (l : List ℕ). length l) none in omega arith))))
 
 -- those of a base, and pages that stand in the place of theirs
-pub told_patched : (marks : List Bool) (bytes : List ℕ) (base top : Top) → length marks ≡ length bytes / 1024 + 1 → Keeps marks (bytes_in base) bytes
+pub told_patched : (dirty : List Bool) (bytes : List ℕ) (base top : Top) → length dirty ≡ length bytes / 1024 + 1 → Keeps dirty (bytes_in base) bytes
     → groups_in top.groups ≡ groups_in base.groups
-    → ((p : ℕ) → IsUnlisted top.patched p → IsUnlisted base.patched p × (p < length marks → slice_index_or marks p true ≡ false))
+    → ((p : ℕ) → IsUnlisted top.patched p → IsUnlisted base.patched p × (p < length dirty → slice_index_or dirty p true ≡ false))
     → ((k : ℕ) → k < length top.patched → IsPage bytes (slice_index top.patched k) (page_in top.patches.items k)) → Tells (bytes_in top) bytes
-told_patched marks bytes base top size kept same others each = told bytes top
+told_patched dirty bytes base top size kept same others each = told bytes top
     (λ p. elim (cases_lt (place_of top.patched p) (length top.patched)) [
       | inl found ↦ λ i far inside here. each (place_of top.patched p) found i far inside (here ∙ sym (place_found top.patched p found))
           ∙ ap (λ (l : List ℕ). slice_index l (i % 1024)) (sym (page_patched top p found))
       | inr past ↦ λ i far inside here.
           let other = others p (past_unlisted top.patched p past) in
-          kept_page marks bytes base p kept (other.1 (omega arith)) i far inside here
+          kept_page dirty bytes base p kept (other.1 (omega arith)) i far inside here
           ∙ ap (λ (l : List ℕ). slice_index l (i % 1024)) (page_plain base p (place_past base.patched p other.0)
           ∙ ap (λ (groups : List (Option Group)). page_in (group_in groups (p / 32)) (p % 32)) (sym same)
           ∙ sym (page_plain top p past))
@@ -207,44 +207,44 @@ written_over bytes new zeros rest behind n k m least same is count blank i withi
     ]
 
 -- a group that is shared
-pub group_shared : (marks : List Bool) (bytes : List ℕ) (top : Top) (g : ℕ) (group : Option Group) → length marks ≡ length bytes / 1024 + 1 → Keeps marks (bytes_in top) bytes
-    → IsUnmarked marks (32 * g) 32 → ((k : ℕ) → k < 32 → IsUnlisted top.patched (32 * g + k)) → IsShared group (slice_index_or (groups_in top.groups) g None)
+pub group_shared : (dirty : List Bool) (bytes : List ℕ) (top : Top) (g : ℕ) (group : Option Group) → length dirty ≡ length bytes / 1024 + 1 → Keeps dirty (bytes_in top) bytes
+    → IsClean dirty (32 * g) 32 → ((k : ℕ) → k < 32 → IsUnlisted top.patched (32 * g + k)) → IsShared group (slice_index_or (groups_in top.groups) g None)
     → ArePages bytes (32 * g) (held group)
-group_shared marks bytes top g group size kept free others shared k within i far inside here =
-    kept_plain marks bytes top g k kept within (free (32 * g + k) (omega arith) (omega arith) (omega arith)) (others k within) i far inside here
+group_shared dirty bytes top g group size kept free others shared k within i far inside here =
+    kept_plain dirty bytes top g k kept within (free (32 * g + k) (omega arith) (omega arith) (omega arith)) (others k within) i far inside here
     ∙ ap (λ pages. slice_index (page_in pages k) (i % 1024)) (sym (held_shared group (slice_index_or (groups_in top.groups) g None) shared))
 
 -- a page behind those that are written
-pub page_behind : (marks : List Bool) (bytes : List ℕ) (top : Top) (g used k : ℕ) (pages : List (Option Page)) → length marks ≡ length bytes / 1024 + 1 → Keeps marks (bytes_in top) bytes
-    → IsUnmarked marks (32 * g + used) (32 - used) → ((k : ℕ) → used ≤ k → k < 32 → IsUnlisted top.patched (32 * g + k)) → k < 32
-    → length pages ≤ k → length pages ≡ min (max used (length (group_in (groups_in top.groups) g))) (min (32 * g + 32) (length marks) - 32 * g) → IsPage bytes (32 * g + k) (page_in pages k)
-page_behind marks bytes top g used k pages size kept free others within past count i far inside here =
-    kept_plain marks bytes top g k kept within (free (32 * g + k) (omega arith) (omega arith) (omega arith)) (others k (omega arith) within) i far inside here
+pub page_behind : (dirty : List Bool) (bytes : List ℕ) (top : Top) (g used k : ℕ) (pages : List (Option Page)) → length dirty ≡ length bytes / 1024 + 1 → Keeps dirty (bytes_in top) bytes
+    → IsClean dirty (32 * g + used) (32 - used) → ((k : ℕ) → used ≤ k → k < 32 → IsUnlisted top.patched (32 * g + k)) → k < 32
+    → length pages ≤ k → length pages ≡ min (max used (length (group_in (groups_in top.groups) g))) (min (32 * g + 32) (length dirty) - 32 * g) → IsPage bytes (32 * g + k) (page_in pages k)
+page_behind dirty bytes top g used k pages size kept free others within past count i far inside here =
+    kept_plain dirty bytes top g k kept within (free (32 * g + k) (omega arith) (omega arith) (omega arith)) (others k (omega arith) within) i far inside here
     ∙ ap (λ (l : List ℕ). slice_index l (i % 1024)) (past_in (group_in (groups_in top.groups) g) k (omega arith) ∙ sym (past_in pages k past))
 
 -- the pages of a group
-pub group_made : (marks : List Bool) (bytes : List ℕ) (top : Top) (g used : ℕ) (pages : List (Option Page)) → length marks ≡ length bytes / 1024 + 1 → Keeps marks (bytes_in top) bytes
-    → IsUnmarked marks (32 * g + used) (32 - used) → ((k : ℕ) → used ≤ k → k < 32 → IsUnlisted top.patched (32 * g + k))
-    → length pages ≡ min (max used (length (group_in (groups_in top.groups) g))) (min (32 * g + 32) (length marks) - 32 * g)
+pub group_made : (dirty : List Bool) (bytes : List ℕ) (top : Top) (g used : ℕ) (pages : List (Option Page)) → length dirty ≡ length bytes / 1024 + 1 → Keeps dirty (bytes_in top) bytes
+    → IsClean dirty (32 * g + used) (32 - used) → ((k : ℕ) → used ≤ k → k < 32 → IsUnlisted top.patched (32 * g + k))
+    → length pages ≡ min (max used (length (group_in (groups_in top.groups) g))) (min (32 * g + 32) (length dirty) - 32 * g)
     → ((k : ℕ) → k < length pages → IsPage bytes (32 * g + k) (page_bytes (slice_index_or pages k None))) → ArePages bytes (32 * g) pages
-group_made marks bytes top g used pages size kept free others count each k within = elim (cases_lt k (length pages)) [
+group_made dirty bytes top g used pages size kept free others count each k within = elim (cases_lt k (length pages)) [
   | inl inside ↦ each k inside
-  | inr past ↦ page_behind marks bytes top g used k pages size kept free others within past count
+  | inr past ↦ page_behind dirty bytes top g used k pages size kept free others within past count
 ]
 
 -- groups of which a run is left out
-pub groups_made : (marks : List Bool) (bytes : List ℕ) (top : Top) (groups : List (Option Group)) (low gap : ℕ) → length marks ≡ length bytes / 1024 + 1
-    → Keeps marks (bytes_in top) bytes → IsUnmarked marks (32 * low) (32 * gap)
+pub groups_made : (dirty : List Bool) (bytes : List ℕ) (top : Top) (groups : List (Option Group)) (low gap : ℕ) → length dirty ≡ length bytes / 1024 + 1
+    → Keeps dirty (bytes_in top) bytes → IsClean dirty (32 * low) (32 * gap)
     → ((j : ℕ) → j < length top.patched → (slice_index top.patched j / 32 < low) ⊎ (low + gap ≤ slice_index top.patched j / 32))
     → ((g : ℕ) → low ≤ g → g < low + gap → slice_index_or (groups_in top.groups) g None ≡ None)
-    → low ≤ length groups → length marks ≤ 32 * (length groups + gap)
+    → low ≤ length groups → length dirty ≤ 32 * (length groups + gap)
     → ((k : ℕ) → k < length groups → k < low → ArePages bytes (32 * k) (group_in groups k))
     → ((k : ℕ) → k < length groups → low ≤ k → ArePages bytes (32 * (k + gap)) (group_in groups k)) → AreGroups bytes (with_gap groups low gap)
-groups_made marks bytes top groups low gap size kept unmarked others blank inner all lows highs g k within i far inside here = elim (cases_lt g low) [
+groups_made dirty bytes top groups low gap size kept clean others blank inner all lows highs g k within i far inside here = elim (cases_lt g low) [
   | inl below ↦ lows g (omega arith) below k within i far inside here
       ∙ ap (λ (group : Option Group). slice_index (page_in (held group) k) (i % 1024)) (sym (group_low groups low gap g inner below))
   | inr above ↦ elim (cases_lt g (low + gap)) [
-    | inl left ↦ kept_plain marks bytes top g k kept within (unmarked (32 * g + k) (omega arith) (omega arith) (omega arith))
+    | inl left ↦ kept_plain dirty bytes top g k kept within (clean (32 * g + k) (omega arith) (omega arith) (omega arith))
         (λ j below same. elim (others j below) [ inl lower ↦ absurd (omega arith) | inr higher ↦ absurd (omega arith) ]) i far inside here
         ∙ ap (λ (group : Option Group). slice_index (page_in (held group) k) (i % 1024)) (blank g above left ∙ sym (group_left groups low gap g inner above left))
     | inr high ↦ highs (g - gap) (omega arith) (omega arith) k within i far inside (omega arith)

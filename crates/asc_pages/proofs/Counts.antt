@@ -1,23 +1,23 @@
--- Lemmas on how many pages and which groups may have marks.
+-- Lemmas on how many pages and which groups may have dirty ones.
 use Rattle.std.proofs.Common.{◌≡◌, ◌≢◌, inl, inr, cond, false, ℕ, ◌+◌, ◌*◌, ◌-◌, ◌/◌, ◌%◌, ◌≤◌, ◌<◌, Bool, true, List, [], ◌∷◌, ◌++◌, length, replicate, max, sym, ap, ◌∙◌, arith, slice_index, slice_index_or, slice_set, length-append, refl}
 use Rattle.std.proofs.lemmas.List.{get_or-replicate, length-replicate, get_or-set_same, get_or-set_other, length-set, ext_get_or, get_or_append_left, get_or-append_right}
 use Rattle.std.proofs.lemmas.Bool.{cases_Bool, cases_eq, cases_lt}
 use Rattle.std.proofs.lemmas.List.Sums.{count_by-le-length, sum_by-set}
-use Rattle.asc_pages.specs.Marks.{AreMarks, IsGroupUnlisted, IsUnlisted, IsUnmarked, marked_in}
+use Rattle.asc_pages.specs.DirtyPages.{AreDirty, IsGroupUnlisted, IsUnlisted, IsClean, dirty_in}
 
--- ---- how many are marked
+-- ---- how many are dirty
 
--- where page p is marked, which was not
-pub one_marked : (pages : List Bool) (p : ℕ) → p < length pages → slice_index_or pages p true ≡ false → marked_in (slice_set pages p true) ≡ marked_in pages + 1
-one_marked pages p within unmarked =
-    let f : Bool → ℕ = λ mark. cond mark 1 0 in
-    let none : f (slice_index_or pages p true) ≡ 0 = ap f unmarked in
+-- where page p becomes dirty, which was clean
+pub one_dirty : (pages : List Bool) (p : ℕ) → p < length pages → slice_index_or pages p true ≡ false → dirty_in (slice_set pages p true) ≡ dirty_in pages + 1
+one_dirty pages p within clean =
+    let f : Bool → ℕ = λ page. cond page 1 0 in
+    let none : f (slice_index_or pages p true) ≡ 0 = ap f clean in
     omega (arith, sum_by-set f pages p true true within, none)
 
 -- where one is not, not all are
-pub some_unmarked : (pages : List Bool) (p : ℕ) → p < length pages → slice_index_or pages p true ≡ false → marked_in pages < length pages
-some_unmarked pages p within unmarked =
-    omega (arith, one_marked pages p within unmarked, count_by-le-length (λ (mark : Bool). mark) (slice_set pages p true), length-set pages p true)
+pub some_clean : (pages : List Bool) (p : ℕ) → p < length pages → slice_index_or pages p true ≡ false → dirty_in pages < length pages
+some_clean pages p within clean =
+    omega (arith, one_dirty pages p within clean, count_by-le-length (λ (page : Bool). page) (slice_set pages p true), length-set pages p true)
 
 -- ---- listed pages
 
@@ -56,10 +56,10 @@ group_apart listed new p g is other same =
     let size = listed_size listed new p is in
     other (length listed) (omega arith) (ap (λ q. q / 32) (last_listed listed new p (length listed) is refl) ∙ same)
 
--- where page p is marked and listed
-pub marked_more : (all : Bool) (listed new groups : List ℕ) (pages : List Bool) (p g many : ℕ) → AreMarks all listed groups pages → p < length pages → slice_index_or pages p true ≡ false → g ≡ p / 32
-    → many ≡ max (slice_index groups g) (p % 32 + 1) → new ≡ listed ++ p ∷ [] → AreMarks all new (slice_set groups g many) (slice_set pages p true)
-marked_more all listed new groups pages p g many so inside unmarked group far is =
+-- where page p becomes dirty and is listed
+pub dirty_more : (all : Bool) (listed new groups : List ℕ) (pages : List Bool) (p g many : ℕ) → AreDirty all listed groups pages → p < length pages → slice_index_or pages p true ≡ false → g ≡ p / 32
+    → many ≡ max (slice_index groups g) (p % 32 + 1) → new ≡ listed ++ p ∷ [] → AreDirty all new (slice_set groups g many) (slice_set pages p true)
+dirty_more all listed new groups pages p g many so inside clean group far is =
     let count : length (slice_set pages p true) ≡ length pages = length-set pages p true in
     let size : length (slice_set groups g many) ≡ length groups = length-set groups g many in
     let known : g < length groups = let h = so.least in omega arith in
@@ -76,8 +76,8 @@ marked_more all listed new groups pages p g many so inside unmarked group far is
             let read : slice_index (slice_set groups g many) (q / 32) ≡ slice_index groups (q / 32) = get_or-set_other groups g (q / 32) many 0 apart in
             get_or-set_other pages p q true true (omega arith) ∙ so.free q (omega arith) (omega arith)
       ];
-      full = λ yes. absurd (omega (arith, so.full yes, some_unmarked pages p inside unmarked));
-      count = λ none. longer ∙ ap (λ n. n + 1) (so.count none) ∙ sym (one_marked pages p inside unmarked);
+      full = λ yes. absurd (omega (arith, so.full yes, some_clean pages p inside clean));
+      count = λ none. longer ∙ ap (λ n. n + 1) (so.count none) ∙ sym (one_dirty pages p inside clean);
       within = λ none j below. elim (cases_lt j (length listed)) [
         | inl old ↦ let e = listed_first listed new p j is old in let h = so.within none j old in omega arith
         | inr last ↦ let e = last_listed listed new p j is (omega arith) in omega arith
@@ -91,16 +91,16 @@ marked_more all listed new groups pages p g many so inside unmarked group far is
     }
 
 -- and there is room for it
-pub room_left : (all : Bool) (listed groups : List ℕ) (pages : List Bool) (p room : ℕ) → AreMarks all listed groups pages → p < length pages → slice_index_or pages p true ≡ false
+pub room_left : (all : Bool) (listed groups : List ℕ) (pages : List Bool) (p room : ℕ) → AreDirty all listed groups pages → p < length pages → slice_index_or pages p true ≡ false
     → length pages ≤ room → length listed < room
-room_left all listed groups pages p room so within unmarked least = elim (cases_Bool all) [
-  | inl full ↦ absurd (omega (arith, so.full full, some_unmarked pages p within unmarked))
-  | inr none ↦ omega (arith, so.count none, some_unmarked pages p within unmarked)
+room_left all listed groups pages p room so within clean least = elim (cases_Bool all) [
+  | inl full ↦ absurd (omega (arith, so.full full, some_clean pages p within clean))
+  | inr none ↦ omega (arith, so.count none, some_clean pages p within clean)
 ]
 
--- the pages of a group behind those that count are not marked
-pub unmarked_pages : (all : Bool) (listed groups : List ℕ) (pages : List Bool) (g many : ℕ) → AreMarks all listed groups pages → slice_index groups g ≤ many → IsUnmarked pages (32 * g + many) (32 - many)
-unmarked_pages all listed groups pages g many so far p least most within =
+-- the pages of a group behind those that count are clean
+pub clean_pages : (all : Bool) (listed groups : List ℕ) (pages : List Bool) (g many : ℕ) → AreDirty all listed groups pages → slice_index groups g ≤ many → IsClean pages (32 * g + many) (32 - many)
+clean_pages all listed groups pages g many so far p least most within =
     let group : p / 32 ≡ g = omega arith in
     let read : slice_index groups (p / 32) ≡ slice_index groups g = ap (λ k. slice_index groups k) group in
     so.free p within (omega arith)
@@ -111,7 +111,7 @@ all_same list item other count size each =
     ext_get_or other list (replicate count item) (size ∙ sym (length-replicate count item))
     (λ k inside. each k (omega arith) ∙ sym (get_or-replicate count k item other (omega arith)))
 
--- ---- marks that are taken away
+-- ---- pages that become clean
 
 -- a page that is not among the listed ones from k on, where it is not behind k either
 pub one_less : (listed : List ℕ) (k q : ℕ) → q ≢ slice_index listed k → ((j : ℕ) → k + 1 ≤ j → j < length listed → slice_index listed j ≢ q)

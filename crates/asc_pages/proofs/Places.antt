@@ -3,7 +3,7 @@ use Rattle.std.proofs.Common.{◌≡◌, ◌≢◌, inl, inr, ℕ, zero, suc, �
 use Rattle.std.proofs.lemmas.List.Sums.{position_or_len_is, fails_before_first, passes_at_first}
 use Rattle.std.proofs.lemmas.Bool.{cases_lt, eqb-true}
 use Rattle.std.proofs.lemmas.Bool.Decides.{nat_tests}
-use Rattle.asc_pages.specs.Marks.{IsUnlisted}
+use Rattle.asc_pages.specs.DirtyPages.{IsUnlisted}
 use Rattle.asc_pages.specs.Numbers.{HasRemainders, end_of, place_of}
 
 -- the place of a number

@@ -1,4 +1,4 @@
-pub mod Marks
+pub mod DirtyPages
 pub mod Numbers
 pub mod Pages
 pub mod Tops

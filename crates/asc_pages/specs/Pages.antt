@@ -49,10 +49,10 @@ AreGroups bytes groups = (g : ℕ) → ArePages bytes (32 * g) (group_in groups 
 abbrev pub Tells : List ℕ → List ℕ → Type 0
 Tells pages bytes = (i : ℕ) → 136 ≤ i → i < length bytes → slice_index bytes i ≡ slice_index pages i
 
--- and where they are not marked
+-- and where they are not dirty
 abbrev pub Keeps : List Bool → List ℕ → List ℕ → Type 0
-Keeps marks pages bytes =
-    (i : ℕ) → 136 ≤ i → i < length bytes → slice_index_or marks (i / 1024) true ≡ false → slice_index bytes i ≡ slice_index pages i
+Keeps dirty pages bytes =
+    (i : ℕ) → 136 ≤ i → i < length bytes → slice_index_or dirty (i / 1024) true ≡ false → slice_index bytes i ≡ slice_index pages i
 
 -- the bytes of pages; where there are none, all bytes are 0
 abbrev pub base_bytes : Option (List ℕ) → List ℕ

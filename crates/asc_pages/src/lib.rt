@@ -1,9 +1,9 @@
-//! Bytes in pages: which pages were marked as changed, and copies of bytes that share the pages that were not.
+//! Bytes in pages: which pages are dirty, and copies of bytes that share the pages that are not.
 #![tactic(auto)]
 
-mod marks;
+mod dirty;
 mod numbers;
 mod pages;
 
-pub use marks::Marks;
+pub use dirty::DirtyPages;
 pub use pages::{FRONT, GROUP, PAGE, Pages, word_in};

@@ -1,11 +1,11 @@
 ghost use Rattle.std.specs.Prelude.{◌≡◌, ◌≢◌, ◌⊎◌, ◌+◌, ◌-◌, ◌*◌, ◌/◌, ◌%◌, ◌^◌, ◌<◌, ◌≤◌, ℕ, List, [], Option, max, min, true, false, IfOk, MatchResult, None, length, slice_index, slice_index_or};
 ghost use Rattle.asc_model.specs.Number.{word_at};
-ghost use Rattle.asc_pages.specs.Marks.{IsUnlisted, IsUnmarked};
+ghost use Rattle.asc_pages.specs.DirtyPages.{IsUnlisted, IsClean};
 ghost use Rattle.asc_pages.specs.Pages.{Group, IsPage, ArePages, AreGroups, Keeps, Tells, IsShared, base_bytes, group_in, held, page_bytes, page_in, with_gap};
 ghost use Rattle.asc_pages.specs.Tops.{bytes_in, groups_in, page_of};
 
-use crate::Marks;
-use crate::marks::without_pages;
+use crate::DirtyPages;
+use crate::dirty::without_pages;
 use crate::numbers::Numbers;
 use asc_outside::Memory;
 use std::alloc::Global;
@@ -102,15 +102,15 @@ impl Pages {
         })
     }
 
-    /// The pages of these bytes. Those that are not marked are shared with the base.
+    /// The pages of these bytes. Those that are not dirty are shared with the base.
     pub fn of(
         alloc: Global,
         bytes: &[u8],
-        changed: &Marks,
+        changed: &DirtyPages,
         base: &Option<Pages>,
     ) -> Result<Pages, Memory>
         requires most { length bytes.now < 2 ^ 32 }
-        requires marks { length changed.now ≡ length bytes.now / 1024 + 1 }
+        requires dirty { length changed.now ≡ length bytes.now / 1024 + 1 }
         requires kept { Keeps changed.now (base_bytes base.now) bytes.now }
         ensures { IfOk result (λ pages. Tells pages bytes.now) }
     {
@@ -131,11 +131,11 @@ impl Pages {
         &mut self,
         alloc: Global,
         bytes: &[u8],
-        changed: &Marks,
+        changed: &DirtyPages,
         base: &Option<Pages>,
     ) -> Result<(), Memory>
         requires most { length bytes.now < 2 ^ 32 }
-        requires marks { length changed.now ≡ length bytes.now / 1024 + 1 }
+        requires dirty { length changed.now ≡ length bytes.now / 1024 + 1 }
         requires kept { Keeps changed.now (base_bytes base.now) bytes.now }
         ensures { MatchResult result (λ _. Tells self.new bytes.now)
             (λ _. (self.new ≡ self.old) ⊎ (self.new ≡ [])) }
@@ -156,11 +156,11 @@ impl Pages {
         &mut self,
         alloc: Global,
         bytes: &[u8],
-        changed: &Marks,
+        changed: &DirtyPages,
         base: &Pages,
     ) -> Result<(), Memory>
         requires most { length bytes.now < 2 ^ 32 }
-        requires marks { length changed.now ≡ length bytes.now / 1024 + 1 }
+        requires dirty { length changed.now ≡ length bytes.now / 1024 + 1 }
         requires kept { Keeps changed.now base.now bytes.now }
         ensures { MatchResult result (λ _. Tells self.new bytes.now)
             (λ _. (self.new ≡ self.old) ⊎ (self.new ≡ [])) }
@@ -439,12 +439,12 @@ fn sized<T: Drop>(
 fn put_top(
     alloc: Global,
     bytes: &[u8],
-    changed: &Marks,
+    changed: &DirtyPages,
     base: &Top,
     top: &mut Top,
 ) -> Result<(), Memory>
     requires most { length bytes.now < 2 ^ 32 }
-    requires marks { length changed.now ≡ length bytes.now / 1024 + 1 }
+    requires dirty { length changed.now ≡ length bytes.now / 1024 + 1 }
     requires kept { Keeps changed.now (bytes_in base.now) bytes.now }
     ensures { IfOk result (λ _. Tells (bytes_in top.new) bytes.now) }
 {
@@ -463,18 +463,18 @@ fn put_top(
 // Lists the pages that stand in the place of others in the base, and those that are changed, and answers whether it did:
 // they may be too many, and the base may have no groups.
 #[inline]
-fn list_patched(patched: &mut Numbers, base: &Top, changed: &Marks) -> Result<bool, Memory>
+fn list_patched(patched: &mut Numbers, base: &Top, changed: &DirtyPages) -> Result<bool, Memory>
     ensures { IfOk result (λ few. few ≡ true → (p : ℕ) → IsUnlisted patched.new p
         → IsUnlisted base.now.patched p × (p < length changed.now → slice_index_or changed.now p true ≡ false)) }
 {
     if base.groups.is_none() {
         return Ok(false);
     }
-    let Some(marked) = changed.listed() else {
+    let Some(dirtied) = changed.listed() else {
         return Ok(false);
     };
     patched.copy(&base.patched)?;
-    for p in marked {
+    for p in dirtied {
         if !list_changed(patched, &base.patched, *p)? {
             return Ok(false);
         }
@@ -503,13 +503,13 @@ fn list_changed(patched: &mut Numbers, base: &Numbers, p: usize) -> Result<bool,
 fn patches_of(
     alloc: Global,
     bytes: &[u8],
-    changed: &Marks,
+    changed: &DirtyPages,
     base: &Top,
     patched: &[usize],
     spare: Vec<Page>,
 ) -> Result<Vec<Page>, Memory>
     requires most { length bytes.now < 2 ^ 32 }
-    requires marks { length changed.now ≡ length bytes.now / 1024 + 1 }
+    requires dirty { length changed.now ≡ length bytes.now / 1024 + 1 }
     requires kept { Keeps changed.now (bytes_in base.now) bytes.now }
     ensures { IfOk result (λ pages. (k : ℕ) → k < length patched.now
         → IsPage bytes.now (slice_index patched.now k) (page_in pages.items k)) }
@@ -526,13 +526,13 @@ fn patches_of(
 fn put_patch(
     alloc: Global,
     bytes: &[u8],
-    changed: &Marks,
+    changed: &DirtyPages,
     base: &Top,
     p: usize,
     page: &mut Page,
 ) -> Result<(), Memory>
     requires most { length bytes.now < 2 ^ 32 }
-    requires marks { length changed.now ≡ length bytes.now / 1024 + 1 }
+    requires dirty { length changed.now ≡ length bytes.now / 1024 + 1 }
     requires kept { Keeps changed.now (bytes_in base.now) bytes.now }
     ensures { IfOk result (λ _. IsPage bytes.now p (page_bytes page.new)) }
 {
@@ -550,12 +550,12 @@ fn put_patch(
 fn put_groups(
     alloc: Global,
     bytes: &[u8],
-    changed: &Marks,
+    changed: &DirtyPages,
     base: &Top,
     groups: &mut Option<Arc<Groups>>,
 ) -> Result<(), Memory>
     requires most { length bytes.now < 2 ^ 32 }
-    requires marks { length changed.now ≡ length bytes.now / 1024 + 1 }
+    requires dirty { length changed.now ≡ length bytes.now / 1024 + 1 }
     requires kept { Keeps changed.now (bytes_in base.now) bytes.now }
     ensures { IfOk result (λ _. AreGroups bytes.now (groups_in groups.new)) }
 {
@@ -576,12 +576,12 @@ fn put_groups(
 fn groups_of(
     alloc: Global,
     bytes: &[u8],
-    changed: &Marks,
+    changed: &DirtyPages,
     base: &Top,
     spare: Groups,
 ) -> Result<Groups, Memory>
     requires most { length bytes.now < 2 ^ 32 }
-    requires marks { length changed.now ≡ length bytes.now / 1024 + 1 }
+    requires dirty { length changed.now ≡ length bytes.now / 1024 + 1 }
     requires kept { Keeps changed.now (bytes_in base.now) bytes.now }
     ensures { IfOk result (λ groups. AreGroups bytes.now groups) }
 {
@@ -604,9 +604,9 @@ fn groups_of(
 
 // How many pages of group g there are up to the last one that may be changed, or stand in the place of its own.
 #[inline]
-fn used_pages(changed: &Marks, patched: &[usize], g: usize) -> usize
+fn used_pages(changed: &DirtyPages, patched: &[usize], g: usize) -> usize
     requires { 32 * g < length changed.now }
-    ensures unmarked { IsUnmarked changed.now (32 * g + result) (32 - result) }
+    ensures clean { IsClean changed.now (32 * g + result) (32 - result) }
     ensures unlisted { (k : ℕ) → result ≤ k → k < 32 → IsUnlisted patched.now (32 * g + k) }
 {
     for p in patched {
@@ -622,13 +622,13 @@ fn used_pages(changed: &Marks, patched: &[usize], g: usize) -> usize
 fn put_group(
     alloc: Global,
     bytes: &[u8],
-    changed: &Marks,
+    changed: &DirtyPages,
     base: &Top,
     g: usize,
     group: &mut Group,
 ) -> Result<(), Memory>
     requires most { length bytes.now < 2 ^ 32 }
-    requires marks { length changed.now ≡ length bytes.now / 1024 + 1 }
+    requires dirty { length changed.now ≡ length bytes.now / 1024 + 1 }
     requires group { 32 * g < length changed.now }
     requires kept { Keeps changed.now (bytes_in base.now) bytes.now }
     ensures { IfOk result (λ _. ArePages bytes.now (32 * g) (held group.new)) }
@@ -646,13 +646,13 @@ fn put_group(
 fn write_group(
     alloc: Global,
     bytes: &[u8],
-    changed: &Marks,
+    changed: &DirtyPages,
     base: &Top,
     g: usize,
     group: &mut Group,
 ) -> Result<(), Memory>
     requires most { length bytes.now < 2 ^ 32 }
-    requires marks { length changed.now ≡ length bytes.now / 1024 + 1 }
+    requires dirty { length changed.now ≡ length bytes.now / 1024 + 1 }
     requires group { 32 * g < length changed.now }
     requires kept { Keeps changed.now (bytes_in base.now) bytes.now }
     ensures { IfOk result (λ _. ArePages bytes.now (32 * g) (held group.new)) }
@@ -675,13 +675,13 @@ fn write_group(
 fn pages_of(
     alloc: Global,
     bytes: &[u8],
-    changed: &Marks,
+    changed: &DirtyPages,
     base: &Top,
     g: usize,
     spare: Vec<Page>,
 ) -> Result<Vec<Page>, Memory>
     requires most { length bytes.now < 2 ^ 32 }
-    requires marks { length changed.now ≡ length bytes.now / 1024 + 1 }
+    requires dirty { length changed.now ≡ length bytes.now / 1024 + 1 }
     requires group { 32 * g < length changed.now }
     requires kept { Keeps changed.now (bytes_in base.now) bytes.now }
     ensures { IfOk result (λ pages. ArePages bytes.now (32 * g) pages.items) }
@@ -703,20 +703,20 @@ fn pages_of(
 fn put_page(
     alloc: Global,
     bytes: &[u8],
-    changed: &Marks,
+    changed: &DirtyPages,
     base: &Top,
     kept: &[Page],
     p: usize,
     page: &mut Page,
 ) -> Result<(), Memory>
     requires most { length bytes.now < 2 ^ 32 }
-    requires marks { length changed.now ≡ length bytes.now / 1024 + 1 }
+    requires dirty { length changed.now ≡ length bytes.now / 1024 + 1 }
     requires page { p < length changed.now }
     requires group { kept.now ≡ group_in (groups_in base.now.groups) (p / 32) }
     requires kept { Keeps changed.now (bytes_in base.now) bytes.now }
     ensures { IfOk result (λ _. IsPage bytes.now p (page_bytes page.new)) }
 {
-    if changed.is_marked(p) {
+    if changed.is_dirty(p) {
         copy_to(alloc, &bytes[p * PAGE..], page)
     } else {
         *page = share_page(base, kept, p)?;

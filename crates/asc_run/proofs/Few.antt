@@ -12,7 +12,7 @@ use Rattle.asc_model.specs.declared.why.Why.{Why}
 use Rattle.asc_model.specs.declared.why.Why.TheVariants as whys
 use Rattle.asc_model.specs.Shape.{length_of, is_same_shape}
 use Rattle.asc_model.specs.State.{State, IsState}
-use Rattle.asc_model.specs.Step.{Next, At, Call, Bad, next}
+use Rattle.asc_model.specs.Step.{Next, Went, Call, Faulted, next}
 use Rattle.asc_model.specs.Plain.{plain}
 use Rattle.asc_model.specs.Places.{places_from, places_read, writes, bytes_after}
 use Rattle.asc_model.specs.DependencyVector.{is_among, first_reads, written_in}
@@ -91,7 +91,7 @@ with_marks s cap (Told told statuses touched) are =
 -- it stands where n steps of a start lead, with their statuses
 record Traces (cap n : ℕ) (start : State) : Type 0 where
   t : Tracing
-  goes : plain n start ≡ At t.state
+  goes : plain n start ≡ Went t.state
   statuses : HasStatusesOf n start t
   fits : FitPlaces (length t.state.bytes) (face_of t).marks
   told : cap_of t ≡ cap
@@ -106,11 +106,11 @@ traces-none cap start good = record {
   told = ap (λ b. if b then cap else 0) (is_same_shape-refl start.shape);
 }
 
-at-same : (a b : State) → At a ≡ At b → a ≡ b
+at-same : (a b : State) → Went a ≡ Went b → a ≡ b
 at-same a b e = cc
 
 -- the state of a face after a step
-state-after : (f : Face) (after : State) → IsState f.state → next f.state ≡ At after → (face_after f).state ≡ after
+state-after : (f : Face) (after : State) → IsState f.state → next f.state ≡ Went after → (face_after f).state ≡ after
 state-after f after good e =
     state-puts (face_after_reads f (places_read f.state)) (writes f.state)
     ∙ ap (λ (s : State). record s { bytes = bytes_after s.bytes (writes f.state) }) (state-reads f (places_read f.state))
@@ -121,7 +121,7 @@ record TracesOn (cap n : ℕ) (start : State) (before : Traces cap n start) : Ty
   later : Traces cap (suc n) start
   is : face_of later.t ≡ face_after (face_of before.t)
 
-traces-one : (cap n : ℕ) (start after : State) (before : Traces cap n start) → IsState before.t.state → next before.t.state ≡ At after → TracesOn cap n start before
+traces-one : (cap n : ℕ) (start after : State) (before : Traces cap n start) → IsState before.t.state → next before.t.state ≡ Went after → TracesOn cap n start before
 traces-one cap n start after before good e =
     let s = before.t.state in
     let f = face_of before.t in
@@ -130,7 +130,7 @@ traces-one cap n start after before good e =
     let read = face_after_reads f (places_read s) in
     let state : g.state ≡ after = state-after f after good e in
     let size : length g.state.bytes ≡ length s.bytes =
-    let kept = plain_steps_keep_states 1 s after good (plain-suc_next 0 s (At after) e ∙ plain-zero after) in
+    let kept = plain_steps_keep_states 1 s after good (plain-suc_next 0 s (Went after) e ∙ plain-zero after) in
     ap (λ (u : State). length u.bytes) state ∙ kept.0.length ∙ ap length_of kept.1 ∙ sym good.length in
     let told : AreTold (length s.bytes) cap g.marks =
     puts-AreTold (length s.bytes) cap read (writes s) places.written (reads-AreTold (length s.bytes) cap f (places_read s) places.read (before.told, before.fits)) in
@@ -139,7 +139,7 @@ traces-one cap n start after before good e =
     record {
       later = record {
         t = has.t;
-        goes = ap (λ k. plain k start) (let one : suc n ≡ n + 1 = omega arith in one) ∙ plain_steps_join n 1 start s before.goes ∙ plain-suc_next 0 s (At after) e ∙ plain-zero after ∙ ap At (sym at);
+        goes = ap (λ k. plain k start) (let one : suc n ≡ n + 1 = omega arith in one) ∙ plain_steps_join n 1 start s before.goes ∙ plain-suc_next 0 s (Went after) e ∙ plain-zero after ∙ ap Went (sym at);
         statuses = statuses_follow n start after before.t has.t before.goes e before.fits before.statuses has.is;
         fits = subst (λ (u : State). FitPlaces (length u.bytes) (face_of has.t).marks) (sym (ap (λ (h : Face). h.state) has.is)) has.fits;
         told = has.told;
@@ -147,7 +147,7 @@ traces-one cap n start after before good e =
       is = has.is;
     }
 
-traces : (cap n : ℕ) (start after : State) → IsState start → plain n start ≡ At after → Traces cap n start
+traces : (cap n : ℕ) (start after : State) → IsState start → plain n start ≡ Went after → Traces cap n start
 traces cap zero start after good goes = traces-none cap start good
 traces cap (suc n) start after good goes =
     let last = plain-last n start after goes in
@@ -164,7 +164,7 @@ touched-all cap n start x good =
 -- ---- steps
 
 -- one step more touches no more places than room is kept for
-pub touched-more : (n : ℕ) (start after : State) → IsState start → plain (suc n) start ≡ At after → touched_in (suc n) start ≤ touched_in n start + step_room
+pub touched-more : (n : ℕ) (start after : State) → IsState start → plain (suc n) start ≡ Went after → touched_in (suc n) start ≤ touched_in n start + step_room
 touched-more n start after good goes =
     let cap = touched_in n start + step_room + 1 in
     let last = plain-last n start after goes in
@@ -193,7 +193,7 @@ pub record IsFew (n : ℕ) (e : Entry) : Type 0 where
   pub reads : length e.reads ≤ n
   pub writes : length e.writes ≤ n
 
-made-few : (n : ℕ) (s after : State) → IsState s → plain n s ≡ At after → IsFew (touched_in n s) (made n s after)
+made-few : (n : ℕ) (s after : State) → IsState s → plain n s ≡ Went after → IsFew (touched_in n s) (made n s after)
 made-few n s after good goes =
     let kept = plain_steps_keep_states n s after good goes in
     let size : length after.bytes ≡ length s.bytes = kept.0.length ∙ ap length_of kept.1 ∙ sym good.length in
@@ -236,22 +236,22 @@ goes-none bounds start k most n e le = record {
 -- where a trace that goes on after k steps ends
 abbrev turn : Bounds → State → (k fuel : ℕ) → Option Why → Next → ℕ
 turn bounds start k fuel (Some why) x = k
-turn bounds start k fuel None (At after) = reach_from bounds start (k + 1) fuel after
+turn bounds start k fuel None (Went after) = reach_from bounds start (k + 1) fuel after
 turn bounds start k fuel None Call = k
-turn bounds start k fuel None (Bad fault) = k
+turn bounds start k fuel None (Faulted fault) = k
 
 reach_from-suc : (bounds : Bounds) (start : State) (k fuel : ℕ) (now : State) → reach_from bounds start k (suc fuel) now ≡ turn bounds start k fuel (why_after bounds k start now) (next now)
 unfolding reach_from
 reach_from-suc bounds start k fuel now =
     elim (why_after bounds k start now) as (λ w. elim w [
       | Some why ↦ k
-      | None ↦ elim (next now) [ At after ↦ reach_from bounds start (k + 1) fuel after | Call ↦ k | Bad fault ↦ k ]
+      | None ↦ elim (next now) [ Went after ↦ reach_from bounds start (k + 1) fuel after | Call ↦ k | Faulted fault ↦ k ]
     ] ≡ turn bounds start k fuel w (next now)) [
       | Some why ↦ refl
-      | None ↦ elim (next now) as (λ x. elim x [ At after ↦ reach_from bounds start (k + 1) fuel after | Call ↦ k | Bad fault ↦ k ] ≡ turn bounds start k fuel None x) [
-        | At after ↦ refl
+      | None ↦ elim (next now) as (λ x. elim x [ Went after ↦ reach_from bounds start (k + 1) fuel after | Call ↦ k | Faulted fault ↦ k ] ≡ turn bounds start k fuel None x) [
+        | Went after ↦ refl
         | Call ↦ refl
-        | Bad fault ↦ refl
+        | Faulted fault ↦ refl
       ]
     ]
 
@@ -259,8 +259,8 @@ goes-turn : (bounds : Bounds) (start : State) (k fuel : ℕ) (now : State) (w : 
     → ((after : State) → Goes bounds start (k + 1) (k + 1 + fuel) (reach_from bounds start (k + 1) fuel after)) → Goes bounds start k (k + suc fuel) (turn bounds start k fuel w x)
 goes-turn bounds start k fuel now (Some why) x e rest = goes-none bounds start k (k + suc fuel) k refl (omega arith)
 goes-turn bounds start k fuel now None Call e rest = goes-none bounds start k (k + suc fuel) k refl (omega arith)
-goes-turn bounds start k fuel now None (Bad fault) e rest = goes-none bounds start k (k + suc fuel) k refl (omega arith)
-goes-turn bounds start k fuel now None (At after) e rest =
+goes-turn bounds start k fuel now None (Faulted fault) e rest = goes-none bounds start k (k + suc fuel) k refl (omega arith)
+goes-turn bounds start k fuel now None (Went after) e rest =
     let later = rest after in
     let room = roomy _ _ (touched_in k start) bounds.cap (met_none (bound_met bounds k start) (next now) e) in
     record {
@@ -287,21 +287,21 @@ pub within_span : (bounds : Bounds) (start : State) → reach_of bounds start �
 within_span bounds start = omega (arith, (goes-from bounds start bounds.span 0 start).to)
 
 -- where it takes a step it touches no more places than it may
-touched-within : (bounds : Bounds) (start after : State) (n : ℕ) → IsState start → reach_of bounds start ≡ n → 1 ≤ n → plain n start ≡ At after → touched_in n start ≤ bounds.cap
+touched-within : (bounds : Bounds) (start after : State) (n : ℕ) → IsState start → reach_of bounds start ≡ n → 1 ≤ n → plain n start ≡ Went after → touched_in n start ≤ bounds.cap
 touched-within bounds start after zero good is some goes = absurd (omega arith)
 touched-within bounds start after (suc m) good is some goes =
     omega (arith, touched-more m start after good goes, (goes-from bounds start bounds.span 0 start).room m is (omega arith))
 
 by_next : (bounds : Bounds) (start : State) (e : Entry) (x : Next) → IsState start → 1 ≤ reach_of bounds start → plain (reach_of bounds start) start ≡ x
     → entry_at (reach_of bounds start) start x ≡ Some e → IsFew bounds.cap e
-by_next bounds start e (At after) good some goes h =
+by_next bounds start e (Went after) good some goes h =
     let n = reach_of bounds start in
     let few = made-few n start after good goes in
     let all = touched-within bounds start after n good refl some goes in
     let same : made n start after ≡ e = cc in
     subst (IsFew bounds.cap) same (record { reads = omega (arith, few.reads, all); writes = omega (arith, few.writes, all) })
 by_next bounds start e Call good some goes h = absurd (cc)
-by_next bounds start e (Bad fault) good some goes h = absurd (cc)
+by_next bounds start e (Faulted fault) good some goes h = absurd (cc)
 
 -- the entry of a trace has no more reads, and no more writes, than the trace may touch places
 pub trace-few : (bounds : Bounds) (start : State) (e : Entry) → IsState start → 1 ≤ reach_of bounds start → entry_of (reach_of bounds start) start ≡ Some e → IsFew bounds.cap e
@@ -314,9 +314,9 @@ abbrev IsOf : ℕ → State → Entry → Type 0
 IsOf n s e = (e.shape ≡ s.shape) × (e.steps ≡ n)
 
 shape-by_next : (n : ℕ) (s : State) (e : Entry) (x : Next) → entry_at n s x ≡ Some e → IsOf n s e
-shape-by_next n s e (At after) h = let same : made n s after ≡ e = cc in subst (IsOf n s) same (refl, refl)
+shape-by_next n s e (Went after) h = let same : made n s after ≡ e = cc in subst (IsOf n s) same (refl, refl)
 shape-by_next n s e Call h = absurd (cc)
-shape-by_next n s e (Bad fault) h = absurd (cc)
+shape-by_next n s e (Faulted fault) h = absurd (cc)
 
 pub entry_of-shape : (n : ℕ) (s : State) (e : Entry) → entry_of n s ≡ Some e → (e.shape ≡ s.shape) × (e.steps ≡ n)
 entry_of-shape n s e h = shape-by_next n s e (plain n s) (sym (entry_of-is n s (plain n s) refl) ∙ h)

@@ -1,7 +1,7 @@
 -- What a run takes and puts only grows.
 use Rattle.std.proofs.Common.{◌≡◌, ℕ, zero, suc, ◌+◌, ◌-◌, ◌<◌, List, ◌++◌, refl, sym, ap, ◌∙◌, subst, arith, zero-add, suc-add, add-one, append_assoc}
 use Rattle.std.proofs.lemmas.List.{append-nil}
-use Rattle.asc_model.specs.Step.{Next, At, Call, Bad, next}
+use Rattle.asc_model.specs.Step.{Next, Went, Call, Faulted, next}
 use Rattle.asc_calls.specs.GuestCall.{Io, nothing, then_io, IsBeginning, Device, Input, Out, Err, io_of, guest_call}
 use Rattle.asc_calls.specs.GuestCall as called
 use Rattle.asc_calls.specs.Serving.{IsCutShort}
@@ -36,9 +36,9 @@ grows_at_call count position (called.Went state brk io) = record { rest = io; wh
 grows_at_call count position (called.Exit code) = IsBeginning-same position.io
 
 grows_at_step : (low high count : ℕ) (position : Position) (x : Next) → IsBeginning position.io (so_far (progress_after_step low high count position x))
-grows_at_step low high count position (At state) = IsBeginning-same position.io
+grows_at_step low high count position (Went state) = IsBeginning-same position.io
 grows_at_step low high count position Call = grows_at_call count position (guest_call low high position.state position.brk position.left)
-grows_at_step low high count position (Bad fault) = IsBeginning-same position.io
+grows_at_step low high count position (Faulted fault) = IsBeginning-same position.io
 
 grows_once : (low high count : ℕ) (p : Progress) → IsBeginning (so_far p) (so_far (next_progress low high count p))
 grows_once low high count (On position) = grows_at_step low high count position (next position.state)

@@ -4,7 +4,7 @@ use Rattle.std.specs.Option.{is_some, option_map, option_or}
 use Rattle.std.proofs.lemmas.List.{drop_more, drop_all}
 use Rattle.asc_model.specs.Entry.{Entry}
 use Rattle.asc_model.specs.Join.{join_of}
-use Rattle.asc_run.specs.Serial.{newest_join}
+use Rattle.asc_find.specs.Serial.{newest_join}
 
 -- ---- entries of a shard that holds others and then one
 

@@ -6,14 +6,14 @@ use Rattle.asc_model.specs.Shape.{Shape, holds}
 use Rattle.asc_model.specs.Number.{AreBytes, bytes_of}
 use Rattle.asc_model.specs.State.{State, IsState}
 use Rattle.asc_model.specs.Machine.{Machine, IsMachine, Pc, Register, Memory, view_of, state_of}
-use Rattle.asc_model.specs.Step.{Next, At, Call, Bad, next}
+use Rattle.asc_model.specs.Step.{Next, Went, Call, Faulted, next}
 use Rattle.asc_model.specs.Arithmetic.{◌+w◌}
 use Rattle.asc_model.proofs.Numbers.{AreBytes-bytes_of, AreBytes-append, AreBytes-take, AreBytes-drop}
 use Rattle.asc_model.proofs.Changes.{holds-parts, start_of-least, length-bytes_of_words, AreBytes-bytes_of_words, IsMachine-view_of, IsMachine-after_change, IsState-state_of}
 use Rattle.asc_model.proofs.LawsHold.{steps_keep_states}
 use Rattle.asc_shape.specs.State.{state_after}
 use Rattle.asc_shape.proofs.States.{shape-state_after}
-use Rattle.asc_calls.specs.GuestCall.{Request, Read, Write, End, Break, Unknown, request_of, state_after_answer, answered, early_answer, answered_early_or, negative_answer, bad_file, bad_address, no_such_call, result_of_read, result_of_write, break_after, result_of, guest_call}
+use Rattle.asc_calls.specs.GuestCall.{Request, Read, Write, End, Break, Unknown, request_of, state_after_answer, early_answer, answered_early_or, negative_answer, bad_file, bad_address, no_such_call, result_of_read, result_of_write, break_after, result_of, guest_call}
 use Rattle.asc_calls.specs.GuestCall as called
 use Rattle.asc_run.specs.Execution.{Position, Progress, On, Off, progress_after_call, progress_after_step, next_progress, progress, first_position}
 use Rattle.asc_run.proofs.LawsHold.{progress-zero, progress-suc}
@@ -133,13 +133,13 @@ by_result shape count position (called.Went after brk io) left goes =
 by_result shape count position (called.Exit code) left goes = tt
 
 by_step : (low high : ℕ) (shape : Shape) (count : ℕ) (position : Position) (x : Next) → next position.state ≡ x → Stands shape position.state position.left → GoesOnBy shape (progress_after_step low high count position x)
-by_step low high shape count position (At after) e stands =
+by_step low high shape count position (Went after) e stands =
     let kept = steps_keep_states position.state after stands.good e in
     record { good = kept.0; same = kept.1 ∙ stands.same; bytes = stands.bytes }
 by_step low high shape count position Call e stands =
     by_result shape count position (guest_call low high position.state position.brk position.left) stands.bytes
     (call-GoesBy low high shape position.state position.brk position.left stands)
-by_step low high shape count position (Bad fault) e stands = tt
+by_step low high shape count position (Faulted fault) e stands = tt
 
 next-GoesOnBy : (low high : ℕ) (shape : Shape) (count : ℕ) (before : Progress) → GoesOnBy shape before → GoesOnBy shape (next_progress low high count before)
 next-GoesOnBy low high shape count (On position) goes = by_step low high shape count position (next position.state) refl goes

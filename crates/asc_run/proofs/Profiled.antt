@@ -1,14 +1,14 @@
--- The marks of a run by what is recognised, and the steps of which an address is chosen.
+-- The visits of a run by what is recognised, and the steps of which an address is chosen.
 use Rattle.std.proofs.Common.{◌≡◌, ◌≤◌, ◌<◌, ◌+◌, ◌-◌, ℕ, Bool, true, false, ◌&&◌, nat_le, List, [], ◌∷◌, ◌++◌, length, length-append, slice_index_or, Option, Some, None, refl, sym, ap, ◌∙◌, subst, arith, add-one, inl, inr}
 use Rattle.std.proofs.lemmas.Bool.{cases_lt}
 use Rattle.std.proofs.lemmas.Bool.Decides.{nat_tests}
 use Rattle.std.proofs.lemmas.List.{get_or_append_left, get_or-append-add}
 use Rattle.asc_model.specs.State.{State}
 use Rattle.asc_model.specs.Machine.{view_of}
-use Rattle.asc_model.specs.Step.{At}
+use Rattle.asc_model.specs.Step.{Went}
 use Rattle.asc_model.specs.Plain.{plain}
 use Rattle.asc_calls.specs.GuestCall.{Device}
-use Rattle.asc_calls.specs.World.{CallState, Faults, World, world}
+use Rattle.asc_calls.specs.World.{CallState, DeviceFaults, World, world}
 use Rattle.asc_outside.specs.Outside.{Given}
 use Rattle.asc_guess.specs.Choice.{chosen_address}
 use Rattle.asc_run.specs.declared.recognised.Recognised.{Recognised}
@@ -16,33 +16,34 @@ use Rattle.asc_run.specs.declared.recognised.Recognised.TheVariants as recognise
 use Rattle.asc_run.specs.declared.walk.Ended.{Ended}
 use Rattle.asc_run.specs.Execution.{Progress, Position, On, Off, device_of}
 use Rattle.asc_run.specs.Turn.{Turns, TurnFails}
-use Rattle.asc_run.specs.Visits.{Course, Visit, IsMarkedFrom, HasNoMark, goes_on_at, is_mark, pair_at, profile_of}
-use Rattle.asc_run.specs.Helped.{Aid, HasVisits}
-use Rattle.asc_run.specs.Way.{Reaches, ComesUnmarked}
+use Rattle.asc_run.specs.Visits.{Course, Visit, IsVisitedFrom, HasNoVisit, goes_on_at, visit_rule, pair_at, profile_of}
+use Rattle.asc_run.specs.Helped.{HasVisits}
+use Rattle.asc_find.specs.Finder.{Aid}
+use Rattle.asc_run.specs.Way.{Reaches, ComesUnvisited}
 use Rattle.asc_run.specs.Walk.{GoesHelped, StopsAt}
 use Rattle.asc_run.proofs.Reach.{IsOff, Leads, Reaches-first_position, Reaches-says, Reaches-steps, Follows-turn, StopsAt-fails}
-use Rattle.asc_run.proofs.Marks.{goes_on_at-off}
+use Rattle.asc_run.proofs.VisitRules.{goes_on_at-off}
 use Rattle.asc_run.proofs.Landings.{Helped-none}
 
 -- no count is below 0
-none_below : (n : ℕ) → n ≡ 0 → (mark : ℕ → Bool) → HasNoMark mark 0 n
-none_below n none mark count _ below = absurd (let no : ⊥ = omega (arith, below, none) in no)
+none_below : (n : ℕ) → n ≡ 0 → (rule : ℕ → Bool) → HasNoVisit rule 0 n
+none_below n none rule count _ below = absurd (let no : ⊥ = omega (arith, below, none) in no)
 
 no_address : (p : Progress) → goes_on_at None p ≡ false
 no_address (On position) = refl
 no_address (Off count ended last) = refl
 
 -- a program that has not begun has come nowhere, where no address is recognised, and where this one is
-pub comes-nowhere : (limit : ℕ) (r : Recognised) (w : World) (n : ℕ) → r ≡ recognised.Nowhere → w.calls.ended ≡ false → w.calls.brk ≡ w.calls.low → n ≡ 0 → ComesUnmarked limit (is_mark r) None w w n
+pub comes-nowhere : (limit : ℕ) (r : Recognised) (w : World) (n : ℕ) → r ≡ recognised.Nowhere → w.calls.ended ≡ false → w.calls.brk ≡ w.calls.low → n ≡ 0 → ComesUnvisited limit (visit_rule r) None w w n
 comes-nowhere limit r w n is going brk none = rw is
-    (Reaches-first_position (λ run. IsMarkedFrom limit n None (is_mark recognised.Nowhere run) run) w n (λ run. record { none = none_below n none _; later = λ _ count _ _. sym (no_address (run count)) }) going brk none)
+    (Reaches-first_position (λ run. IsVisitedFrom limit n None (visit_rule recognised.Nowhere run) run) w n (λ run. record { none = none_below n none _; later = λ _ count _ _. sym (no_address (run count)) }) going brk none)
 
-pub comes-at : (limit address : ℕ) (r : Recognised) (w : World) (n : ℕ) → r ≡ recognised.At address → w.calls.ended ≡ false → w.calls.brk ≡ w.calls.low → n ≡ 0 → ComesUnmarked limit (is_mark r) (Some address) w w n
+pub comes-at : (limit address : ℕ) (r : Recognised) (w : World) (n : ℕ) → r ≡ recognised.At address → w.calls.ended ≡ false → w.calls.brk ≡ w.calls.low → n ≡ 0 → ComesUnvisited limit (visit_rule r) (Some address) w w n
 comes-at limit address r w n is going brk none = rw is
-    (Reaches-first_position (λ run. IsMarkedFrom limit n (Some address) (is_mark (recognised.At address) run) run) w n (λ run. record { none = none_below n none _; later = λ _ _ _ _. refl }) going brk none)
+    (Reaches-first_position (λ run. IsVisitedFrom limit n (Some address) (visit_rule (recognised.At address) run) run) w n (λ run. record { none = none_below n none _; later = λ _ _ _ _. refl }) going brk none)
 
--- a count of which the address is noted is no mark
-first_count : (profile least : ℕ) (run : Course) (visits : List Visit) (count : ℕ) → count < profile → is_mark (recognised.Chosen profile least) run visits count ≡ false
+-- a count of which the address is noted is no visit
+first_count : (profile least : ℕ) (run : Course) (visits : List Visit) (count : ℕ) → count < profile → visit_rule (recognised.Chosen profile least) run visits count ≡ false
 first_count profile least run visits count below =
     let early : nat_le profile count ≡ false = grind (arith, nat_tests) in
     ap (λ b. b && goes_on_at (chosen_address (profile_of run profile) least) (run count)) early
@@ -51,8 +52,8 @@ no_and : (b c : Bool) → c ≡ false → (b && c) ≡ false
 no_and true c is = is
 no_and false c is = refl
 
--- where a run has ended there is no mark
-ended_count : (profile least : ℕ) (run : Course) (visits : List Visit) (count : ℕ) → IsOff (run count) → is_mark (recognised.Chosen profile least) run visits count ≡ false
+-- where a run has ended there is no visit
+ended_count : (profile least : ℕ) (run : Course) (visits : List Visit) (count : ℕ) → IsOff (run count) → visit_rule (recognised.Chosen profile least) run visits count ≡ false
 ended_count profile least run visits count off = no_and (nat_le profile count) _ (goes_on_at-off (chosen_address (profile_of run profile) least) (run count) off)
 
 -- one address more
@@ -66,8 +67,8 @@ noted-more notes after n pc s is pc_is run r same at so_far =
     is ∙ ap (λ l. l ++ (pc, n) ∷ []) so_far ∙ ap (λ p. profile_of run n ++ (p, n) ∷ []) pc_is ∙ sym (profile_of-more run n r s same at)
 
 -- one address more is noted, and plain steps are taken that are counted
-pub noted-plain : (notes after : List (ℕ × ℕ)) (pc : ℕ) (low high : ℕ) (start : State) (old : World) (s t : State) (calls calls' : CallState) (left : Option (List ℕ)) (out err : Given) (steps steps' : ℕ) (faults : Faults) (n n' : ℕ)
-    → after ≡ notes ++ (pc, n) ∷ [] → pc ≡ (view_of s).pc → calls' ≡ calls → steps' ≡ steps + (n' - n) → n ≤ n' → plain (n' - n) s ≡ At t
+pub noted-plain : (notes after : List (ℕ × ℕ)) (pc : ℕ) (low high : ℕ) (start : State) (old : World) (s t : State) (calls calls' : CallState) (left : Option (List ℕ)) (out err : Given) (steps steps' : ℕ) (faults : DeviceFaults) (n n' : ℕ)
+    → after ≡ notes ++ (pc, n) ∷ [] → pc ≡ (view_of s).pc → calls' ≡ calls → steps' ≡ steps + (n' - n) → n ≤ n' → plain (n' - n) s ≡ Went t
     → Reaches (λ run. notes ≡ profile_of run n) low high start old (world s calls left out err steps faults) n 0
     → Reaches (λ run. after ≡ profile_of run (n + 1)) low high start old (world t calls' left out err steps' faults) n' 0
 noted-plain notes after pc low high start old s t calls calls' left out err steps steps' faults n n' is pc_is same counted grows goes way =
@@ -113,7 +114,7 @@ long-more notes after pair n m is long one = omega (arith, ap length is, length-
 pub ends-early : (limit profile least : ℕ) (Q : Course → Type 0) (old now new : World) (n d : ℕ) (ended : Ended) (a : Aid) → n < limit → n < profile
     → Reaches Q old.calls.low old.calls.high old.state old now n 0
     → (device_of ended ≡ None → Turns now new n d (Some ended)) → ((device : Device) → device_of ended ≡ Some device → TurnFails now new device) → ((device : Device) → device_of ended ≡ Some device → d ≡ n)
-    → GoesHelped limit (is_mark (recognised.Chosen profile least)) old new a a d 0 ended
+    → GoesHelped limit (visit_rule (recognised.Chosen profile least)) old new a a d 0 ended
 ends-early limit profile least Q old now new n d ended a below early way turn fails count = record {
   visits = [];
   helped = Helped-none a;
@@ -123,10 +124,10 @@ ends-early limit profile least Q old now new n d ended a below early way turn fa
       | inr x ↦ ended_count profile least run [] m (off m (omega arith))
     ]));
     stops = λ device h.
-        subst (λ x. StopsAt limit (HasVisits limit (is_mark (recognised.Chosen profile least)) old.state [] a a (x + 1)) old new x 0 device) (sym (count device h))
+        subst (λ x. StopsAt limit (HasVisits limit (visit_rule (recognised.Chosen profile least)) old.state [] a a (x + 1)) old new x 0 device) (sym (count device h))
         (StopsAt-fails Q _ limit old now new n 0 device way below (fails device h) (λ run _ _ _ q. visits_none (n + 1) run (λ m _ l. first_count profile least run [] m (omega arith))));
   };
 }
   where
-    visits_none : (to : ℕ) (run : Course) → HasNoMark (is_mark (recognised.Chosen profile least) run []) 0 to → HasVisits limit (is_mark (recognised.Chosen profile least)) old.state [] a a to run
+    visits_none : (to : ℕ) (run : Course) → HasNoVisit (visit_rule (recognised.Chosen profile least) run []) 0 to → HasVisits limit (visit_rule (recognised.Chosen profile least)) old.state [] a a to run
     visits_none to run marks = record { are = marks; serial = λ m told shape memory. (m, 0, told, refl, ((refl, refl), omega arith)) }

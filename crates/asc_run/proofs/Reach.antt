@@ -2,13 +2,13 @@
 use Rattle.std.proofs.Common.{◌≡◌, ℕ, zero, suc, ◌+◌, ◌-◌, ◌<◌, ◌≤◌, List, ◌++◌, Option, Some, None, false, refl, sym, ap, ◌∙◌, subst, arith, add-one, zero-add, suc-add}
 use Rattle.std.proofs.lemmas.List.{append_assoc}
 use Rattle.asc_model.specs.State.{State}
-use Rattle.asc_model.specs.Step.{At}
+use Rattle.asc_model.specs.Step.{Went}
 use Rattle.asc_model.specs.Plain.{plain}
 use Rattle.asc_model.proofs.PlainSteps.{plain-none, plain-last}
 use Rattle.asc_outside.specs.Outside.{Given, given_after}
 use Rattle.asc_outside.proofs.Streams.{given_after-nil, given_after-given_after, Takes-nil, Takes-append}
 use Rattle.asc_calls.specs.GuestCall.{Io, nothing, then_io, Device, guest_call}
-use Rattle.asc_calls.specs.World.{CallState, Faults, Outside, World, world, DoesIo, MayCome, KnowsEnd}
+use Rattle.asc_calls.specs.World.{CallState, DeviceFaults, Outside, World, world, DoesIo, MayCome, KnowsEnd}
 use Rattle.asc_calls.specs.Serving.{IsCutShort}
 use Rattle.asc_run.specs.declared.walk.Ended.{Ended}
 use Rattle.asc_run.specs.declared.walk.Ended.TheVariants.{Limit}
@@ -38,7 +38,7 @@ Leads Q Q' s n = (run : Course) (r : Position) → r.state ≡ s → run n ≡ O
 
 -- the same, where the run goes on as plain steps from that state do
 abbrev pub LeadsAlong : (Q Q' : Course → Type 0) → State → (n : ℕ) → Type 0
-LeadsAlong Q Q' s n = (run : Course) (r : Position) → r.state ≡ s → run n ≡ On r → ((k : ℕ) (after : State) → plain k s ≡ At after → run (n + k) ≡ On (record r { state = after })) → Q run → Q' run
+LeadsAlong Q Q' s n = (run : Course) (r : Position) → r.state ≡ s → run n ≡ On r → ((k : ℕ) (after : State) → plain k s ≡ Went after → run (n + k) ≡ On (record r { state = after })) → Q run → Q' run
 
 -- the same, where the run has ended one step later
 abbrev pub IsOff : Progress → Type 0
@@ -112,7 +112,7 @@ Reaches-says Q Q' low high start old now n k r more = record {
 }
 
 -- a jump of m plain steps
-progress-jump : (low high : ℕ) (start : Position) (n m : ℕ) (r : Position) (after : State) → progress low high start n ≡ On r → plain m r.state ≡ At after
+progress-jump : (low high : ℕ) (start : Position) (n m : ℕ) (r : Position) (after : State) → progress low high start n ≡ On r → plain m r.state ≡ Went after
     → progress low high start (m + n) ≡ On (record r { state = after })
 unfolding progress
 progress-jump low high start n zero r after at h =
@@ -139,8 +139,8 @@ Reaches-along Q Q' low high start old now n k r more = record {
   steps = r.steps;
 }
 
-pub Reaches-jump : (Q Q' : Course → Type 0) (low high : ℕ) (start : State) (old : World) (s t : State) (calls : CallState) (left : Option (List ℕ)) (out err : Given) (steps : ℕ) (faults : Faults) (n m k : ℕ)
-    → Reaches Q low high start old (world s calls left out err steps faults) n k → plain m s ≡ At t → Leads Q Q' s n
+pub Reaches-jump : (Q Q' : Course → Type 0) (low high : ℕ) (start : State) (old : World) (s t : State) (calls : CallState) (left : Option (List ℕ)) (out err : Given) (steps : ℕ) (faults : DeviceFaults) (n m k : ℕ)
+    → Reaches Q low high start old (world s calls left out err steps faults) n k → plain m s ≡ Went t → Leads Q Q' s n
     → Reaches Q' low high start old (world t calls left out err steps faults) (n + m) (k + m)
 Reaches-jump Q Q' low high start old s t calls left out err steps faults n m k r h more = record {
   io = r.io;
@@ -158,8 +158,8 @@ Reaches-jump Q Q' low high start old s t calls left out err steps faults n m k r
 }
 
 -- m plain steps, which are counted
-pub Reaches-steps : (Q : Course → Type 0) (low high : ℕ) (start : State) (old : World) (s t : State) (calls : CallState) (left : Option (List ℕ)) (out err : Given) (steps : ℕ) (faults : Faults) (n m k : ℕ)
-    → Reaches Q low high start old (world s calls left out err steps faults) n k → plain m s ≡ At t
+pub Reaches-steps : (Q : Course → Type 0) (low high : ℕ) (start : State) (old : World) (s t : State) (calls : CallState) (left : Option (List ℕ)) (out err : Given) (steps : ℕ) (faults : DeviceFaults) (n m k : ℕ)
+    → Reaches Q low high start old (world s calls left out err steps faults) n k → plain m s ≡ Went t
     → Reaches Q low high start old (world t calls left out err (steps + m) faults) (n + m) k
 Reaches-steps Q low high start old s t calls left out err steps faults n m k r h = record {
   io = r.io;

@@ -15,8 +15,8 @@ use Rattle.asc_shape.specs.Stride.{strided}
 use Rattle.asc_calls.specs.GuestCall.{guest_call}
 use Rattle.asc_run.specs.declared.recognised.Recognised.TheVariants as recognised
 use Rattle.asc_run.specs.Execution.{progress}
-use Rattle.asc_run.specs.Visits.{is_mark, HasNoMark}
-use Rattle.asc_run.specs.Serial.{visited}
+use Rattle.asc_run.specs.Visits.{visit_rule, HasNoVisit}
+use Rattle.asc_find.specs.Serial.{visited}
 use Rattle.asc_run.specs.Rows.{Laps, Targets, Strides, Both, Joins, Visits, loop_run}
 
 pub laps : Laps
@@ -63,30 +63,30 @@ joins = record {
 
 -- ---- visits
 
--- whether none of n counts is a mark
+-- whether none of n counts is a visit
 none_of : (ℕ → Bool) → (from n : ℕ) → Bool
-none_of mark from zero = true
-none_of mark from (suc n) = not (mark from) && none_of mark (from + 1) n
+none_of rule from zero = true
+none_of rule from (suc n) = not (rule from) && none_of rule (from + 1) n
 
 both_true : (x y : Bool) → (not x && y) ≡ true → (x ≡ false) × (y ≡ true)
 both_true false true e = (refl, refl)
 both_true false false e = cc
 both_true true y e = cc
 
-HasNoMark-none_of : (mark : ℕ → Bool) (a n : ℕ) → none_of mark a n ≡ true → HasNoMark mark a (a + n)
+HasNoVisit-none_of : (rule : ℕ → Bool) (a n : ℕ) → none_of rule a n ≡ true → HasNoVisit rule a (a + n)
 unfolding none_of
-HasNoMark-none_of mark a zero e k le lt = absurd (let x : ⊥ = omega arith in x)
-HasNoMark-none_of mark a (suc n) e k le lt =
-    let b = both_true (mark a) (none_of mark (a + 1) n) e in
+HasNoVisit-none_of rule a zero e k le lt = absurd (let x : ⊥ = omega arith in x)
+HasNoVisit-none_of rule a (suc n) e k le lt =
+    let b = both_true (rule a) (none_of rule (a + 1) n) e in
     elim (cases_lt a k) [
-      | inl x ↦ HasNoMark-none_of mark (a + 1) n b.1 k (omega arith) (omega arith)
-      | inr x ↦ (let same : a ≡ k = omega arith in subst (λ i. mark i ≡ false) same b.0)
+      | inl x ↦ HasNoVisit-none_of rule (a + 1) n b.1 k (omega arith) (omega arith)
+      | inr x ↦ (let same : a ≡ k = omega arith in subst (λ i. rule i ≡ false) same b.0)
     ]
 
 pub visits : Visits
 unfolding none_of plain next outcome words view_of state_of decode guest_call progress
 visits =
-    let none = HasNoMark-none_of (is_mark (recognised.At 0x10008) loop_run []) in
+    let none = HasNoVisit-none_of (visit_rule (recognised.At 0x10008) loop_run []) in
     record {
       four = (
         (

@@ -23,11 +23,10 @@ use Rattle.asc_guess.specs.declared.kind.Kind.{Kind}
 use Rattle.asc_guess.specs.declared.kind.Kind.TheVariants.{Last, Stride}
 use Rattle.asc_guess.specs.Guess.{guess_of}
 use Rattle.asc_find.specs.declared.guessing.Guessing.{Guessing}
-use Rattle.asc_find.specs.Serial.{Serial}
+use Rattle.asc_find.specs.Serial.{Serial, Task, tasks_of, bounds_at, newest_join, add_found, older, add_joined, add_traced, add_guess, after_tasks, visited}
 use Rattle.asc_run.specs.Execution.{Position, Progress, On, Off, progress, first_position}
 use Rattle.asc_run.specs.Visits.{Course, Visit}
 use Rattle.asc_run.specs.Helped.{SerialAt, IsSerial}
-use Rattle.asc_run.specs.Serial.{Task, tasks_of, bounds_at, newest_join, add_found, older, add_joined, add_traced, add_guess, after_tasks, visited}
 use Rattle.asc_run.specs.SerialRun.{serial_of}
 use Rattle.asc_run.specs.Laws.{SerialRunsAreSavable}
 use Rattle.asc_run.proofs.JoinedFew.{reads-few, writes-few, joined-IsEntry}
@@ -184,7 +183,7 @@ module _ (shape : Shape) (g : Guessing) (span : g.span ≤ most_steps) where
       (visits-Keeps limit run first before serial.0 serial.1 states serial.2 keeps)
 
 pub serial_runs_are_savable : SerialRunsAreSavable
-serial_runs_are_savable limit low high start left mark guessing first numbers good bytes span all x =
+serial_runs_are_savable limit low high start left rule guessing first numbers good bytes span all x =
     let run = progress low high (first_position start low left) in
     (visits-Keeps start.shape guessing span limit run (serial_of start.shape guessing first) x.visits x.now numbers.made
     (course-states low high start left good bytes) x.serial (record { guessing = refl; content = all })).content

@@ -3,12 +3,13 @@ use Rattle.std.proofs.Common.{◌≡◌, ◌≤◌, ◌+◌, ◌-◌, ◌*◌, �
 use Rattle.std.proofs.lemmas.Bool.{le-ltb, ne_eqb}
 use Rattle.asc_find.specs.declared.guessing.Guessing.{Guessing}
 use Rattle.asc_model.specs.State.{State}
-use Rattle.asc_find.specs.Finder.{Plan, Tally}
-use Rattle.asc_run.specs.Serial.{kinds_of}
-use Rattle.asc_run.specs.Visits.{Visit, tally_of, with_landing}
-use Rattle.asc_run.specs.Helped.{Aid, Helped, Lands, Plans}
-use Rattle.asc_run.specs.Walk.{IsRaisedBy, tally}
-use Rattle.asc_run.specs.Seen.{newly_guessed, guesses_at, guesses_until, seen, Sees, SeesAll}
+use Rattle.asc_find.specs.Finder.{Aid, Jumps, Plan}
+use Rattle.asc_find.specs.Serial.{kinds_of}
+use Rattle.asc_run.specs.Visits.{Visit, jumps_of, with_landing}
+use Rattle.asc_run.specs.Helped.{Helped, Lands}
+use Rattle.asc_find.specs.Helper.{Plans, newly_guessed, guesses_at, seen, Sees}
+use Rattle.asc_run.specs.Walk.{IsRaisedBy, jumps}
+use Rattle.asc_run.specs.Seen.{guesses_until, SeesAll}
 
 -- from the third visit on one more visit is guessed at each
 pub newly-later : (ahead n : ℕ) → 2 ≤ n → newly_guessed ahead (n + 1) ≡ 1
@@ -37,8 +38,8 @@ pub SeesAll-none : (p : Plan) → SeesAll 0 p p
 SeesAll-none p = λ g told same. (told, omega arith)
 
 -- a walk that was not visited saw all
-pub unvisited : (asked given hits : ℕ) (p : Plan) → tally asked given hits ≡ tally 0 0 0 → SeesAll asked p p
-unvisited asked given hits p is = subst (λ (t : Tally). SeesAll t.asked p p) (sym is) (SeesAll-none p)
+pub unvisited : (asked given hits : ℕ) (p : Plan) → jumps asked given hits ≡ jumps 0 0 0 → SeesAll asked p p
+unvisited asked given hits p is = subst (λ (t : Jumps). SeesAll t.asked p p) (sym is) (SeesAll-none p)
 
 one-visit : (before : ℕ) (old now new : Plan) → old.refused ≤ now.refused → now.refused ≤ new.refused → Sees (before + 1) now new → SeesAll before old now → SeesAll (before + 1) old new
 one-visit before old now new earlier later sees all g told same =
@@ -49,15 +50,15 @@ one-visit before old now new earlier later sees all g told same =
 
 -- ---- visits are counted
 
-tally_of-asked : (visits : List Visit) (t : Tally) → (tally_of visits t).asked ≡ t.asked + length visits
-tally_of-asked [] t = omega arith
-tally_of-asked (v ∷ before) t = let e = tally_of-asked before t in omega (arith, e)
+jumps_of-asked : (visits : List Visit) (t : Jumps) → (jumps_of visits t).asked ≡ t.asked + length visits
+jumps_of-asked [] t = omega arith
+jumps_of-asked (v ∷ before) t = let e = jumps_of-asked before t in omega (arith, e)
 
 -- a walk counts as many as there were
-pub visits-asked : (visits : List Visit) (walk first last : Tally) → last ≡ tally_of visits first → IsRaisedBy walk first last → walk.asked ≡ length visits
+pub visits-asked : (visits : List Visit) (walk first last : Jumps) → last ≡ jumps_of visits first → IsRaisedBy walk first last → walk.asked ≡ length visits
 visits-asked visits walk first last is raised =
-    let all = tally_of-asked visits first in
-    omega (arith, all, ap (λ (t : Tally). t.asked) is, ap (λ (t : Tally). t.asked) raised)
+    let all = jumps_of-asked visits first in
+    omega (arith, all, ap (λ (t : Jumps). t.asked) is, ap (λ (t : Jumps). t.asked) raised)
 
 -- a landing more
 pub SeesAll-more : (is : Bool) (c : ℕ) (r : Option ℕ) (before number : ℕ) (s : State) (left : ℕ) (old : Plan) (now new : Aid) → Lands is before s left r now new → (is ≡ true → Sees (before + 1) now.plan new.plan)

@@ -1,12 +1,11 @@
 -- A walk that seeks its address: where its search stands at each count.
-use Rattle.std.proofs.Common.{◌≡◌, ◌≢◌, inl, inr, ◌≤◌, ◌<◌, ◌+◌, ◌-◌, ℕ, zero, suc, Bool, true, false, nat_lt, nat_le, if◌then◌else◌, List, [], ◌∷◌, length, Option, Some, None, refl, sym, ap, ◌∙◌, subst, arith}
+use Rattle.std.proofs.Common.{◌≡◌, ◌≢◌, inl, inr, ◌≤◌, ◌<◌, ◌+◌, ◌-◌, ℕ, zero, suc, Bool, true, false, nat_lt, if◌then◌else◌, List, [], ◌∷◌, length, Option, Some, None, refl, sym, ap, ◌∙◌, subst, arith}
 use Rattle.std.proofs.lemmas.Bool.{false≢true, le-ltb, lt-ltb}
 use Rattle.asc_model.specs.State.{State}
-use Rattle.asc_model.specs.Step.{At}
+use Rattle.asc_model.specs.Step.{Went}
 use Rattle.asc_model.specs.Machine.{view_of}
 use Rattle.asc_model.specs.Plain.{plain}
 use Rattle.asc_step.specs.Step.{Climbs, Lowers}
-use Rattle.asc_seek.specs.declared.heads.Head.{Head}
 use Rattle.asc_seek.specs.declared.seeker.Seeking.{Seeking}
 use Rattle.asc_seek.specs.declared.seeker.Service.{Service}
 use Rattle.asc_seek.specs.declared.seeker.Trial.{Trial}
@@ -18,7 +17,7 @@ use Rattle.asc_seek.proofs.Along.{AreEarlier-heads_of, AreEarlier-later, heads_o
 use Rattle.asc_run.specs.Execution.{Position, Progress, On, Off}
 use Rattle.asc_run.specs.Sought.{NotesAlong, learning, noting, pc_in}
 use Rattle.asc_run.specs.Visits.{Course, Visit, goes_on_at, is_at, landing, path_of, seek_at, stands_at, with_landing}
-use Rattle.asc_run.proofs.Marks.{floor}
+use Rattle.asc_run.proofs.VisitRules.{floor}
 use Rattle.asc_run.proofs.Shapes.{plain-part}
 
 -- ---- the phases
@@ -45,9 +44,6 @@ watched-other phase.Profile s at is = absurd (false≢true at)
 watched-other (phase.Trial t) s at is = cc
 watched-other (phase.Service v) s at is = cc
 watched-other (phase.Rest until) s at is = cc
-
-watched-none : (p : Phase) → p ≡ phase.Profile → watched_in p ≡ None
-watched-none p is = ap watched_in is
 
 pub goes_on_at-none : (p : Progress) → goes_on_at None p ≡ false
 goes_on_at-none (On position) = refl
@@ -183,10 +179,6 @@ seek_at-landed s run v before m is other =
     ∙ seek_along-zero path (landing v) told
     ∙ ap (advanced (landing v)) (profiled-same path (landing v) told told.phase (visit-other v.at v.reply m other))
 
--- before the first step
-same_table : (m : Seek) (t : List (Option Head)) → t ≡ m.table → record m { table = t } ≡ m
-same_table m t is = ap (λ (x : List (Option Head)). record m { table = x }) is
-
 pub seek_at-first : (s : Seeking) (run : Course) → seek_at s run [] 0 ≡ advanced 0 (new_seek s)
 unfolding seek_at
 seek_at-first s run =
@@ -269,14 +261,14 @@ led_back-some a b down = ap (λ t. if t then Some b else None) (lt-ltb b a down)
 
 -- where a run goes on as plain steps from a state do
 abbrev pub GoesAlong : Course → State → (c : ℕ) → Position → Type 0
-GoesAlong run s c r = (k : ℕ) (after : State) → plain k s ≡ At after → run (c + k) ≡ On (record r { state = after })
+GoesAlong run s c r = (k : ℕ) (after : State) → plain k s ≡ Went after → run (c + k) ≡ On (record r { state = after })
 
 module _ (run : Course) (s t : State) (c : ℕ) (r : Position) (along : GoesAlong run s c r) where
-  path-at : (k : ℕ) (after : State) → plain k s ≡ At after → path_of run (c + k) ≡ pc_in after
+  path-at : (k : ℕ) (after : State) → plain k s ≡ Went after → path_of run (c + k) ≡ pc_in after
   path-at k after goes = ap stands_at (along k after goes)
 
   -- steps that do not lower the pc lead nowhere back
-  nowhere-back : (n m : ℕ) → Climbs s m → plain n s ≡ At t → (i : ℕ) → 0 < i → i < m → i ≤ n → head_at (path_of run) (c + i) ≡ None
+  nowhere-back : (n m : ℕ) → Climbs s m → plain n s ≡ Went t → (i : ℕ) → 0 < i → i < m → i ≤ n → head_at (path_of run) (c + i) ≡ None
   nowhere-back n m climbs goes zero some fewer most = absurd (omega arith)
   nowhere-back n m climbs goes (suc j) some fewer most =
       let a = plain-part j n s t (omega arith) goes in
@@ -286,7 +278,7 @@ module _ (run : Course) (s t : State) (c : ℕ) (r : Position) (along : GoesAlon
       ∙ led_back-none (view_of a.0).pc (view_of b.0).pc (climbs j (omega arith) a.0 b.0 a.1 (ap (λ k. plain k s) (sym e) ∙ b.1))
 
   -- the last step lowers it
-  leads-back : (n : ℕ) → Lowers s n → plain n s ≡ At t → head_at (path_of run) (c + n) ≡ pc_in t
+  leads-back : (n : ℕ) → Lowers s n → plain n s ≡ Went t → head_at (path_of run) (c + n) ≡ pc_in t
   leads-back zero lowers goes = absurd (let x = lowers.0 in omega arith)
   leads-back (suc j) lowers goes =
       let a = plain-part j (suc j) s t (omega arith) goes in
@@ -295,7 +287,7 @@ module _ (run : Course) (s t : State) (c : ℕ) (r : Position) (along : GoesAlon
       ∙ led_back-some (view_of a.0).pc (view_of t).pc (lowers.1 a.0 t (ap (λ k. plain k s) e ∙ a.1) goes)
 
   -- of some steps, what is noted is the head at the last
-  pub notes-head : (n : ℕ) (m m' : Seek) → 0 < n → plain n s ≡ At t → NotesAlong s n (c + n) t m m'
+  pub notes-head : (n : ℕ) (m m' : Seek) → 0 < n → plain n s ≡ Went t → NotesAlong s n (c + n) t m m'
       → ((i : ℕ) → 0 < i → i < n → head_at (path_of run) (c + i) ≡ None) × (m' ≡ noting (c + n) (head_at (path_of run) (c + n)) m)
   notes-head n m m' some goes notes = (
     λ i a b. nowhere-back n n notes.0 goes i a b (omega arith),

@@ -1,7 +1,7 @@
 -- What is said of a run while a walk seeks its address, one landing more.
 use Rattle.std.proofs.Common.{◌≡◌, ◌≢◌, ◌⊎◌, inl, inr, ◌≤◌, ◌<◌, ◌+◌, ◌-◌, ℕ, Bool, true, false, List, [], length, Option, Some, None, refl, sym, ap, ◌∙◌, subst, arith}
 use Rattle.asc_model.specs.State.{State}
-use Rattle.asc_model.specs.Step.{At}
+use Rattle.asc_model.specs.Step.{Went}
 use Rattle.asc_model.specs.Plain.{plain}
 use Rattle.asc_traj.specs.Jump.{JumpsBy}
 use Rattle.asc_seek.specs.declared.seeker.Seeking.{Seeking}
@@ -12,10 +12,11 @@ use Rattle.asc_seek.specs.Seek.{Seek, end_in, is_over, new_seek, advanced, watch
 use Rattle.asc_run.specs.declared.recognised.Recognised.TheVariants.{Sought}
 use Rattle.asc_run.specs.Execution.{Position, On}
 use Rattle.asc_run.specs.Sought.{NotesAlong, learning, noting, pc_in}
-use Rattle.asc_run.specs.Visits.{Course, Passes, Visit, goes_on_at, is_at, is_mark, path_of, seek_at, stands_at, with_landing}
-use Rattle.asc_run.specs.Helped.{Aid, HasVisits, Lands}
+use Rattle.asc_run.specs.Visits.{Course, Passes, Visit, goes_on_at, is_at, visit_rule, path_of, seek_at, stands_at, with_landing}
+use Rattle.asc_run.specs.Helped.{HasVisits, Lands}
+use Rattle.asc_find.specs.Finder.{Aid}
 use Rattle.asc_run.proofs.Reach.{Leads, LeadsAlong, LeadsToEnd}
-use Rattle.asc_run.proofs.Marks.{AreVisits-later, AreVisits-step, AreVisits-jump, floor, floor_of, goes_on_at-on, goes_on_at-off, GoesPlain-on}
+use Rattle.asc_run.proofs.VisitRules.{AreVisits-later, AreVisits-step, AreVisits-jump, floor, floor_of, goes_on_at-on, goes_on_at-off, GoesPlain-on}
 use Rattle.asc_run.proofs.Landings.{machine-more}
 use Rattle.asc_run.proofs.Shapes.{plain-part}
 use Rattle.asc_run.proofs.Seeking.{goes_on_at-none, head_at-call, notes-head, seek_at-first, seek_at-landed, seek_at-noted, seek_at-notes, seek_at-stays, seek_at-turns, table-seek_at, visit-other, watched-other, with_heads-next}
@@ -47,12 +48,12 @@ pub record Moves (is_visit : Bool) (c n : ℕ) (m m' : Seek) (run : Course) : Ty
 module _ (limit : ℕ) (s : Seeking) (start : State) where
   -- So far a walk has these visits, and its search stands behind m, whose phase may be over.
   pub record Seeks (visits : List Visit) (old now : Aid) (to : ℕ) (m : Seek) (run : Course) : Type 0 where
-    pub has : HasVisits limit (is_mark (Sought s)) start visits old now to run
+    pub has : HasVisits limit (visit_rule (Sought s)) start visits old now to run
     pub stands : seek_at s run visits to ≡ advanced to m
 
   -- the same behind a landing from which it does not jump
   pub record Landed (is_visit : Bool) (visits : List Visit) (old now : Aid) (c : ℕ) (m : Seek) (run : Course) : Type 0 where
-    pub has : HasVisits limit (is_mark (Sought s)) start visits old now (c + 1) run
+    pub has : HasVisits limit (visit_rule (Sought s)) start visits old now (c + 1) run
     pub stands : StandsBehind s is_visit visits c m run
 
   -- no visit yet
@@ -67,9 +68,9 @@ module _ (limit : ℕ) (s : Seeking) (start : State) where
 
   module _ (st : State) (c k : ℕ) (visits : List Visit) (old now new : Aid) (m m' : Seek) (is : Bool) (shape : st.shape ≡ start.shape) (number : k ≡ length visits) (earlier : old.plan.refused ≤ now.plan.refused) (later : now.plan.refused ≤ new.plan.refused)
       (turned : m' ≡ advanced c m) (going : is_over c m' ≡ false) (at_address : is_at (watched_in m'.phase) st ≡ is) where
-    -- a count is a mark if the state stands at the address of the search
-    mark-is : (run : Course) (r : Position) → r.state ≡ st → run c ≡ On r → seek_at s run visits c ≡ advanced c m → is_mark (Sought s) run visits c ≡ is
-    mark-is run r e at stands =
+    -- a count is a visit if the state stands at the address of the search
+    rule-is : (run : Course) (r : Position) → r.state ≡ st → run c ≡ On r → seek_at s run visits c ≡ advanced c m → visit_rule (Sought s) run visits c ≡ is
+    rule-is run r e at stands =
         ap (λ (x : Seek). goes_on_at (watched_in x.phase) (run c)) (stands ∙ sym turned) ∙ goes_on_at-on (watched_in m'.phase) (run c) r st e at ∙ at_address
 
     stands-landed : (b : Bool) (run : Course) → is_at (watched_in m'.phase) st ≡ b → seek_at s run visits c ≡ advanced c m → floor visits ≤ c → StandsBehind s b (with_landing b c None visits) c (learning b c None m') run
@@ -88,10 +89,10 @@ module _ (limit : ℕ) (s : Seeking) (start : State) where
     pub Seeks-step : Lands is k st (limit - c) None now new → Leads (Seeks visits old now c m) (Landed is (with_landing is c None visits) old new c (learning is c None m')) st c
     Seeks-step lands run r e at q = record {
       has = record {
-        are = AreVisits-step is limit run (is_mark (Sought s) run) visits c q.has.are (mark-is run r e at q.stands);
+        are = AreVisits-step is limit run (visit_rule (Sought s) run) visits c q.has.are (rule-is run r e at q.stands);
         serial = machine-more is limit c k run r st None visits start old now new e at shape number earlier later lands q.has.serial;
       };
-      stands = stands-landed is run at_address q.stands (floor_of limit run (is_mark (Sought s) run) visits c q.has.are).0;
+      stands = stands-landed is run at_address q.stands (floor_of limit run (visit_rule (Sought s) run) visits c q.has.are).0;
     }
 
     -- a jump
@@ -100,20 +101,20 @@ module _ (limit : ℕ) (s : Seeking) (start : State) where
     Seeks-jump t n jump passed below lands run r e at q =
         let most = jump.most in record {
           has = record {
-            are = AreVisits-jump is limit run (is_mark (Sought s) run) visits c n q.has.are (mark-is run r e at q.stands) passed jump.least (omega (arith, most)) (GoesPlain-on n (run c) r st t e at jump.goes);
+            are = AreVisits-jump is limit run (visit_rule (Sought s) run) visits c n q.has.are (rule-is run r e at q.stands) passed jump.least (omega (arith, most)) (GoesPlain-on n (run c) r st t e at jump.goes);
             serial = machine-more is limit c k run r st (Some n) visits start old now new e at shape number earlier later lands q.has.serial;
           };
           stands = stands-jumped n is run at_address passed q.stands;
         }
 
   module _ (visits : List Visit) (old now : Aid) (c n : ℕ) (m m' : Seek) (run : Course) where
-    -- none of the counts between is a mark
-    more-visits : Landed false visits old now c m run → 0 < n → ((i : ℕ) → 0 < i → i < n → is_mark (Sought s) run visits (c + i) ≡ false) → HasVisits limit (is_mark (Sought s)) start visits old now (c + n) run
+    -- none of the counts between is a visit
+    more-visits : Landed false visits old now c m run → 0 < n → ((i : ℕ) → 0 < i → i < n → visit_rule (Sought s) run visits (c + i) ≡ false) → HasVisits limit (visit_rule (Sought s)) start visits old now (c + n) run
     more-visits q some none = record {
-      are = AreVisits-later limit run (is_mark (Sought s) run) visits (c + 1) (c + n) q.has.are (omega arith) (λ count from to.
+      are = AreVisits-later limit run (visit_rule (Sought s) run) visits (c + 1) (c + n) q.has.are (omega arith) (λ count from to.
           let i : ℕ = count - c in
           let sum : c + i ≡ count = omega arith in
-          subst (λ x. is_mark (Sought s) run visits x ≡ false) sum (none i (omega arith) (omega arith)));
+          subst (λ x. visit_rule (Sought s) run visits x ≡ false) sum (none i (omega arith) (omega arith)));
       serial = q.has.serial;
     }
 
@@ -153,7 +154,7 @@ module _ (limit : ℕ) (s : Seeking) (start : State) where
 
   -- plain steps
   pub Landed-plain : (is : Bool) (st t : State) (c n : ℕ) (visits : List Visit) (old now : Aid) (m m' : Seek) (address : Option ℕ) → 0 < n → (is ≡ true → n ≡ 1) → (is ≡ false → c + n ≤ end_in m m.phase) → (is ≡ false → m.phase ≡ phase.Profile → m.since ≤ c)
-      → plain n st ≡ At t → (is ≡ false → address ≡ watched_in m.phase) → (m.phase ≢ phase.Profile → Passes address st n) → (m.phase ≡ phase.Profile → NotesAlong st n (c + n) t m m') → (m.phase ≢ phase.Profile → m' ≡ m)
+      → plain n st ≡ Went t → (is ≡ false → address ≡ watched_in m.phase) → (m.phase ≢ phase.Profile → Passes address st n) → (m.phase ≡ phase.Profile → NotesAlong st n (c + n) t m m') → (m.phase ≢ phase.Profile → m' ≡ m)
       → LeadsAlong (Landed is visits old now c m) (Seeks visits old now (c + n) m') st c
   Landed-plain is st t c n visits old now m m' address some one most since goes watched passes noted other run r e at along q =
       moves-by visits old now c n m m' run is q (record {
@@ -195,10 +196,10 @@ module _ (limit : ℕ) (s : Seeking) (start : State) where
         other = other;
       })
 
-  -- the last step: the run has ended then, and has no mark
+  -- the last step: the run has ended then, and has no visit
   pub Landed-end : (is : Bool) (st : State) (c : ℕ) (visits : List Visit) (old now : Aid) (m : Seek) → c < limit
-      → LeadsToEnd (Landed is visits old now c m) (HasVisits limit (is_mark (Sought s)) start visits old now limit) st c
+      → LeadsToEnd (Landed is visits old now c m) (HasVisits limit (visit_rule (Sought s)) start visits old now limit) st c
   Landed-end is st c visits old now m below run r e at off q = record {
-    are = AreVisits-later limit run (is_mark (Sought s) run) visits (c + 1) limit q.has.are (omega arith) (λ count from to. goes_on_at-off (watched_in (seek_at s run visits count).phase) (run count) (off count (omega arith)));
+    are = AreVisits-later limit run (visit_rule (Sought s) run) visits (c + 1) limit q.has.are (omega arith) (λ count from to. goes_on_at-off (watched_in (seek_at s run visits count).phase) (run count) (off count (omega arith)));
     serial = q.has.serial;
   }

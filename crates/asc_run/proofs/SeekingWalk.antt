@@ -1,13 +1,13 @@
 -- A walk that seeks its address, so far: one landing more, one turn more, and the end.
 use Rattle.std.proofs.Common.{◌≡◌, ◌≢◌, inl, inr, ◌≤◌, ◌<◌, ◌+◌, ◌-◌, ℕ, Bool, false, List, [], length, Option, Some, None, refl, sym, ap, ◌∙◌, subst, arith}
 use Rattle.asc_model.specs.State.{State}
-use Rattle.asc_model.specs.Step.{At}
+use Rattle.asc_model.specs.Step.{Went}
 use Rattle.asc_model.specs.Plain.{plain}
 use Rattle.asc_model.proofs.PlainSteps.{plain-none}
 use Rattle.asc_traj.specs.Jump.{IsJump}
 use Rattle.asc_outside.specs.Outside.{Given}
 use Rattle.asc_calls.specs.GuestCall.{Device}
-use Rattle.asc_calls.specs.World.{CallState, Faults, World, world}
+use Rattle.asc_calls.specs.World.{CallState, DeviceFaults, World, world}
 use Rattle.asc_seek.specs.declared.seeker.Seeking.{Seeking}
 use Rattle.asc_seek.specs.declared.seeker.Phase.TheVariants as phase
 use Rattle.asc_seek.specs.Heads.{led_back}
@@ -18,8 +18,9 @@ use Rattle.asc_run.specs.declared.walk.Ended.TheVariants.{Limit}
 use Rattle.asc_run.specs.Execution.{device_of}
 use Rattle.asc_run.specs.Sought.{NotesAlong, learning, noting, pc_in}
 use Rattle.asc_run.specs.Turn.{Turns, TurnFails}
-use Rattle.asc_run.specs.Visits.{Visit, Passes, is_at, is_mark, with_landing}
-use Rattle.asc_run.specs.Helped.{Aid, Helped, HasVisits, Lands}
+use Rattle.asc_run.specs.Visits.{Visit, Passes, is_at, visit_rule, with_landing}
+use Rattle.asc_run.specs.Helped.{Helped, HasVisits, Lands}
+use Rattle.asc_find.specs.Finder.{Aid}
 use Rattle.asc_run.specs.Way.{Reaches}
 use Rattle.asc_run.specs.Walk.{GoesHelped, HasNotBegun, StopsAt}
 use Rattle.asc_run.proofs.Reach.{Reaches-first_position, Reaches-turn, Reaches-says, Reaches-along, Reaches-jump, Reaches-steps, Follows-turn, Follows-limit, StopsAt-fails}
@@ -50,7 +51,7 @@ module _ (limit : ℕ) (s : Seeking) (old : World) where
     ),
   )
 
-  module _ (st t : State) (calls calls' : CallState) (left : Option (List ℕ)) (out err : Given) (steps : ℕ) (faults : Faults) (c c' k k' number number' : ℕ) (m m' m'' : Seek) (address : Option ℕ) (first now new : Aid)
+  module _ (st t : State) (calls calls' : CallState) (left : Option (List ℕ)) (out err : Given) (steps : ℕ) (faults : DeviceFaults) (c c' k k' number number' : ℕ) (m m' m'' : Seek) (address : Option ℕ) (first now new : Aid)
       (same_calls : calls' ≡ calls) (same_count : c' ≡ c) (same_skipped : k' ≡ k) (turned : m' ≡ advanced c m) (going : is_over c m' ≡ false) (watched : address ≡ watched_in m'.phase) (below : c < limit) where
     -- a landing that jumps
     pub seeks-jump : (n : ℕ) → m'' ≡ learning (is_at address st) c (Some n) m' → IsJump (Some n) (limit - c) st t → (is_at address st ≡ false → Some n ≡ None) → SeeksOn (world st calls left out err steps faults) c k number m first now
@@ -86,8 +87,8 @@ module _ (limit : ℕ) (s : Seeking) (old : World) where
           ),
         )
 
-  module _ (is : Bool) (st t : State) (calls calls' : CallState) (left : Option (List ℕ)) (out err : Given) (steps steps' : ℕ) (faults : Faults) (c c' k number most : ℕ) (m m' : Seek) (address : Option ℕ) (first last : Aid)
-      (may : MayGo is address c most m) (same_calls : calls' ≡ calls) (counted : steps' ≡ steps + (c' - c)) (goes : plain (c' - c) st ≡ At t)
+  module _ (is : Bool) (st t : State) (calls calls' : CallState) (left : Option (List ℕ)) (out err : Given) (steps steps' : ℕ) (faults : DeviceFaults) (c c' k number most : ℕ) (m m' : Seek) (address : Option ℕ) (first last : Aid)
+      (may : MayGo is address c most m) (same_calls : calls' ≡ calls) (counted : steps' ≡ steps + (c' - c)) (goes : plain (c' - c) st ≡ Went t)
       (noted : m.phase ≡ phase.Profile → NotesAlong st (c' - c) c' t m m') (other : m.phase ≢ phase.Profile → m' ≡ m) where
     -- plain steps from a landing to the next
     pub seeks-plain : c < c' → c' ≤ c + most → (m.phase ≢ phase.Profile → Passes address st (c' - c))
@@ -146,25 +147,25 @@ module _ (limit : ℕ) (s : Seeking) (old : World) where
   -- a turn that ends it
   pub seeks-end : (is : Bool) (now new : World) (c d k number : ℕ) (m : Seek) (first last : Aid) (ended : Ended) → LandsOn is now c k number m first last → c < limit
       → (device_of ended ≡ None → Turns now new c d (Some ended)) → ((device : Device) → device_of ended ≡ Some device → TurnFails now new device) → ((device : Device) → device_of ended ≡ Some device → d ≡ c)
-      → GoesHelped limit (is_mark (Sought s)) old new first last d k ended
+      → GoesHelped limit (visit_rule (Sought s)) old new first last d k ended
   seeks-end is now new c d k number m first last ended w below turn fails count = record {
     visits = w.0;
     helped = w.1;
     goes = record {
       follows = λ h. Follows-turn _ _ limit old now new c d k ended w.2.1 below (turn h) (Landed-end limit s old.state is now.state c w.0 first last m below);
       stops = λ device h.
-          subst (λ x. StopsAt limit (HasVisits limit (is_mark (Sought s)) old.state w.0 first last (x + 1)) old new x k device) (sym (count device h))
+          subst (λ x. StopsAt limit (HasVisits limit (visit_rule (Sought s)) old.state w.0 first last (x + 1)) old new x k device) (sym (count device h))
           (StopsAt-fails _ _ limit old now new c k device w.2.1 below (fails device h) (λ run _ _ _ q. q.has));
     };
   }
 
   -- the limit
-  pub seeks-limit : (now : World) (c k number : ℕ) (m : Seek) (first last : Aid) → SeeksOn now c k number m first last → c ≡ limit → GoesHelped limit (is_mark (Sought s)) old now first last c k Limit
+  pub seeks-limit : (now : World) (c k number : ℕ) (m : Seek) (first last : Aid) → SeeksOn now c k number m first last → c ≡ limit → GoesHelped limit (visit_rule (Sought s)) old now first last c k Limit
   seeks-limit now c k number m first last w at = record {
     visits = w.0;
     helped = w.1;
     goes = record {
-      follows = λ h. Follows-limit _ _ limit old now c k w.2.1 at (λ run q. subst (λ n. HasVisits limit (is_mark (Sought s)) old.state w.0 first last n run) at q.has);
+      follows = λ h. Follows-limit _ _ limit old now c k w.2.1 at (λ run q. subst (λ n. HasVisits limit (visit_rule (Sought s)) old.state w.0 first last n run) at q.has);
       stops = λ device h. absurd (cc);
     };
   }

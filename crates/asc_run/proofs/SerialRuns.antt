@@ -1,16 +1,15 @@
 -- The visits of a run without workers are one list: by the oldest visit first.
 use Rattle.std.proofs.Common.{◌≡◌, ◌≤◌, ◌<◌, ◌+◌, ◌-◌, ℕ, true, List, [], ◌∷◌, length, ap, ◌∙◌, sym, subst, refl, Option, Some, None, arith, inl, inr}
 use Rattle.std.proofs.lemmas.Bool.{cases_lt, false≢true}
-use Rattle.asc_find.specs.Finder.{Tally}
-use Rattle.asc_find.specs.Serial.{Serial, serial_reply}
+use Rattle.asc_find.specs.Finder.{Jumps}
+use Rattle.asc_find.specs.Serial.{Serial, serial_reply, made_at}
 use Rattle.asc_run.specs.Execution.{Progress, On, Off}
-use Rattle.asc_run.specs.Visits.{Course, Marking, Visit, Fits, AreVisits, tally_of}
-use Rattle.asc_run.specs.Walk.{tally}
-use Rattle.asc_run.specs.Serial.{made_at}
+use Rattle.asc_run.specs.Visits.{Course, VisitRule, Visit, Fits, AreVisits, jumps_of}
+use Rattle.asc_run.specs.Walk.{jumps}
 use Rattle.asc_run.specs.Helped.{SerialAt, IsSerial}
 use Rattle.asc_run.specs.SerialRun.{Numbers, serial_of}
 use Rattle.asc_run.specs.Laws.{SerialVisitsAreOne, SerialRunsAreOne}
-use Rattle.asc_run.proofs.Marks.{floor, floor_of, same_at, same_visit}
+use Rattle.asc_run.proofs.VisitRules.{floor, floor_of, same_at, same_visit}
 
 -- a visit lands behind itself
 later : (limit : ℕ) (run : Course) (at : ℕ) (reply : Option ℕ) → Fits limit run at reply → at < at + elim reply [ Some n ↦ n | None ↦ 1 ]
@@ -24,9 +23,9 @@ one_reply limit n v u (On r) m x y e s t =
     (i, s.1 ∙ ap (λ z. serial_reply z r.state (limit - v.at)) i ∙ ap (λ k. serial_reply y r.state (limit - k)) e ∙ sym t.1)
 one_reply limit n v u (Off count ended last) m x y e s t = absurd s
 
-module _ (limit : ℕ) (run : Course) (mark : Marking) (first : Serial) where
+module _ (limit : ℕ) (run : Course) (rule : VisitRule) (first : Serial) where
   -- so many visits of one machine are one list
-  same_length : (vs us : List Visit) (a b : ℕ) (x y : Serial) (m n : ℕ) → AreVisits limit run mark vs a → AreVisits limit run mark us b → IsSerial limit run first vs x m → IsSerial limit run first us y n → length vs ≡ length us
+  same_length : (vs us : List Visit) (a b : ℕ) (x y : Serial) (m n : ℕ) → AreVisits limit run rule vs a → AreVisits limit run rule us b → IsSerial limit run first vs x m → IsSerial limit run first us y n → length vs ≡ length us
       → (vs ≡ us) × ((x ≡ y) × (m ≡ n))
   same_length [] [] a b x y m n p q s t e = (refl, (s.0 ∙ sym t.0, s.1 ∙ sym t.1))
   same_length [] (u ∷ us) a b x y m n p q s t e = absurd (omega (arith, e))
@@ -34,11 +33,11 @@ module _ (limit : ℕ) (run : Course) (mark : Marking) (first : Serial) where
   same_length (v ∷ vs) (u ∷ us) a b x y m n p q s t e =
       let l : length vs ≡ length us = omega (arith, e) in
       let i = same_length vs us v.at u.at s.0 t.0 s.1 t.1 p.0 q.0 s.2 t.2 l in
-      let g = floor_of limit run mark vs v.at p.0 in
-      let h = floor_of limit run mark us u.at q.0 in
+      let g = floor_of limit run rule vs v.at p.0 in
+      let h = floor_of limit run rule us u.at q.0 in
       let f : floor vs ≡ floor us = ap floor i.0 in
-      let below : v.at ≤ u.at = same_at (mark vs) (floor vs) u.at v.at (omega (arith, f, h.0)) g.1 (subst (λ z. mark z u.at ≡ true) (sym i.0) q.1.0) in
-      let above : u.at ≤ v.at = same_at (mark us) (floor us) v.at u.at (omega (arith, f, g.0)) h.1 (subst (λ z. mark z v.at ≡ true) i.0 p.1.0) in
+      let below : v.at ≤ u.at = same_at (rule vs) (floor vs) u.at v.at (omega (arith, f, h.0)) g.1 (subst (λ z. rule z u.at ≡ true) (sym i.0) q.1.0) in
+      let above : u.at ≤ v.at = same_at (rule us) (floor us) v.at u.at (omega (arith, f, g.0)) h.1 (subst (λ z. rule z v.at ≡ true) i.0 p.1.0) in
       let here : v.at ≡ u.at = omega arith in
       let by_visits = subst (λ z. SerialAt limit (length z + 1) u (run u.at) t.0 y) (sym i.0) t.3.0 in
       let by_machine = subst (λ z. SerialAt limit (length vs + 1) u (run u.at) z y) (sym i.1.0) by_visits in
@@ -59,12 +58,12 @@ module _ (limit : ℕ) (run : Course) (mark : Marking) (first : Serial) where
     now : Serial
     made : ℕ
     size_is : length visits ≡ size
-    are : AreVisits limit run mark visits at
+    are : AreVisits limit run rule visits at
     serial : IsSerial limit run first visits now made
-    marked : mark visits at ≡ true
+    ruled : rule visits at ≡ true
     below : at < before
 
-  oldest : (us : List Visit) (b k : ℕ) (y : Serial) (n : ℕ) → AreVisits limit run mark us b → IsSerial limit run first us y n → k < length us → Oldest k b
+  oldest : (us : List Visit) (b k : ℕ) (y : Serial) (n : ℕ) → AreVisits limit run rule us b → IsSerial limit run first us y n → k < length us → Oldest k b
   oldest [] b k y n a s l = absurd (let x : ⊥ = omega arith in x)
   oldest (u ∷ us) b k y n a s l =
       let lands : u.at < b = omega (arith, later limit run u.at u.reply a.1.1.0, a.1.1.1.0) in
@@ -77,7 +76,7 @@ module _ (limit : ℕ) (run : Course) (mark : Marking) (first : Serial) where
           size_is = c.size_is;
           are = c.are;
           serial = c.serial;
-          marked = c.marked;
+          ruled = c.ruled;
           below = omega (arith, lands, c.below);
         }
         | inr h ↦ record {
@@ -88,30 +87,30 @@ module _ (limit : ℕ) (run : Course) (mark : Marking) (first : Serial) where
           size_is = omega arith;
           are = a.0;
           serial = s.2;
-          marked = a.1.0;
+          ruled = a.1.0;
           below = lands;
         }
       ]
 
   -- no such list has more visits than another
-  no_more : (vs us : List Visit) (x y : Serial) (m n : ℕ) → AreVisits limit run mark vs limit → AreVisits limit run mark us limit → IsSerial limit run first vs x m → IsSerial limit run first us y n → length us ≤ length vs
+  no_more : (vs us : List Visit) (x y : Serial) (m n : ℕ) → AreVisits limit run rule vs limit → AreVisits limit run rule us limit → IsSerial limit run first vs x m → IsSerial limit run first us y n → length us ≤ length vs
   no_more vs us x y m n p q s t = elim (cases_lt (length vs) (length us)) [
     | inl h ↦
         let c = oldest us limit (length vs) y n q t h in
         let i = same_length vs c.visits limit c.at x c.now m c.made p c.are s c.serial (sym c.size_is) in
-        let g = floor_of limit run mark vs limit p in
-        let f = floor_of limit run mark c.visits c.at c.are in
+        let g = floor_of limit run rule vs limit p in
+        let f = floor_of limit run rule c.visits c.at c.are in
         let e : floor vs ≡ floor c.visits = ap floor i.0 in
-        let marked : mark vs c.at ≡ true = subst (λ z. mark z c.at ≡ true) (sym i.0) c.marked in
-        absurd (false≢true (sym (g.1 c.at (omega (arith, e, f.0)) c.below) ∙ marked))
+        let ruled : rule vs c.at ≡ true = subst (λ z. rule z c.at ≡ true) (sym i.0) c.ruled in
+        absurd (false≢true (sym (g.1 c.at (omega (arith, e, f.0)) c.below) ∙ ruled))
     | inr h ↦ h
   ]
 
 pub serial_visits_are_one : SerialVisitsAreOne
-serial_visits_are_one limit run mark first vs us x y m n p q s t =
-    let a = no_more limit run mark first vs us x y m n p q s t in
-    let b = no_more limit run mark first us vs y x n m q p t s in
-    same_length limit run mark first vs us limit limit x y m n p q s t (omega (arith, a, b))
+serial_visits_are_one limit run rule first vs us x y m n p q s t =
+    let a = no_more limit run rule first vs us x y m n p q s t in
+    let b = no_more limit run rule first us vs y x n m q p t s in
+    same_length limit run rule first vs us limit limit x y m n p q s t (omega (arith, a, b))
 
 abbrev numbers : (executed skipped asked hits made : ℕ) → Numbers
 numbers executed skipped asked hits made =
@@ -126,12 +125,12 @@ same_numbers a b e s k h m =
     ∙ ap (numbers b.executed b.skipped b.asked b.hits) m
 
 pub serial_runs_are_one : SerialRunsAreOne
-serial_runs_are_one limit run mark shape guessing first a b p q =
-    let i = serial_visits_are_one limit run mark (serial_of shape guessing first) p.visits q.visits p.now q.now a.made b.made p.are q.are p.serial q.serial in
-    let e : tally a.asked a.skipped a.hits ≡ tally b.asked b.skipped b.hits = sym p.tally ∙ ap (λ vs. tally_of vs (tally 0 0 0)) i.0 ∙ q.tally in
-    let skipped : a.skipped ≡ b.skipped = ap (λ (t : Tally). t.given) e in
+serial_runs_are_one limit run rule shape guessing first a b p q =
+    let i = serial_visits_are_one limit run rule (serial_of shape guessing first) p.visits q.visits p.now q.now a.made b.made p.are q.are p.serial q.serial in
+    let e : jumps a.asked a.skipped a.hits ≡ jumps b.asked b.skipped b.hits = sym p.jumps ∙ ap (λ vs. jumps_of vs (jumps 0 0 0)) i.0 ∙ q.jumps in
+    let skipped : a.skipped ≡ b.skipped = ap (λ (t : Jumps). t.given) e in
     let x = p.executed in
     let y = q.executed in (
-      same_numbers a b (omega (arith, x, y, skipped)) skipped (ap (λ (t : Tally). t.asked) e) (ap (λ (t : Tally). t.hits) e) i.1.1,
+      same_numbers a b (omega (arith, x, y, skipped)) skipped (ap (λ (t : Jumps). t.asked) e) (ap (λ (t : Jumps). t.hits) e) i.1.1,
       ap (λ (m : Serial). m.content) i.1.0,
     )

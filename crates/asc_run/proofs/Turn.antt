@@ -4,12 +4,12 @@ use Rattle.std.proofs.lemmas.Bool.{false≢true}
 use Rattle.std.proofs.lemmas.List.{drop_at}
 use Rattle.asc_model.specs.declared.fault.Fault.{Fault}
 use Rattle.asc_model.specs.State.{State}
-use Rattle.asc_model.specs.Step.{Call, Bad, next}
+use Rattle.asc_model.specs.Step.{Call, Faulted, next}
 use Rattle.asc_outside.specs.Outside.{Given, Takes, IsAtEnd}
 use Rattle.asc_calls.specs.declared.calls.Served.{Served}
 use Rattle.asc_calls.specs.declared.calls.Served.TheVariants as served
 use Rattle.asc_calls.specs.GuestCall.{Io, nothing, then_io, Device, Input, Out, Err, CallResult}
-use Rattle.asc_calls.specs.World.{CallState, Faults, outside, World, world, DoesIo, Agrees, MayCome}
+use Rattle.asc_calls.specs.World.{CallState, DeviceFaults, outside, World, world, DoesIo, Agrees, MayCome}
 use Rattle.asc_calls.specs.Serving.{Serves, call_of, IsCutShort, IsAnswer, steps_of}
 use Rattle.asc_run.specs.declared.walk.Ended.{Ended}
 use Rattle.asc_run.specs.declared.walk.Ended.TheVariants as ends
@@ -19,12 +19,12 @@ use Rattle.asc_run.proofs.Growth.{then_io-nothing}
 use Rattle.asc_run.proofs.Reach.{DoesIo-nothing}
 
 -- devices that stay took and were given nothing, whatever the counter of steps did
-DoesIo-none : (left : Option (List ℕ)) (out err : Given) (n m : ℕ) (faults : Faults) → DoesIo (outside left out err n faults) (outside left out err m faults) nothing
+DoesIo-none : (left : Option (List ℕ)) (out err : Given) (n m : ℕ) (faults : DeviceFaults) → DoesIo (outside left out err n faults) (outside left out err m faults) nothing
 DoesIo-none left out err n m faults =
     let a = DoesIo-nothing (outside left out err n faults) in record { taken = a.taken; out = a.out; err = a.err }
 
 -- a fault
-pub Turns-bad : (s : State) (calls : CallState) (left : Option (List ℕ)) (out err : Given) (n : ℕ) (faults : Faults) (k : ℕ) (fault : Fault) → next s ≡ Bad fault
+pub Turns-bad : (s : State) (calls : CallState) (left : Option (List ℕ)) (out err : Given) (n : ℕ) (faults : DeviceFaults) (k : ℕ) (fault : Fault) → next s ≡ Faulted fault
     → Turns (world s calls left out err n faults) (world s calls left out err n faults) k k (Some (ends.Fault fault))
 Turns-bad s calls left out err n faults k fault e = record {
   io = nothing;

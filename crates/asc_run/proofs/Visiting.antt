@@ -15,10 +15,9 @@ use Rattle.asc_traj.specs.declared.made.Made.{Made}
 use Rattle.asc_traj.specs.declared.made.Made.TheVariants.{One, Empty, Stopped, Refused}
 use Rattle.asc_traj.specs.Made.{IsMade}
 use Rattle.asc_find.specs.declared.guessing.Guessing.{Guessing}
-use Rattle.asc_find.specs.Serial.{Serial}
+use Rattle.asc_find.specs.Serial.{Serial, Task, tasks_of, bounds_at, add_joined, add_traced, add_trace, add_guess, after_tasks, visited, made_at}
 use Rattle.asc_shard.specs.Content.{add}
 use Rattle.asc_shard.specs.Shard.{run_capacity}
-use Rattle.asc_run.specs.Serial.{Task, tasks_of, bounds_at, add_joined, add_traced, add_trace, add_guess, after_tasks, visited, made_at}
 use Rattle.asc_run.specs.LastVisits.{tasks_after, issued_after}
 use Rattle.asc_run.specs.SerialHelper.{SerialHelper, told_machine, jobs_at, planned, IsPlanned, added_joined, one_refused, IsSettled}
 use Rattle.asc_run.specs.SerialInside.{MakesJob}
@@ -57,7 +56,7 @@ last_count = 2 ^ 64 - 1
 -- what the first i jobs of a plan leave: the entries that they made were added, unless memory was wanting
 pub record Works (plan now : SerialHelper) (i : ℕ) : Type 0 where
   pub jobs : now.jobs ≡ plan.jobs
-  pub tally : now.tally ≡ plan.tally
+  pub jumps : now.jumps ≡ plan.jumps
   pub made : now.made ≡ plan.made
   pub refused : plan.refused ≤ now.refused
   pub machine : now.machine ≡ record plan.machine { content = now.machine.content }
@@ -90,7 +89,7 @@ content-more plan now i made w l m r prev last p q same below =
 works-refused : (plan now : SerialHelper) (content : List Entry) (i : ℕ) → Works plan now i → Works plan (one_refused (record now { machine = record now.machine { content = content } })) (i + 1)
 works-refused plan now content i w = record {
   jobs = w.jobs;
-  tally = w.tally;
+  jumps = w.jumps;
   made = w.made;
   refused = let r = w.refused in omega (arith, r);
   machine = ap (λ (x : Serial). let y : Serial = record x { content = content } in y) w.machine;
@@ -108,7 +107,7 @@ settled h Refused = one_refused h
 works-settled : (plan now : SerialHelper) (i : ℕ) (made : Made) → Works plan now i → i < length plan.jobs → MakesJob now i made → Works plan (settled now made) (i + 1)
 works-settled plan now i (One entry) w l m = record {
   jobs = w.jobs;
-  tally = w.tally;
+  jumps = w.jumps;
   made = w.made;
   refused = w.refused;
   machine = ap (λ (x : Serial). let y : Serial = record x { content = add_joined now.machine.guessing.join now.machine.content (arc_value entry) } in y) w.machine;
@@ -117,7 +116,7 @@ works-settled plan now i (One entry) w l m = record {
 }
 works-settled plan now i Empty w l m = record {
   jobs = w.jobs;
-  tally = w.tally;
+  jumps = w.jumps;
   made = w.made;
   refused = w.refused;
   machine = w.machine;
@@ -126,7 +125,7 @@ works-settled plan now i Empty w l m = record {
 }
 works-settled plan now i Stopped w l m = record {
   jobs = w.jobs;
-  tally = w.tally;
+  jumps = w.jumps;
   made = w.made;
   refused = w.refused;
   machine = w.machine;
@@ -155,7 +154,7 @@ works-more plan now between next i made w l e m f = elim (settled-by between mad
 
 -- a plan leaves the counts of a finder, and refusals do not fall; it makes as many guesses as there are jobs
 pub record Counts (old plan : SerialHelper) : Type 0 where
-  pub tally : plan.tally ≡ old.tally
+  pub jumps : plan.jumps ≡ old.jumps
   pub made : plan.made ≡ old.made + length plan.jobs
   pub refused : old.refused ≤ plan.refused
 

@@ -1,7 +1,7 @@
 -- Plain execution: machine steps and guest calls, one after another, up to a limit.
 use Rattle.std.specs.Prelude.{◌≡◌, ℕ, zero, suc, ◌+◌, List, length, drop, Option, Some, None}
 use Rattle.asc_model.specs.State.{State}
-use Rattle.asc_model.specs.Step.{Next, At, Call, Bad, next}
+use Rattle.asc_model.specs.Step.{Next, Went, Call, Faulted, next}
 use Rattle.asc_calls.specs.GuestCall.{Io, nothing, then_io, Device, Input, Out, Err, guest_call}
 use Rattle.asc_calls.specs.GuestCall as called
 use Rattle.asc_calls.specs.Serving.{IsCutShort}
@@ -41,10 +41,10 @@ progress_after_call count position (called.Exit code) = Off (count + 1) (ends.Ex
 
 -- one more step after this count; a fault counts none
 abbrev pub progress_after_step : (low high count : ℕ) → Position → Next → Progress
-progress_after_step low high count position (At state) = On (record position { state = state })
+progress_after_step low high count position (Went state) = On (record position { state = state })
 progress_after_step low high count position Call =
     progress_after_call count position (guest_call low high position.state position.brk position.left)
-progress_after_step low high count position (Bad fault) = Off count (ends.Fault fault) position
+progress_after_step low high count position (Faulted fault) = Off count (ends.Fault fault) position
 
 abbrev pub next_progress : (low high count : ℕ) → Progress → Progress
 next_progress low high count (On position) = progress_after_step low high count position (next position.state)

@@ -1,47 +1,22 @@
 -- What a walk does with its helper.
 use Rattle.std.specs.Prelude.{◌≡◌, ℕ, ◌+◌, ◌-◌, ◌*◌, ◌≤◌, ◌<◌, Bool, true, false, List, [], ◌∷◌, length, Option, Some}
 use Rattle.asc_model.specs.State.{State}
-use Rattle.asc_find.specs.Finder.{Tally, Tells, Plan}
-use Rattle.asc_find.specs.Serial.{Serial, serial_reply}
+use Rattle.asc_find.specs.Finder.{Aid, Tells}
+use Rattle.asc_find.specs.Helper.{Plans}
+use Rattle.asc_find.specs.Serial.{Serial, serial_reply, visited, made_at}
 use Rattle.asc_run.specs.Execution.{Progress, On, Off}
-use Rattle.asc_run.specs.Serial.{visited, made_at}
-use Rattle.asc_run.specs.Visits.{Course, Visit, AreVisits, replies_of, tally_of, Marking}
-
--- what a helper tells
-pub record Aid : Type 0 where
-  pub tally : Tally
-  pub replies : Option (List (Option ℕ))
-  pub plan : Plan
-  pub machine : Option Serial
-
-abbrev pub aid : Tally → Option (List (Option ℕ)) → Plan → Option Serial → Aid
-aid tally replies plan machine = record { tally = tally; replies = replies; plan = plan; machine = machine }
+use Rattle.asc_run.specs.Visits.{Course, Visit, AreVisits, replies_of, jumps_of, VisitRule}
 
 -- the counts that a walk raises are below a bound
 pub record HasRoom (bound : ℕ) (a : Aid) : Type 0 where
-  pub asked : a.tally.asked < bound
-  pub given : a.tally.given < bound
+  pub asked : a.jumps.asked < bound
+  pub given : a.jumps.given < bound
   pub made : a.plan.made < bound
   pub full : a.plan.full < bound
 
--- Guesses made, and those that found no room or were not offered, never fall, and together rise by at most 128 a visit.
--- Refusals never fall. The queue stays.
-pub record Plans (visits : ℕ) (old new : Plan) : Type 0 where
-  pub made : old.made ≤ new.made
-  pub full : old.full ≤ new.full
-  pub few : new.made + new.full ≤ old.made + old.full + 128 * visits
-  pub refused : old.refused ≤ new.refused
-  pub queue : new.queue ≡ old.queue
-
--- a visit in which the machine is told, and memory was not wanting, is the machine's
-abbrev pub VisitsMachine : (number : ℕ) → State → (old new : Aid) → Type 0
-VisitsMachine number now old new = (m : Serial) → old.machine ≡ Some m → now.shape ≡ m.shape
-    → new.plan.refused ≡ old.plan.refused
-    → (new.machine ≡ Some (visited number now m)) × (new.plan.made ≡ old.plan.made + made_at number m)
-
 -- from old to new a helper was asked at these visits
 pub record Helped (visits : List Visit) (old new : Aid) : Type 0 where
-  pub tally : new.tally ≡ tally_of visits old.tally
+  pub jumps : new.jumps ≡ jumps_of visits old.jumps
   pub replies : Tells (replies_of visits) old.replies new.replies
   pub plans : Plans (length visits) old.plan new.plan
 
@@ -69,9 +44,9 @@ KeepsMachine limit start visits old new run = (m : Serial) → old.machine ≡ S
 
 -- All that a walk says of a run up to a count: these are its visits; and where its helper tells a machine, the replies
 -- and the guesses are that machine's.
-pub record HasVisits (limit : ℕ) (mark : Course → Marking) (start : State) (visits : List Visit) (old new : Aid)
+pub record HasVisits (limit : ℕ) (rule : Course → VisitRule) (start : State) (visits : List Visit) (old new : Aid)
     (to : ℕ) (run : Course) : Type 0 where
-  pub are : AreVisits limit run (mark run) visits to
+  pub are : AreVisits limit run (rule run) visits to
   pub serial : KeepsMachine limit start visits old new run
 
 -- What a landing in a state does with the helper's machine, where it is told. Where that is a visit, the machine's shape

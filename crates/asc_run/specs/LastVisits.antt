@@ -4,7 +4,7 @@ use Rattle.std.specs.Global.{Global}
 use Rattle.std.specs.declared.sync.Arc.{Arc}
 use Rattle.asc_model.specs.State.{State}
 use Rattle.asc_find.specs.declared.guessing.Guessing.{Guessing}
-use Rattle.asc_run.specs.Serial.{Task, tasks_of}
+use Rattle.asc_find.specs.Serial.{Task, tasks_of}
 
 pub record LastVisits : Type 0 where
   -- what is guessed

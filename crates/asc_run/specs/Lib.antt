@@ -1,7 +1,6 @@
 pub mod Execution
 pub mod Turn
 pub mod Visits
-pub mod Serial
 pub mod LastVisits
 pub mod Seen
 pub mod Helped

@@ -6,18 +6,17 @@ use Rattle.asc_model.specs.declared.version.Version.TheVariants.{One}
 use Rattle.asc_model.specs.Number.{bytes_of}
 use Rattle.asc_model.specs.Shape.{Shape}
 use Rattle.asc_model.specs.State.{State}
-use Rattle.asc_model.specs.Step.{At}
+use Rattle.asc_model.specs.Step.{Went}
 use Rattle.asc_model.specs.Plain.{plain}
 use Rattle.asc_model.specs.Entry.{Entry}
 use Rattle.asc_guess.specs.declared.kind.Kind.TheVariants.{Stride}
 use Rattle.asc_guess.specs.Guess.{guess_of, targets_of}
 use Rattle.asc_find.specs.declared.guessing.Guessing.{Guessing}
-use Rattle.asc_find.specs.Serial.{Serial, serial_reply}
+use Rattle.asc_find.specs.Serial.{Serial, serial_reply, visited, made_at}
 use Rattle.asc_run.specs.declared.recognised.Recognised.TheVariants as recognised
 use Rattle.asc_run.specs.Execution.{progress, first_position}
-use Rattle.asc_run.specs.Visits.{Course, Visit, is_mark, AreVisits, replies_of, tally_of}
-use Rattle.asc_run.specs.Walk.{tally}
-use Rattle.asc_run.specs.Serial.{visited, made_at}
+use Rattle.asc_run.specs.Visits.{Course, Visit, visit_rule, AreVisits, replies_of, jumps_of}
+use Rattle.asc_run.specs.Walk.{jumps}
 
 abbrev pub code : List ℕ
 code = 0x00000293 ∷ 0x00400313 ∷ 0x00128293 ∷ 0xFE629EE3 ∷ 0x05D00893 ∷ 0x00000513 ∷ 0x00000073 ∷ []
@@ -59,8 +58,8 @@ steps_of l = map (λ e. e.steps) l
 
 -- two steps lead to the loop, and two more to the next lap; a stride goes on by as much as from the lap before
 pub record Laps : Type 0 where
-  pub enters : plain 2 (loop_state 0x10000 0 0) ≡ At (at_loop 0)
-  pub laps : plain 2 (at_loop 0) ≡ At (at_loop 1)
+  pub enters : plain 2 (loop_state 0x10000 0 0) ≡ Went (at_loop 0)
+  pub laps : plain 2 (at_loop 0) ≡ Went (at_loop 1)
   pub guess : guess_of Stride 2 (at_loop 0) (at_loop 1) ≡ at_loop 3
 
 -- none at the first visit, and later those that were not guessed yet
@@ -126,9 +125,9 @@ abbrev pub joined_visits : List Visit
 joined_visits = visit 6 (Some 6) ∷ visit 4 None ∷ visit 2 None ∷ []
 
 pub record Visits : Type 0 where
-  pub four : AreVisits 20 loop_run (is_mark (recognised.At 0x10008) loop_run) four_visits 20
-  pub limited : AreVisits 11 loop_run (is_mark (recognised.At 0x10008) loop_run) limited_visits 11
+  pub four : AreVisits 20 loop_run (visit_rule (recognised.At 0x10008) loop_run) four_visits 20
+  pub limited : AreVisits 11 loop_run (visit_rule (recognised.At 0x10008) loop_run) limited_visits 11
   pub replies : replies_of four_visits ≡ None ∷ None ∷ Some 2 ∷ Some 4 ∷ []
-  pub counts : tally_of four_visits (tally 0 0 0) ≡ tally 4 6 2
-  pub joined : AreVisits 20 loop_run (is_mark (recognised.At 0x10008) loop_run) joined_visits 20
-  pub joined_counts : tally_of joined_visits (tally 0 0 0) ≡ tally 3 6 1
+  pub counts : jumps_of four_visits (jumps 0 0 0) ≡ jumps 4 6 2
+  pub joined : AreVisits 20 loop_run (visit_rule (recognised.At 0x10008) loop_run) joined_visits 20
+  pub joined_counts : jumps_of joined_visits (jumps 0 0 0) ≡ jumps 3 6 1

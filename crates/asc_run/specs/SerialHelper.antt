@@ -9,27 +9,26 @@ use Rattle.asc_outside.specs.Outside.{one_more}
 use Rattle.asc_find.specs.declared.guessing.Guessing.{Guessing}
 use Rattle.asc_traj.specs.declared.made.Made.{Made}
 use Rattle.asc_traj.specs.declared.made.Made.TheVariants.{One, Empty, Stopped, Refused}
-use Rattle.asc_find.specs.Finder.{Tally, Plan}
-use Rattle.asc_find.specs.Serial.{Serial}
+use Rattle.asc_find.specs.Finder.{Aid, Jumps, Plan}
+use Rattle.asc_find.specs.Serial.{Serial, Task, add_joined, due_join}
 use Rattle.asc_shard.specs.Content.{add}
-use Rattle.asc_run.specs.Walk.{tally}
+use Rattle.asc_run.specs.Walk.{jumps}
 use Rattle.asc_run.specs.SerialRun.{serial_of}
 use Rattle.asc_shard.specs.Shard.{run_capacity}
-use Rattle.asc_run.specs.Serial.{Task, add_joined, due_join}
 use Rattle.asc_run.specs.LastVisits.{tasks_after, issued_after}
 
 -- the machine, the guesses that were planned at the last visit, and what was counted
 pub record SerialHelper : Type 0 where
   pub machine : Serial
   pub jobs : List Task
-  pub tally : Tally
+  pub jumps : Jumps
   pub made : ℕ
   pub refused : ℕ
 
 -- one that was not visited yet
 abbrev pub first_helper : Shape → Guessing → SerialHelper
 first_helper shape guessing =
-    record { machine = serial_of shape guessing []; jobs = []; tally = tally 0 0 0; made = 0; refused = 0 }
+    record { machine = serial_of shape guessing []; jobs = []; jumps = jumps 0 0 0; made = 0; refused = 0 }
 
 -- one that was not visited yet in a run, which has the entries that the runs before left
 abbrev pub begun : SerialHelper → SerialHelper
@@ -44,6 +43,10 @@ plan_of h = record { made = h.made; refused = h.refused; full = 0; seen = None; 
 -- The machine, as a finder tells it. It is told until the count of refusals stands at its last value.
 abbrev pub told_machine : SerialHelper → Option Serial
 told_machine h = if nat_lt h.refused (2 ^ 64 - 1) then Some h.machine else None
+
+-- all that it tells
+abbrev pub aid_of : SerialHelper → Aid
+aid_of h = record { jumps = h.jumps; replies = None; plan = plan_of h; machine = told_machine h }
 
 -- the guesses of a visit, where there was one before
 abbrev pub jobs_at : (number : ℕ) → Serial → List Task

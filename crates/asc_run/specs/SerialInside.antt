@@ -12,9 +12,9 @@ use Rattle.asc_traj.specs.declared.made.Made.TheVariants.{Refused}
 use Rattle.asc_traj.specs.Made.{IsMade}
 use Rattle.asc_traj.specs.Trace.{trace_cap}
 use Rattle.asc_run.specs.declared.serial.Serial.TheInside.{Inside}
-use Rattle.asc_run.specs.Walk.{tally}
+use Rattle.asc_run.specs.Walk.{jumps}
 use Rattle.asc_shard.specs.Shard.{run_capacity}
-use Rattle.asc_run.specs.Serial.{Task, kinds_of, bounds_at, add_found, newest_join}
+use Rattle.asc_find.specs.Serial.{Task, kinds_of, bounds_at, add_found, newest_join}
 use Rattle.asc_run.specs.SerialHelper.{SerialHelper, one_refused}
 
 -- the guesses of these targets
@@ -33,7 +33,7 @@ helper_of s = record {
     content = s.shard.held;
   };
   jobs = s.visits.jobs;
-  tally = tally s.asked s.given s.hits;
+  jumps = jumps s.asked s.given s.hits;
   made = s.made;
   refused = s.refused;
 }

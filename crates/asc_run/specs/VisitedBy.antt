@@ -3,8 +3,8 @@ use Rattle.std.specs.Prelude.{◌≡◌, ℕ, ◌^◌, ◌<◌, ◌≤◌}
 use denote.Ref.{MutBor}
 use denote.Param.Members.{Shared}
 use Rattle.asc_model.specs.State.{State}
-use Rattle.asc_run.specs.Helped.{Aid, Plans, VisitsMachine}
-use Rattle.asc_run.specs.Seen.{Sees}
+use Rattle.asc_find.specs.Helper.{Plans, VisitsMachine, Sees}
+use Rattle.asc_find.specs.Finder.{Aid}
 
 -- a helper has room for the counts of one visit more, which has this number
 pub record MayVisit (number : ℕ) (old : Aid) : Type 0 where
@@ -14,7 +14,7 @@ pub record MayVisit (number : ℕ) (old : Aid) : Type 0 where
 
 -- At a visit of this number a helper learnt of a state, which stays as it was. It was asked for no jump.
 pub record IsVisit (number : ℕ) (now left : State) (old new : Aid) : Type 0 where
-  pub tally : new.tally ≡ old.tally
+  pub jumps : new.jumps ≡ old.jumps
   pub replies : new.replies ≡ old.replies
   pub plan : Plans 1 old.plan new.plan
   pub seen : Sees number old.plan new.plan

@@ -1,11 +1,11 @@
--- The marks that a walk leaves on the one plain run: the counts at which its helper is told of the state and asked for
+-- The visits that a walk leaves on the one plain run: the counts at which its helper is told of the state and asked for
 -- a jump, each with the reply.
 use Rattle.std.specs.Prelude.{◌≡◌, ℕ, zero, suc, ◌+◌, ◌-◌, ◌≤◌, ◌<◌, Bool, true, false, nat_le, ◌==◌, ◌&&◌, List, [], ◌∷◌, ◌++◌, Option, Some, None}
 use Rattle.asc_model.specs.State.{State}
 use Rattle.asc_model.specs.Machine.{view_of}
-use Rattle.asc_model.specs.Step.{At}
+use Rattle.asc_model.specs.Step.{Went}
 use Rattle.asc_model.specs.Plain.{plain}
-use Rattle.asc_find.specs.Finder.{Tally, tally_after}
+use Rattle.asc_find.specs.Finder.{Jumps, jumps_after}
 use Rattle.asc_guess.specs.Choice.{chosen_address}
 use Rattle.asc_seek.specs.Heads.{Path}
 use Rattle.asc_seek.specs.Seek.{IsSeeking, Seek, new_seek, seek_along, seek_visit, watched_in}
@@ -26,7 +26,7 @@ is_at (Some address) s = (view_of s).pc == address
 -- of so many plain steps of a state, none but the last leads to an address, where one is set
 abbrev pub Passes : Option ℕ → State → (n : ℕ) → Type 0
 Passes address s n =
-    (k : ℕ) → 0 < k → k < n → (after : State) → plain k s ≡ At after → is_at address after ≡ false
+    (k : ℕ) → 0 < k → k < n → (after : State) → plain k s ≡ Went after → is_at address after ≡ false
 
 -- whether a run goes on there
 abbrev pub goes_on_at : Option ℕ → Progress → Bool
@@ -81,23 +81,23 @@ seek_at s run [] count = seek_along (path_of run) 0 count (new_seek s)
 seek_at s run (v ∷ before) count = seek_along (path_of run) (landing v) (count - landing v)
     (seek_visit v.at v.reply (seek_at s run before v.at))
 
--- which counts of a run are marks, behind the visits so far, of which the newest comes first
-abbrev pub Marking : Type 0
-Marking = List Visit → ℕ → Bool
+-- at which counts of a run its helper is visited, behind the visits so far, of which the newest comes first
+abbrev pub VisitRule : Type 0
+VisitRule = List Visit → ℕ → Bool
 
--- Whether a count of a run is a mark, at which its helper is visited: the run goes on there at the address that is
--- recognised. One that is chosen of the first counts is looked for behind these, and one that is sought may change.
-abbrev pub is_mark : Recognised → Course → Marking
-is_mark recognised.Nowhere run visits count = false
-is_mark (recognised.At address) run visits count = goes_on_at (Some address) (run count)
-is_mark (recognised.Chosen profile least) run visits count =
+-- Whether a run is visited at a count: it goes on there at the address that is recognised. One that is chosen of the first
+-- counts is looked for behind these, and one that is sought may change.
+abbrev pub visit_rule : Recognised → Course → VisitRule
+visit_rule recognised.Nowhere run visits count = false
+visit_rule (recognised.At address) run visits count = goes_on_at (Some address) (run count)
+visit_rule (recognised.Chosen profile least) run visits count =
     nat_le profile count && goes_on_at (chosen_address (profile_of run profile) least) (run count)
-is_mark (recognised.Sought seeking) run visits count =
+visit_rule (recognised.Sought seeking) run visits count =
     goes_on_at (watched_in (seek_at seeking run visits count).phase) (run count)
 
 -- a run goes on at a count, and n plain steps go on from there
 abbrev pub GoesPlain : (n : ℕ) → Progress → Type 0
-GoesPlain n (On position) = (after : State) × (plain n position.state ≡ At after)
+GoesPlain n (On position) = (after : State) × (plain n position.state ≡ Went after)
 GoesPlain n (Off count ended last) = ⊥
 
 -- a reply fits a run at a count, below a limit
@@ -105,24 +105,24 @@ abbrev pub Fits : (limit : ℕ) → Course → (count : ℕ) → Option ℕ → 
 Fits limit run count None = Unit {0}
 Fits limit run count (Some n) = (1 ≤ n) × ((count + n ≤ limit) × GoesPlain n (run count))
 
--- none of the counts from a to b, b aside, is a mark
-abbrev pub HasNoMark : (ℕ → Bool) → (a b : ℕ) → Type 0
-HasNoMark mark a b = (count : ℕ) → a ≤ count → count < b → mark count ≡ false
+-- at none of the counts from a to b, b aside, is there a visit
+abbrev pub HasNoVisit : (ℕ → Bool) → (a b : ℕ) → Type 0
+HasNoVisit rule a b = (count : ℕ) → a ≤ count → count < b → rule count ≡ false
 
--- Up to a count a run has no mark. From there on, below a limit, it has one wherever it goes on at this address, whatever
--- its visits are.
-pub record IsMarkedFrom (limit from : ℕ) (address : Option ℕ) (mark : Marking) (run : Course) : Type 0 where
-  pub none : HasNoMark (mark []) 0 from
+-- Up to a count a run has no visit. From there on, below a limit, it has one wherever it goes on at this address, whatever
+-- its visits were.
+pub record IsVisitedFrom (limit from : ℕ) (address : Option ℕ) (rule : VisitRule) (run : Course) : Type 0 where
+  pub none : HasNoVisit (rule []) 0 from
   pub later : (visits : List Visit) (count : ℕ) → from ≤ count → count < limit
-      → mark visits count ≡ goes_on_at address (run count)
+      → rule visits count ≡ goes_on_at address (run count)
 
--- These are the visits of a walk up to a count, the newest first: each is at a mark behind those before it, its reply
--- fits, and between its landing and the next visit, or the count, there is no mark. Before the first visit there is none
+-- These are the visits of a walk up to a count, the newest first: each is due behind those before it, its reply
+-- fits, and between its landing and the next visit, or the count, there is no visit. Before the first visit there is none
 -- either.
-abbrev pub AreVisits : (limit : ℕ) → Course → Marking → List Visit → (to : ℕ) → Type 0
-AreVisits limit run mark [] to = HasNoMark (mark []) 0 to
-AreVisits limit run mark (v ∷ before) to = AreVisits limit run mark before v.at × ((mark before v.at ≡ true)
-    × (Fits limit run v.at v.reply × ((landing v ≤ to) × HasNoMark (mark (v ∷ before)) (landing v) to)))
+abbrev pub AreVisits : (limit : ℕ) → Course → VisitRule → List Visit → (to : ℕ) → Type 0
+AreVisits limit run rule [] to = HasNoVisit (rule []) 0 to
+AreVisits limit run rule (v ∷ before) to = AreVisits limit run rule before v.at × ((rule before v.at ≡ true)
+    × (Fits limit run v.at v.reply × ((landing v ≤ to) × HasNoVisit (rule (v ∷ before)) (landing v) to)))
 
 -- their replies, in the order in which they were given
 abbrev pub replies_of : List Visit → List (Option ℕ)
@@ -130,11 +130,11 @@ replies_of [] = []
 replies_of (v ∷ before) = replies_of before ++ v.reply ∷ []
 
 -- what they add to a finder's counts
-abbrev pub tally_of : List Visit → Tally → Tally
-tally_of [] t = t
-tally_of (v ∷ before) t = tally_after (tally_of before t) v.reply
+abbrev pub jumps_of : List Visit → Jumps → Jumps
+jumps_of [] t = t
+jumps_of (v ∷ before) t = jumps_after (jumps_of before t) v.reply
 
--- a landing that is a mark is a visit
+-- a landing may be a visit
 abbrev pub with_landing : (is_visit : Bool) → (count : ℕ) → Option ℕ → List Visit → List Visit
 with_landing true count reply before = record { at = count; reply = reply } ∷ before
 with_landing false count reply before = before

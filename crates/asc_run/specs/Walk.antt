@@ -4,16 +4,16 @@ use Rattle.asc_model.specs.State.{State}
 use Rattle.asc_elf.specs.Image.{Image, high_of}
 use Rattle.asc_calls.specs.GuestCall.{Io, then_io, IsBeginning, Device}
 use Rattle.asc_calls.specs.World.{CallState, Outside, World, DoesIo, MayCome, KnowsEnd}
-use Rattle.asc_find.specs.Finder.{Tally}
+use Rattle.asc_find.specs.Finder.{Aid, Jumps}
 use Rattle.asc_run.specs.declared.walk.Ended.{Ended}
 use Rattle.asc_run.specs.declared.walk.Settings.{Settings}
 use Rattle.asc_run.specs.declared.recognised.Recognised.{Recognised}
 use Rattle.asc_run.specs.declared.recognised.Recognised.TheVariants.{Nowhere}
 use Rattle.asc_run.specs.declared.walk.Ended.TheVariants.{Limit}
 use Rattle.asc_run.specs.Execution.{Run, exec, Progress, progress, first_position, device_of, StandsAtFailure}
-use Rattle.asc_run.specs.Visits.{Course, Visit, is_mark, Marking}
+use Rattle.asc_run.specs.Visits.{Course, Visit, visit_rule, VisitRule}
 use Rattle.asc_run.specs.Seen.{SeesAll}
-use Rattle.asc_run.specs.Helped.{Aid, Helped, HasVisits}
+use Rattle.asc_run.specs.Helped.{Helped, HasVisits}
 
 -- A walk: where its program stands, its settings, the steps done or jumped over so far, what was asked for and given,
 -- and how it has ended, once it has.
@@ -23,12 +23,12 @@ pub record Walk : Type 0 where
   pub settings : Settings
   pub count : ℕ
   -- the visits, the steps jumped over, and the jumps
-  pub tally : Tally
+  pub jumps : Jumps
   pub ended : Option Ended
 
--- a tally, from its three numbers
-abbrev pub tally : (asked given hits : ℕ) → Tally
-tally asked given hits = record { asked = asked; given = given; hits = hits }
+-- what was asked and given, from its three numbers
+abbrev pub jumps : (asked given hits : ℕ) → Jumps
+jumps asked given hits = record { asked = asked; given = given; hits = hits }
 
 -- a program that has done no step, whose break stands at low, and which has not found the end of its input
 pub record HasNotBegun (count : ℕ) (calls : CallState) : Type 0 where
@@ -43,7 +43,7 @@ new_walk image settings = record {
   calls = record { low = image.low; high = high_of image; brk = image.low; ended = false };
   settings = settings;
   count = 0;
-  tally = tally 0 0 0;
+  jumps = jumps 0 0 0;
   ended = None;
 }
 
@@ -101,17 +101,17 @@ pub record Goes (limit : ℕ) (Says : (to : ℕ) → Course → Type 0) (old new
   pub stops : (device : Device) → device_of ended ≡ Some device
       → StopsAt limit (Says (count + 1)) old new count skipped device
 
--- It went so with a helper, which was asked at the marks, and came from first to last.
-pub record GoesHelped (limit : ℕ) (mark : Course → Marking) (old new : World) (first last : Aid) (count skipped : ℕ)
+-- It went so with a helper, which was visited by a rule, and came from first to last.
+pub record GoesHelped (limit : ℕ) (rule : Course → VisitRule) (old new : World) (first last : Aid) (count skipped : ℕ)
     (ended : Ended) : Type 0 where
   pub visits : List Visit
   pub helped : Helped visits first last
-  pub goes : Goes limit (HasVisits limit mark old.state visits first last) old new count skipped ended
+  pub goes : Goes limit (HasVisits limit rule old.state visits first last) old new count skipped ended
 
 -- a helper's counts rose by those of a walk
-abbrev pub IsRaisedBy : Tally → (old new : Tally) → Type 0
+abbrev pub IsRaisedBy : Jumps → (old new : Jumps) → Type 0
 IsRaisedBy walk old new =
-    new ≡ tally (old.asked + walk.asked) (old.given + walk.given) (old.hits + walk.hits)
+    new ≡ jumps (old.asked + walk.asked) (old.given + walk.given) (old.hits + walk.hits)
 
 -- ---- a call of go
 
@@ -119,17 +119,17 @@ IsRaisedBy walk old new =
 pub record GoesFirst (was now : Walk) (old new : Outside) (first last : Aid) (ended : Ended) : Type 0 where
   -- it goes as plain execution does, or stops where a device failed; the visits are those that the helper's replies
   -- leave on that run
-  pub goes : GoesHelped was.settings.limit (is_mark was.settings.recognised) (world_of was old) (world_of now new) first last
-      now.count now.tally.given ended
+  pub goes : GoesHelped was.settings.limit (visit_rule was.settings.recognised) (world_of was old) (world_of now new) first last
+      now.count now.jumps.given ended
   -- where it is told that there was no visit yet, and memory was not wanting, each visit was guessed
-  pub seen : SeesAll now.tally.asked first.plan last.plan
+  pub seen : SeesAll now.jumps.asked first.plan last.plan
   -- the settings stay
   pub settings : now.settings ≡ was.settings
   -- the answer is kept for a further call
   pub kept : now.ended ≡ Some ended
 
--- what the first call does with a helper whose tally was before and is after
-pub record HelpsFirst {H : Type 0} (address : Recognised) (walk : Tally) (old new : H) (before after : Tally) : Type 0
+-- what the first call does with a helper whose counts of jumps were before and are after
+pub record HelpsFirst {H : Type 0} (address : Recognised) (walk : Jumps) (old new : H) (before after : Jumps) : Type 0
   where
     -- its counts rise by the walk's
     pub raised : IsRaisedBy walk before after

@@ -5,7 +5,7 @@ use Rattle.asc_calls.specs.GuestCall.{Io}
 use Rattle.asc_calls.specs.World.{World, DoesIo, MayCome, KnowsEnd}
 use Rattle.asc_run.specs.Execution.{On, progress, first_position}
 use Rattle.asc_run.specs.Turn.{position_in}
-use Rattle.asc_run.specs.Visits.{Course, IsMarkedFrom, Marking}
+use Rattle.asc_run.specs.Visits.{Course, IsVisitedFrom, VisitRule}
 
 -- From old to now a program went on for n steps from its start, of which so many were skipped. What it took and put is
 -- io, and its plain run has Q.
@@ -20,10 +20,10 @@ pub record Reaches (Q : Course → Type 0) (low high : ℕ) (start : State) (old
   pub shape : now.state.shape ≡ start.shape
   pub steps : now.steps + skipped ≡ old.steps + n
 
--- From start to here a program went on for so many steps, none of them skipped. Its run has no mark up to here, and from
+-- From start to here a program went on for so many steps, none of them skipped. Its run has no visit up to here, and from
 -- here on, below a limit, it has one wherever it goes on at this address.
-abbrev pub ComesUnmarked : (limit : ℕ) → (mark : Course → Marking) → (address : Option ℕ) → (start here : World)
+abbrev pub ComesUnvisited : (limit : ℕ) → (rule : Course → VisitRule) → (address : Option ℕ) → (start here : World)
     → (count : ℕ) → Type 0
-ComesUnmarked limit mark address start here count =
-    Reaches (λ run. IsMarkedFrom limit count address (mark run) run) start.calls.low start.calls.high start.state start here
+ComesUnvisited limit rule address start here count =
+    Reaches (λ run. IsVisitedFrom limit count address (rule run) run) start.calls.low start.calls.high start.state start here
     count 0

@@ -3,7 +3,7 @@ ghost use Rattle.std.specs.Prelude.{◌≡◌, ◌<◌, List, [], ◌∷◌, ◌
 ghost use Rattle.std.specs.Arc.{arc_value};
 ghost use Rattle.std.specs.Option.{is_some, option_map};
 ghost use Rattle.asc_model.specs.Entry.{Entry as entry};
-ghost use Rattle.asc_run.specs.Serial.{newest_join};
+ghost use Rattle.asc_find.specs.Serial.{newest_join};
 
 use asc_outside::Memory;
 use asc_shard::Shard;

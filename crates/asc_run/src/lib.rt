@@ -1,7 +1,6 @@
 //! Runs of a program.
 #![tactic(auto)]
 
-mod helper;
 mod joining;
 mod last_visits;
 mod laws;
@@ -14,7 +13,6 @@ mod sought;
 mod visited;
 mod walk;
 
-pub use helper::{Bare, Helper};
 pub use last_visits::{LastVisits, MOST_AHEAD, MOST_JOBS};
 pub use laws::{
     progress_is_plain, replies_determine_visits, rows_are_computed, serial_runs_are_one,
@@ -22,4 +20,4 @@ pub use laws::{
 pub use process::Process;
 pub use recognised::Recognised;
 pub use serial::Serial;
-pub use walk::{Counts, Ended, MOST_STEPS, Settings, Walk};
+pub use walk::{Ended, MOST_STEPS, Settings, Walk};

@@ -3,7 +3,7 @@ ghost use Rattle.asc_guess.specs.Guess.{guess_of};
 ghost use Rattle.asc_traj.specs.declared.made.Made.TheVariants as became;
 ghost use Rattle.asc_traj.specs.Made.{IsMade};
 ghost use Rattle.asc_traj.specs.Trace.{trace_cap};
-ghost use Rattle.asc_run.specs.Serial.{bounds_at};
+ghost use Rattle.asc_find.specs.Serial.{bounds_at};
 
 use asc_depvec::Tracer;
 use asc_find::Guessing;

@@ -1,7 +1,7 @@
 ghost use Rattle.std.specs.Prelude.{◌≡◌, ◌≢◌, ◌≤◌, ◌<◌, ◌+◌, ◌-◌, ◌^◌, Some, None, false, IfOk};
 
 use crate::walk::Ended;
-use asc_calls::{Calls, Served};
+use asc_calls::{Calls, Devices, Served};
 use asc_elf::Image;
 use asc_outside::{Memory, Sink, Source};
 use asc_shape::{State, Steps};
@@ -22,11 +22,11 @@ pub struct Process {
 
 impl Process {
     ghost use Rattle.asc_model.specs.Plain.{plain};
-    ghost use Rattle.asc_model.specs.Step.{At, Call, next};
+    ghost use Rattle.asc_model.specs.Step.{Went, Call, next};
     ghost use Rattle.asc_step.specs.Step.{stepped_of};
     ghost use Rattle.asc_elf.specs.Image.{high_of};
     ghost use Rattle.asc_calls.specs.GuestCall.{Device};
-    ghost use Rattle.asc_calls.specs.World.{world, faults, BlamesOnly};
+    ghost use Rattle.asc_calls.specs.World.{BlamesOnly, outside_of, world_in};
     ghost use Rattle.asc_run.specs.Turn.{Turns, TurnFails, device_of_turn};
     ghost use Rattle.asc_run.specs.Visits.{Passes};
 
@@ -63,7 +63,7 @@ impl Process {
     /// answers what the last attempt answered.
     pub fn go_on<L: Ledger>(&mut self, pc: Option<u32>, most: u64, steps: &mut Steps<L>) -> Stepped
         requires { self.old.count + most < 2 ^ 64 }
-        ensures goes { plain (self.new.count - self.old.count) self.old.state ≡ At self.new.state }
+        ensures goes { plain (self.new.count - self.old.count) self.old.state ≡ Went self.new.state }
         ensures passes { Passes pc self.old.state (self.new.count - self.old.count) }
         ensures grows { self.old.count ≤ self.new.count }
         ensures most { self.new.count ≤ self.old.count + most }
@@ -85,70 +85,52 @@ impl Process {
     pub fn stop<I: Source, O: Sink, E: Sink, L: Ledger>(
         &mut self,
         stopped: Stepped,
-        input: &mut I,
-        out: &mut O,
-        err: &mut E,
+        devices: &mut Devices<I, O, E>,
         steps: &mut Steps<L>,
     ) -> Option<Ended>
         requires count { self.old.count + 1 < 2 ^ 64 }
         requires stopped { stopped ≢ Stepped.Went }
         requires stands { stopped ≡ stepped_of (next self.old.state) }
         ensures turn { device_of_turn result ≡ None → Turns
-            (world self.old.state self.old.calls (I.left input.old) (O.given out.old) (E.given err.old) steps.old
-            (faults (I.faults input.old) (O.faults out.old) (E.faults err.old)))
-            (world self.new.state self.new.calls (I.left input.new) (O.given out.new) (E.given err.new) steps.new
-            (faults (I.faults input.new) (O.faults out.new) (E.faults err.new)))
+            (world_in self.old.state self.old.calls (outside_of devices.old steps.old))
+            (world_in self.new.state self.new.calls (outside_of devices.new steps.new))
             self.old.count self.new.count result }
         ensures fails { (device : Device) → device_of_turn result ≡ Some device → TurnFails
-            (world self.old.state self.old.calls (I.left input.old) (O.given out.old) (E.given err.old) steps.old
-            (faults (I.faults input.old) (O.faults out.old) (E.faults err.old)))
-            (world self.new.state self.new.calls (I.left input.new) (O.given out.new) (E.given err.new) steps.new
-            (faults (I.faults input.new) (O.faults out.new) (E.faults err.new)))
-            device }
+            (world_in self.old.state self.old.calls (outside_of devices.old steps.old))
+            (world_in self.new.state self.new.calls (outside_of devices.new steps.new)) device }
         ensures count { (device : Device) → device_of_turn result ≡ Some device → self.new.count ≡ self.old.count }
         ensures grows { self.old.count ≤ self.new.count }
         ensures most { self.new.count ≤ self.old.count + 1 }
-        ensures faults { BlamesOnly (device_of_turn result)
-            (faults (I.faults input.old) (O.faults out.old) (E.faults err.old))
-            (faults (I.faults input.new) (O.faults out.new) (E.faults err.new)) }
+        ensures faults { BlamesOnly (device_of_turn result) devices.old.told.faults devices.new.told.faults }
     {
         match stopped {
             Stepped::Went => None,
-            Stepped::Call => self.call(input, out, err, steps),
-            Stepped::Fault(fault) => Some(Ended::Fault(fault)),
+            Stepped::Call => self.call(devices, steps),
+            Stepped::Faulted(fault) => Some(Ended::Fault(fault)),
         }
     }
 
     /// The guest call at which the program stands. It answers how the run ended, if it did.
     fn call<I: Source, O: Sink, E: Sink, L: Ledger>(
         &mut self,
-        input: &mut I,
-        out: &mut O,
-        err: &mut E,
+        devices: &mut Devices<I, O, E>,
         steps: &mut Steps<L>,
     ) -> Option<Ended>
         requires count { self.old.count + 1 < 2 ^ 64 }
         requires asks { next self.old.state ≡ Call }
         ensures turn { device_of_turn result ≡ None → Turns
-            (world self.old.state self.old.calls (I.left input.old) (O.given out.old) (E.given err.old) steps.old
-            (faults (I.faults input.old) (O.faults out.old) (E.faults err.old)))
-            (world self.new.state self.new.calls (I.left input.new) (O.given out.new) (E.given err.new) steps.new
-            (faults (I.faults input.new) (O.faults out.new) (E.faults err.new)))
+            (world_in self.old.state self.old.calls (outside_of devices.old steps.old))
+            (world_in self.new.state self.new.calls (outside_of devices.new steps.new))
             self.old.count self.new.count result }
         ensures fails { (device : Device) → device_of_turn result ≡ Some device → TurnFails
-            (world self.old.state self.old.calls (I.left input.old) (O.given out.old) (E.given err.old) steps.old
-            (faults (I.faults input.old) (O.faults out.old) (E.faults err.old)))
-            (world self.new.state self.new.calls (I.left input.new) (O.given out.new) (E.given err.new) steps.new
-            (faults (I.faults input.new) (O.faults out.new) (E.faults err.new)))
-            device }
+            (world_in self.old.state self.old.calls (outside_of devices.old steps.old))
+            (world_in self.new.state self.new.calls (outside_of devices.new steps.new)) device }
         ensures count { (device : Device) → device_of_turn result ≡ Some device → self.new.count ≡ self.old.count }
         ensures grows { self.old.count ≤ self.new.count }
         ensures most { self.new.count ≤ self.old.count + 1 }
-        ensures faults { BlamesOnly (device_of_turn result)
-            (faults (I.faults input.old) (O.faults out.old) (E.faults err.old))
-            (faults (I.faults input.new) (O.faults out.new) (E.faults err.new)) }
+        ensures faults { BlamesOnly (device_of_turn result) devices.old.told.faults devices.new.told.faults }
     {
-        match self.calls.serve(&mut self.state, input, out, err, steps) {
+        match self.calls.serve(&mut self.state, devices, steps) {
             Served::Went => {
                 self.count += 1;
                 None

@@ -1,21 +1,20 @@
 ghost use Rattle.std.specs.Prelude.{◌≡◌, ◌^◌, ◌<◌, ◌≤◌, [], ◌∷◌, length, slice_index_or, Some, None, IfOk, IfSome, MatchOption};
 ghost use Rattle.std.specs.Arc.{arc_value};
 ghost use Rattle.asc_traj.specs.Jump.{IsJump};
-ghost use Rattle.asc_find.specs.Finder.{tally_after, Tells};
+ghost use Rattle.asc_find.specs.Finder.{jumps_after, Tells};
 ghost use Rattle.asc_find.specs.Serial.{Serial as machine, serial_reply};
-ghost use Rattle.asc_run.specs.Helped.{aid, Plans, VisitsMachine};
+ghost use Rattle.asc_find.specs.Helper.{Plans, VisitsMachine};
 ghost use Rattle.asc_shard.specs.Content.{outcome_of};
 ghost use Rattle.asc_shard.specs.Shard.{run_capacity};
-ghost use Rattle.asc_run.specs.SerialHelper.{IsPlanned, IsSettled, added, begun, first_helper, plan_of, told_machine};
+ghost use Rattle.asc_run.specs.SerialHelper.{IsPlanned, IsSettled, added, begun, first_helper, aid_of, told_machine};
 ghost use Rattle.asc_run.specs.SerialInside.{AddsJoin, MakesJob};
 ghost use Rattle.asc_run.specs.declared.last_visits.TheConstants.{MOST_AHEAD, MOST_JOBS};
 
-use crate::Helper;
 use crate::joining::join_newest;
 use crate::last_visits::LastVisits;
 use crate::made::make;
 use asc_depvec::Tracer;
-use asc_find::{Finder, Guessing};
+use asc_find::{Finder, Guessing, Helper};
 use asc_guess::Kind;
 use asc_outside::Memory;
 use asc_shape::{Shape, Snapshot, State};
@@ -220,24 +219,18 @@ impl Serial {
 
 /// Where a walk lands on a visit it learns of the state there, and is asked for a jump by its entries.
 impl Finder for Serial {
-    ghost tally = { λ s. s.tally };
-
-    ghost replies = { λ _. None };
-
-    ghost plan = { plan_of };
-
-    ghost machine = { told_machine };
+    ghost aid = { aid_of };
 
     fn jump(&mut self, state: &mut State, left: u64) -> Option<u64>
         requires left { left ≤ 2 ^ 40 }
-        requires asked { self.old.tally.asked < 2 ^ 62 }
-        requires given { self.old.tally.given < 2 ^ 62 }
+        requires asked { self.old.jumps.asked < 2 ^ 62 }
+        requires given { self.old.jumps.given < 2 ^ 62 }
         ensures found { result ≡ serial_reply self.old.machine state.old left }
-        ensures stays { self.new ≡ record self.old { tally = tally_after self.old.tally result } }
+        ensures stays { self.new ≡ record self.old { jumps = jumps_after self.old.jumps result } }
         ensures jump { IsJump result left state.old state.new }
-        ensures tally { self.new.tally ≡ tally_after self.old.tally result }
+        ensures jumps { self.new.jumps ≡ jumps_after self.old.jumps result }
         ensures replies { Tells (result ∷ []) None None }
-        ensures plan { plan_of self.new ≡ plan_of self.old }
+        ensures plan { (aid_of self.new).plan ≡ (aid_of self.old).plan }
         ensures machine { told_machine self.new ≡ told_machine self.old }
         ensures longest { (m : machine) → told_machine self.old ≡ Some m → result ≡ serial_reply m state.old left }
     {

@@ -1,11 +1,10 @@
 //! A program that is visited at an address which is sought while it goes on.
 ghost use Rattle.std.specs.Prelude.{◌≡◌, ◌≢◌, ◌≤◌, ◌<◌, ◌+◌, ◌-◌, ◌^◌, ℕ, Some, None, true, false};
 ghost use Rattle.asc_model.specs.Plain.{plain};
-ghost use Rattle.asc_model.specs.Step.{At, next};
+ghost use Rattle.asc_model.specs.Step.{Went, next};
 ghost use Rattle.asc_step.specs.Step.{stepped_of};
 ghost use Rattle.asc_calls.specs.GuestCall.{Device};
-ghost use Rattle.asc_calls.specs.World.{world, faults, BlamesOnly};
-ghost use Rattle.asc_run.specs.Helped.{aid};
+ghost use Rattle.asc_calls.specs.World.{BlamesOnly, outside_of, world_in};
 ghost use Rattle.asc_run.specs.Sought.{NotesAlong, learning, noting, pc_in};
 ghost use Rattle.asc_run.specs.Turn.{Turns, TurnFails, device_of_turn};
 ghost use Rattle.asc_run.specs.VisitedBy.{Visits};
@@ -17,6 +16,7 @@ ghost use Rattle.asc_seek.specs.declared.seeker.Phase.TheVariants.{Profile};
 use crate::process::Process;
 use crate::visited::Visited;
 use crate::walk::Ended;
+use asc_calls::Devices;
 use asc_find::Finder;
 use asc_outside::{Sink, Source};
 use asc_seek::Seeker;
@@ -27,10 +27,10 @@ use std::sync::ledger::Ledger;
 impl Visited {
     ghost use Rattle.asc_run.specs.declared.recognised.Recognised.TheVariants.{Sought};
     ghost use Rattle.asc_run.specs.Execution.{device_of};
-    ghost use Rattle.asc_run.specs.Visits.{is_mark};
+    ghost use Rattle.asc_run.specs.Visits.{visit_rule};
     ghost use Rattle.asc_run.specs.Helped.{HasRoom};
     ghost use Rattle.asc_run.specs.Seen.{SeesAll};
-    ghost use Rattle.asc_run.specs.Walk.{tally, GoesHelped, HasNotBegun, IsRaisedBy};
+    ghost use Rattle.asc_run.specs.Walk.{jumps, GoesHelped, HasNotBegun, IsRaisedBy};
 
     /// Runs a program that has not begun until it ends, a device fails, or `limit` steps are done or jumped over. Where it
     /// stands at the address that the search watches, the helper is visited by `visit`, and asked for a jump; then the
@@ -48,35 +48,26 @@ impl Visited {
         seeker: &mut Seeker,
         helper: &mut H,
         visit: &V,
-        input: &mut I,
-        out: &mut O,
-        err: &mut E,
+        devices: &mut Devices<I, O, E>,
         steps: &mut Steps<L>,
     ) -> Ended
-        requires visit { Visits (λ h. aid (H.tally h) (H.replies h) (H.plan h) (H.machine h)) V.Fn visit.now }
+        requires visit { Visits H.aid V.Fn visit.now }
         requires limit { limit ≤ 2 ^ 40 }
         requires start { HasNotBegun self.old.process.count self.old.process.calls }
         requires new { seeker.old ≡ new_seek seeker.old.seeking }
-        requires none_told { tally self.old.asked self.old.skipped self.old.hits ≡ tally 0 0 0 }
-        requires room { HasRoom (2 ^ 61)
-            (aid (H.tally helper.old) (H.replies helper.old) (H.plan helper.old) (H.machine helper.old)) }
-        ensures run { GoesHelped limit (is_mark (Sought seeker.old.seeking))
-            (world self.old.process.state self.old.process.calls (I.left input.old) (O.given out.old) (E.given err.old) steps.old
-            (faults (I.faults input.old) (O.faults out.old) (E.faults err.old)))
-            (world self.new.process.state self.new.process.calls (I.left input.new) (O.given out.new) (E.given err.new) steps.new
-            (faults (I.faults input.new) (O.faults out.new) (E.faults err.new)))
-            (aid (H.tally helper.old) (H.replies helper.old) (H.plan helper.old) (H.machine helper.old))
-            (aid (H.tally helper.new) (H.replies helper.new) (H.plan helper.new) (H.machine helper.new))
-            self.new.process.count self.new.skipped result }
-        ensures helper { IsRaisedBy (tally self.new.asked self.new.skipped self.new.hits)
-            (H.tally helper.old) (H.tally helper.new) }
-        ensures seen { SeesAll self.new.asked (H.plan helper.old) (H.plan helper.new) }
+        requires none_told { jumps self.old.asked self.old.skipped self.old.hits ≡ jumps 0 0 0 }
+        requires room { HasRoom (2 ^ 61) (H.aid helper.old) }
+        ensures run { GoesHelped limit (visit_rule (Sought seeker.old.seeking))
+            (world_in self.old.process.state self.old.process.calls (outside_of devices.old steps.old))
+            (world_in self.new.process.state self.new.process.calls (outside_of devices.new steps.new))
+            (H.aid helper.old) (H.aid helper.new) self.new.process.count self.new.skipped result }
+        ensures helper { IsRaisedBy (jumps self.new.asked self.new.skipped self.new.hits)
+            (H.aid helper.old).jumps (H.aid helper.new).jumps }
+        ensures seen { SeesAll self.new.asked (H.aid helper.old).plan (H.aid helper.new).plan }
         ensures shape { device_of result ≡ None → self.new.process.state.shape ≡ self.old.process.state.shape }
         ensures limit { self.new.process.count ≤ limit }
         ensures skipped { self.new.skipped ≤ self.new.process.count }
-        ensures faults { BlamesOnly (device_of result)
-            (faults (I.faults input.old) (O.faults out.old) (E.faults err.old))
-            (faults (I.faults input.new) (O.faults out.new) (E.faults err.new)) }
+        ensures faults { BlamesOnly (device_of result) devices.old.told.faults devices.new.told.faults }
         ensures seeking { seeker.new.seeking ≡ seeker.old.seeking }
     {
         loop {
@@ -96,10 +87,7 @@ impl Visited {
             }
             let stopped = self.process.go_noting(seeker, pc, most, steps);
             if self.process.count == at {
-                if let Some(ended) = self
-                    .process
-                    .stop_noting(seeker, stopped, input, out, err, steps)
-                {
+                if let Some(ended) = self.process.stop_noting(seeker, stopped, devices, steps) {
                     return ended;
                 }
             }
@@ -141,7 +129,7 @@ impl Process {
     ) -> Stepped
         requires most { self.old.count + most ≤ 2 ^ 40 }
         requires earlier { seeker.old.phase ≡ Profile → AreEarlier (self.old.count + 1) seeker.old.table }
-        ensures goes { plain (self.new.count - self.old.count) self.old.state ≡ At self.new.state }
+        ensures goes { plain (self.new.count - self.old.count) self.old.state ≡ Went self.new.state }
         ensures passes { seeker.old.phase ≢ Profile → Passes pc self.old.state (self.new.count - self.old.count) }
         ensures noted { seeker.old.phase ≡ Profile
             → NotesAlong self.old.state (self.new.count - self.old.count) self.new.count self.new.state seeker.old seeker.new }
@@ -173,9 +161,7 @@ impl Process {
         &mut self,
         seeker: &mut Seeker,
         stopped: Stepped,
-        input: &mut I,
-        out: &mut O,
-        err: &mut E,
+        devices: &mut Devices<I, O, E>,
         steps: &mut Steps<L>,
     ) -> Option<Ended>
         requires count { self.old.count < 2 ^ 40 }
@@ -183,23 +169,16 @@ impl Process {
         requires stands { stopped ≡ stepped_of (next self.old.state) }
         requires earlier { seeker.old.phase ≡ Profile → AreEarlier (self.old.count + 1) seeker.old.table }
         ensures turn { device_of_turn result ≡ None → Turns
-            (world self.old.state self.old.calls (I.left input.old) (O.given out.old) (E.given err.old) steps.old
-            (faults (I.faults input.old) (O.faults out.old) (E.faults err.old)))
-            (world self.new.state self.new.calls (I.left input.new) (O.given out.new) (E.given err.new) steps.new
-            (faults (I.faults input.new) (O.faults out.new) (E.faults err.new)))
+            (world_in self.old.state self.old.calls (outside_of devices.old steps.old))
+            (world_in self.new.state self.new.calls (outside_of devices.new steps.new))
             self.old.count self.new.count result }
         ensures fails { (device : Device) → device_of_turn result ≡ Some device → TurnFails
-            (world self.old.state self.old.calls (I.left input.old) (O.given out.old) (E.given err.old) steps.old
-            (faults (I.faults input.old) (O.faults out.old) (E.faults err.old)))
-            (world self.new.state self.new.calls (I.left input.new) (O.given out.new) (E.given err.new) steps.new
-            (faults (I.faults input.new) (O.faults out.new) (E.faults err.new)))
-            device }
+            (world_in self.old.state self.old.calls (outside_of devices.old steps.old))
+            (world_in self.new.state self.new.calls (outside_of devices.new steps.new)) device }
         ensures count { (device : Device) → device_of_turn result ≡ Some device → self.new.count ≡ self.old.count }
         ensures grows { self.old.count ≤ self.new.count }
         ensures most { self.new.count ≤ self.old.count + 1 }
-        ensures faults { BlamesOnly (device_of_turn result)
-            (faults (I.faults input.old) (O.faults out.old) (E.faults err.old))
-            (faults (I.faults input.new) (O.faults out.new) (E.faults err.new)) }
+        ensures faults { BlamesOnly (device_of_turn result) devices.old.told.faults devices.new.told.faults }
         ensures noted { result ≡ None → seeker.old.phase ≡ Profile
             → seeker.new ≡ noting self.new.count (led_back (pc_in self.old.state) (pc_in self.new.state)) seeker.old }
         ensures other { seeker.old.phase ≢ Profile → seeker.new ≡ seeker.old }
@@ -208,7 +187,7 @@ impl Process {
         ensures seeking { seeker.new.seeking ≡ seeker.old.seeking }
     {
         let from = self.state.pc();
-        let ended = self.stop(stopped, input, out, err, steps);
+        let ended = self.stop(stopped, devices, steps);
         if ended.is_none() && seeker.is_noting() && self.state.pc() < from {
             seeker.note(self.state.pc(), self.count);
         }

@@ -1,15 +1,15 @@
 ghost use Rattle.std.specs.Prelude.{◌≡◌, ◌≤◌, ◌+◌, ◌^◌, List, ℕ, IfOk, IfSome, IsNone, Some, None};
 
-use crate::helper::Helper;
 use crate::process::Process;
 use crate::recognised::Recognised;
 use crate::visited::Visited;
+use asc_calls::Devices;
 use asc_elf::Image;
-use asc_find::Finder;
+use asc_find::{Finder, Helper};
+use asc_model::{Fault, RunCounts};
 use asc_outside::{Memory, Sink, Source};
 use asc_seek::Seeker;
 use asc_shape::{Shape, State, Steps};
-use asc_step::Fault;
 use std::alloc::Global;
 use std::marker::Model;
 use std::sync::ledger::Ledger;
@@ -58,21 +58,6 @@ impl Default for Settings {
     }
 }
 
-/// The numbers of a run: `count` is `executed` and `skipped` together.
-#[derive(Clone, Copy, Debug, PartialEq, Eq)]
-pub struct Counts {
-    /// Steps done and steps jumped over.
-    pub count: u64,
-    /// Steps done.
-    pub executed: u64,
-    /// Steps jumped over.
-    pub skipped: u64,
-    /// Visits at which a jump was asked for.
-    pub asked: u64,
-    /// Jumps.
-    pub hits: u64,
-}
-
 /// One run of a program, from its image's first state.
 #[derive(Drop)]
 pub struct Walk {
@@ -98,7 +83,7 @@ impl Model for Walk {
       calls = w.visited.process.calls;
       settings = w.settings;
       count = w.visited.process.count;
-      tally = model.tally w.visited.asked w.visited.skipped w.visited.hits;
+      jumps = model.jumps w.visited.asked w.visited.skipped w.visited.hits;
       ended = w.ended;
     } };
 
@@ -107,14 +92,14 @@ impl Model for Walk {
         × (noted_counts w.settings.recognised ≤ vec_capacity w.notes)
         × HasSeeker w.settings.recognised w.seeker
         × (w.ended ≡ None → model.HasNotBegun w.visited.process.count w.visited.process.calls
-        × (model.tally w.visited.asked w.visited.skipped w.visited.hits ≡ model.tally 0 0 0)
+        × (model.jumps w.visited.asked w.visited.skipped w.visited.hits ≡ model.jumps 0 0 0)
         × (w.notes.items ≡ []) × HasNewSeeker w.seeker) };
 }
 
 impl Walk {
-    ghost use Rattle.asc_calls.specs.World.{faults, outside, BlamesOnly};
+    ghost use Rattle.asc_calls.specs.World.{faults, BlamesOnly, outside_of};
     ghost use Rattle.asc_run.specs.Execution.{device_of};
-    ghost use Rattle.asc_run.specs.Helped.{aid, HasRoom};
+    ghost use Rattle.asc_run.specs.Helped.{HasRoom};
     ghost use Rattle.asc_run.specs.VisitedBy.{IsVisit, MayVisit, Visits};
     ghost use Rattle.asc_run.specs.Visits.{HasBounds};
     ghost use Rattle.asc_model.specs.State.{IsState};
@@ -174,31 +159,23 @@ impl Walk {
     pub fn go<H: Helper, I: Source, O: Sink, E: Sink, L: Ledger>(
         &mut self,
         helper: &mut H,
-        input: &mut I,
-        out: &mut O,
-        err: &mut E,
+        devices: &mut Devices<I, O, E>,
         steps: &mut Steps<L>,
     ) -> Ended
-        requires { IsNone self.old.ended → HasRoom (2 ^ 61)
-            (aid (H.tally helper.old) (H.replies helper.old) (H.plan helper.old) (H.machine helper.old)) }
+        requires { IsNone self.old.ended → HasRoom (2 ^ 61) (H.aid helper.old) }
 
         // The first call goes as plain execution does, or stops where a device failed. The helper's visits are those
         // that its replies leave on that run.
-        ensures first { IsNone self.old.ended → GoesFirst self.old self.new
-            (outside (I.left input.old) (O.given out.old) (E.given err.old) steps.old
-            (faults (I.faults input.old) (O.faults out.old) (E.faults err.old)))
-            (outside (I.left input.new) (O.given out.new) (E.given err.new) steps.new
-            (faults (I.faults input.new) (O.faults out.new) (E.faults err.new)))
-            (aid (H.tally helper.old) (H.replies helper.old) (H.plan helper.old) (H.machine helper.old))
-            (aid (H.tally helper.new) (H.replies helper.new) (H.plan helper.new) (H.machine helper.new)) result }
+        ensures first { IsNone self.old.ended → GoesFirst self.old self.new (outside_of devices.old steps.old)
+            (outside_of devices.new steps.new) (H.aid helper.old) (H.aid helper.new) result }
 
         // The helper's counts rise by the walk's. Where no address is to be recognised, the helper stays as it was.
-        ensures helper { IsNone self.old.ended → HelpsFirst self.old.settings.recognised self.new.tally helper.old
-            helper.new (H.tally helper.old) (H.tally helper.new) }
+        ensures helper { IsNone self.old.ended → HelpsFirst self.old.settings.recognised self.new.jumps helper.old
+            helper.new (H.aid helper.old).jumps (H.aid helper.new).jumps }
 
         // A second one answers the same, and changes nothing.
         ensures again { IfSome self.old.ended (λ ended. (result ≡ ended) × (self.new ≡ self.old)
-            × (helper.new ≡ helper.old) × (input.new ≡ input.old) × (out.new ≡ out.old) × (err.new ≡ err.old)
+            × (helper.new ≡ helper.old) × (devices.new ≡ devices.old)
             × (steps.new ≡ steps.old)) }
         ensures limit { self.new.count ≤ self.old.settings.limit }
 
@@ -206,18 +183,13 @@ impl Walk {
         ensures shape { device_of result ≡ None → self.new.state.shape ≡ self.old.state.shape }
 
         // The count of faults of the device that failed in this call rises by one, and those of the others stay.
-        ensures faults { BlamesOnly (device_in self.old.ended result)
-            (faults (I.faults input.old) (O.faults out.old) (E.faults err.old))
-            (faults (I.faults input.new) (O.faults out.new) (E.faults err.new)) }
+        ensures faults { BlamesOnly (device_in self.old.ended result) devices.old.told.faults devices.new.told.faults }
     {
         let visit = |helper: &mut H, state: &mut State, number: u64|
-            requires { MayVisit number
-                (aid (H.tally helper.now) (H.replies helper.now) (H.plan helper.now) (H.machine helper.now)) }
-            ensures { IsVisit number state.entry.now state.exit.now
-                (aid (H.tally helper.entry.now) (H.replies helper.entry.now) (H.plan helper.entry.now) (H.machine helper.entry.now))
-                (aid (H.tally helper.exit.now) (H.replies helper.exit.now) (H.plan helper.exit.now) (H.machine helper.exit.now)) }
+            requires { MayVisit number (H.aid helper.now) }
+            ensures { IsVisit number state.entry.now state.exit.now (H.aid helper.entry.now) (H.aid helper.exit.now) }
         { helper.visit(state, number) };
-        self.go_by(helper, &visit, input, out, err, steps)
+        self.go_by(helper, &visit, devices, steps)
     }
 
     /// The same, with a helper that is visited by a function: each of its calls is what a visit of a `Helper` is.
@@ -226,32 +198,24 @@ impl Walk {
         &mut self,
         helper: &mut H,
         visit: &V,
-        input: &mut I,
-        out: &mut O,
-        err: &mut E,
+        devices: &mut Devices<I, O, E>,
         steps: &mut Steps<L>,
     ) -> Ended
-        requires visit { Visits (λ h. aid (H.tally h) (H.replies h) (H.plan h) (H.machine h)) V.Fn visit.now }
-        requires room { IsNone self.old.ended → HasRoom (2 ^ 61)
-            (aid (H.tally helper.old) (H.replies helper.old) (H.plan helper.old) (H.machine helper.old)) }
+        requires visit { Visits H.aid V.Fn visit.now }
+        requires room { IsNone self.old.ended → HasRoom (2 ^ 61) (H.aid helper.old) }
 
         // The first call goes as plain execution does, or stops where a device failed. The helper's visits are those
         // that its replies leave on that run.
-        ensures first { IsNone self.old.ended → GoesFirst self.old self.new
-            (outside (I.left input.old) (O.given out.old) (E.given err.old) steps.old
-            (faults (I.faults input.old) (O.faults out.old) (E.faults err.old)))
-            (outside (I.left input.new) (O.given out.new) (E.given err.new) steps.new
-            (faults (I.faults input.new) (O.faults out.new) (E.faults err.new)))
-            (aid (H.tally helper.old) (H.replies helper.old) (H.plan helper.old) (H.machine helper.old))
-            (aid (H.tally helper.new) (H.replies helper.new) (H.plan helper.new) (H.machine helper.new)) result }
+        ensures first { IsNone self.old.ended → GoesFirst self.old self.new (outside_of devices.old steps.old)
+            (outside_of devices.new steps.new) (H.aid helper.old) (H.aid helper.new) result }
 
         // The helper's counts rise by the walk's. Where no address is to be recognised, the helper stays as it was.
-        ensures helper { IsNone self.old.ended → HelpsFirst self.old.settings.recognised self.new.tally helper.old
-            helper.new (H.tally helper.old) (H.tally helper.new) }
+        ensures helper { IsNone self.old.ended → HelpsFirst self.old.settings.recognised self.new.jumps helper.old
+            helper.new (H.aid helper.old).jumps (H.aid helper.new).jumps }
 
         // A second one answers the same, and changes nothing.
         ensures again { IfSome self.old.ended (λ ended. (result ≡ ended) × (self.new ≡ self.old)
-            × (helper.new ≡ helper.old) × (input.new ≡ input.old) × (out.new ≡ out.old) × (err.new ≡ err.old)
+            × (helper.new ≡ helper.old) × (devices.new ≡ devices.old)
             × (steps.new ≡ steps.old)) }
         ensures limit { self.new.count ≤ self.old.settings.limit }
 
@@ -259,9 +223,7 @@ impl Walk {
         ensures shape { device_of result ≡ None → self.new.state.shape ≡ self.old.state.shape }
 
         // The count of faults of the device that failed in this call rises by one, and those of the others stay.
-        ensures faults { BlamesOnly (device_in self.old.ended result)
-            (faults (I.faults input.old) (O.faults out.old) (E.faults err.old))
-            (faults (I.faults input.new) (O.faults out.new) (E.faults err.new)) }
+        ensures faults { BlamesOnly (device_in self.old.ended result) devices.old.told.faults devices.new.told.faults }
     {
         if let Some(ended) = self.ended {
             return ended;
@@ -269,37 +231,19 @@ impl Walk {
         let settings = self.settings;
         let visited = &mut self.visited;
         if let Some(seeker) = &mut self.seeker {
-            let ended = visited.seek(
-                settings.limit,
-                seeker,
-                helper,
-                visit,
-                input,
-                out,
-                err,
-                steps,
-            );
+            let ended = visited.seek(settings.limit, seeker, helper, visit, devices, steps);
             self.ended = Some(ended);
             return ended;
         }
         let process = &mut visited.process;
-        let address = match process.recognise(settings, &mut self.notes, input, out, err, steps) {
+        let address = match process.recognise(settings, &mut self.notes, devices, steps) {
             Ok(address) => address,
             Err(ended) => {
                 self.ended = Some(ended);
                 return ended;
             }
         };
-        let ended = visited.run(
-            settings.limit,
-            address,
-            helper,
-            visit,
-            input,
-            out,
-            err,
-            steps,
-        );
+        let ended = visited.run(settings.limit, address, helper, visit, devices, steps);
         self.ended = Some(ended);
         ended
     }
@@ -312,19 +256,23 @@ impl Walk {
         self.visited.process.state.shape()
     }
 
-    /// The numbers so far.
-    pub fn counts(&self) -> Counts
-        ensures count { result.count ≡ self.now.count }
+    /// How many steps were done or jumped over.
+    pub fn count(&self) -> u64
+        ensures { result ≡ self.now.count }
+    {
+        self.visited.process.count
+    }
+
+    /// The numbers so far. Steps done and steps jumped over are `count` together.
+    pub fn counts(&self) -> RunCounts
         ensures executed { result.executed + result.skipped ≡ self.now.count }
-        ensures skipped { result.skipped ≡ self.now.tally.given }
-        ensures asked { result.asked ≡ self.now.tally.asked }
-        ensures hits { result.hits ≡ self.now.tally.hits }
+        ensures skipped { result.skipped ≡ self.now.jumps.given }
+        ensures asked { result.asked ≡ self.now.jumps.asked }
+        ensures hits { result.hits ≡ self.now.jumps.hits }
     {
         let visited = &self.visited;
-        let count = visited.process.count;
-        Counts {
-            count,
-            executed: count - visited.skipped,
+        RunCounts {
+            executed: visited.process.count - visited.skipped,
             skipped: visited.skipped,
             asked: visited.asked,
             hits: visited.hits,

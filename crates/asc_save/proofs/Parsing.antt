@@ -6,7 +6,7 @@ use Rattle.std.specs.Option.{option_or}
 use Rattle.std.proofs.lemmas.Bool.Decides.{nat_tests}
 use Rattle.std.proofs.lemmas.List.{append_assoc, map_push, take_rest}
 use Rattle.asc_model.specs.declared.save_fault.SaveFault.{SaveFault}
-use Rattle.asc_model.specs.declared.save_fault.SaveFault.TheVariants.{Short, Magic, Machine, Count, Long, Untrue}
+use Rattle.asc_model.specs.declared.save_fault.SaveFault.TheVariants.{Short, Magic, Machine, Count, Untrue}
 use Rattle.asc_model.specs.declared.save_fault.SaveFault.TheVariants as faults
 use Rattle.std.specs.declared.sync.Arc.{Arc}
 use Rattle.std.specs.declared.alloc.Global.{Global}
@@ -53,11 +53,6 @@ none_parts (Some fault) q e = absurd (cc)
 
 pub no_fault-append : (a b : List (Case SaveFault)) → first_fault (a ++ b) ≡ None → (first_fault a ≡ None) × (first_fault b ≡ None)
 no_fault-append a b e = none_parts (first_fault a) (first_fault b) (sym (first_fault-append a b) ∙ e)
-
--- where there is none, the first case does not stand
-pub no_fault-first : (stands : Bool) (fault : SaveFault) (rest : List (Case SaveFault)) → first_fault (record { stands = stands; fault = fault } ∷ rest) ≡ None → (stands ≡ false) × (first_fault rest ≡ None)
-no_fault-first true fault rest e = absurd (cc)
-no_fault-first false fault rest e = (refl, e)
 
 -- where none of six cases has a fault that stands
 pub no_fault-six : (a b c d e f : Bool) (v w x y z u : SaveFault)
@@ -115,10 +110,6 @@ pub entries-fault : (shape : Shape) (i n : ℕ) (bytes : List ℕ) (fault : Save
     → first_fault (entries_cases shape i n bytes) ≡ Some fault
 entries-fault shape i zero bytes fault h e = absurd (omega arith)
 entries-fault shape i (suc n) bytes fault h e = fault_first (entry_cases shape i bytes) (entries_cases shape (i + 1) n (drop (writes_end bytes) bytes)) fault e
-
--- no more entries
-pub entries-end : (shape : Shape) (i n : ℕ) (bytes : List ℕ) → n ≡ 0 → first_fault (entries_cases shape i n bytes) ≡ cond (nat_lt 0 (length bytes)) (Some Long) None
-entries-end shape i n bytes e = ap (λ k. first_fault (entries_cases shape i k bytes)) e
 
 -- a fault of the entry that is looked at
 pub entries_turn_fault : (shape : Shape) (i n : ℕ) (bytes : List ℕ) (fault : Option SaveFault) → 0 < n → fault ≡ first_fault (entry_cases shape i bytes) → is_some fault ≡ true

@@ -13,7 +13,7 @@ use Rattle.asc_model.specs.declared.why.Why.{Why}
 use Rattle.asc_model.specs.declared.why.Why.TheVariants as whys
 use Rattle.asc_model.specs.Shape.{Shape, length_of}
 use Rattle.asc_model.specs.State.{State, IsState}
-use Rattle.asc_model.specs.Step.{Next, At, Call, Bad, next}
+use Rattle.asc_model.specs.Step.{Next, Went, Call, Faulted, next}
 use Rattle.asc_model.specs.Plain.{plain}
 use Rattle.asc_model.specs.Places.{places_from, places_read, places_written, bytes_after}
 use Rattle.asc_model.specs.DependencyVector.{is_among, without, first_reads, written_in}
@@ -92,29 +92,29 @@ same_cells xs ys = (pointwise_decides {K = ℕ × ℕ} {E = λ a b. (a.0 == b.0)
 
 -- an entry by what its steps come to
 abbrev entry_by : ℕ → State → Next → Option Entry
-entry_by n s (At after) = Some (record { shape = s.shape; reads = cells_among (first_reads n s) s; writes = cells_among (written_in n s) after; steps = n })
+entry_by n s (Went after) = Some (record { shape = s.shape; reads = cells_among (first_reads n s) s; writes = cells_among (written_in n s) after; steps = n })
 entry_by n s Call = None
-entry_by n s (Bad fault) = None
+entry_by n s (Faulted fault) = None
 
 entry_of-by : (n : ℕ) (s : State) → entry_of n s ≡ entry_by n s (plain n s)
 unfolding entry_of
 entry_of-by n s = elim (plain n s) as (λ x. elim x [
-  | At after ↦ Some (record { shape = s.shape; reads = cells_among (first_reads n s) s; writes = cells_among (written_in n s) after; steps = n })
+  | Went after ↦ Some (record { shape = s.shape; reads = cells_among (first_reads n s) s; writes = cells_among (written_in n s) after; steps = n })
   | Call ↦ None
-  | Bad fault ↦ None
-] ≡ entry_by n s x) [ At after ↦ refl | Call ↦ refl | Bad fault ↦ refl ]
+  | Faulted fault ↦ None
+] ≡ entry_by n s x) [ Went after ↦ refl | Call ↦ refl | Faulted fault ↦ refl ]
 
 -- what an entry of steps says
 pub record IsEntryOf (n : ℕ) (s : State) (e : Entry) : Type 0 where
   pub after : State
-  pub goes : plain n s ≡ At after
+  pub goes : plain n s ≡ Went after
   pub shape : e.shape ≡ s.shape
   pub steps : e.steps ≡ n
   pub reads : e.reads ≡ cells_among (first_reads n s) s
   pub writes : e.writes ≡ cells_among (written_in n s) after
 
 by_goes : (n : ℕ) (s : State) (x : Next) (e : Entry) → plain n s ≡ x → entry_by n s x ≡ Some e → IsEntryOf n s e
-by_goes n s (At after) e goes h =
+by_goes n s (Went after) e goes h =
     let made : Entry = record { shape = s.shape; reads = cells_among (first_reads n s) s; writes = cells_among (written_in n s) after; steps = n } in
     let same : e ≡ made = cc in
     record {
@@ -126,7 +126,7 @@ by_goes n s (At after) e goes h =
       writes = ap (λ (x : Entry). x.writes) same;
     }
 by_goes n s Call e goes h = absurd (cc)
-by_goes n s (Bad fault) e goes h = absurd (cc)
+by_goes n s (Faulted fault) e goes h = absurd (cc)
 
 pub entry_of-goes : (n : ℕ) (s : State) (e : Entry) → entry_of n s ≡ Some e → IsEntryOf n s e
 entry_of-goes n s e h = by_goes n s (plain n s) e refl (sym (entry_of-by n s) ∙ h)
@@ -187,7 +187,7 @@ unfolding written_in
 no_writes s place e = let x : false ≡ true = e in absurd (cc)
 
 -- fewer steps read first no other places
-reads_more : (k n : ℕ) (s after : State) (place : ℕ) → k ≤ n → plain n s ≡ At after → is_among place (first_reads k s) ≡ true → is_among place (first_reads n s) ≡ true
+reads_more : (k n : ℕ) (s after : State) (place : ℕ) → k ≤ n → plain n s ≡ Went after → is_among place (first_reads k s) ≡ true → is_among place (first_reads n s) ≡ true
 reads_more zero n s after place le goes e = absurd (no_reads s place e)
 reads_more (suc k) zero s after place le goes e = absurd (let x : ⊥ = omega arith in x)
 reads_more (suc k) (suc n) s after place le goes e =
@@ -199,7 +199,7 @@ reads_more (suc k) (suc n) s after place le goes e =
     (reads_more k n first.0 after place (omega arith) first.2) (sym few ∙ sym (ap (is_among place) (first_reads-suc k s first.0 first.1)) ∙ e)
 
 -- and write no others
-writes_more : (k n : ℕ) (s after : State) (place : ℕ) → k ≤ n → plain n s ≡ At after → is_among place (written_in k s) ≡ true → is_among place (written_in n s) ≡ true
+writes_more : (k n : ℕ) (s after : State) (place : ℕ) → k ≤ n → plain n s ≡ Went after → is_among place (written_in k s) ≡ true → is_among place (written_in n s) ≡ true
 writes_more zero n s after place le goes e = absurd (no_writes s place e)
 writes_more (suc k) zero s after place le goes e = absurd (let x : ⊥ = omega arith in x)
 writes_more (suc k) (suc n) s after place le goes e =
@@ -269,11 +269,11 @@ few_laps n s le =
     ne_eqb (laps_in 0 n s) (2 ^ 64 - 1) (λ e. omega arith)
 
 -- the next of so many steps goes on
-goes_next : (k n : ℕ) (s now after : State) → k < n → plain k s ≡ At now → plain n s ≡ At after → why_no_step (next now) ≡ None
+goes_next : (k n : ℕ) (s now after : State) → k < n → plain k s ≡ Went now → plain n s ≡ Went after → why_no_step (next now) ≡ None
 goes_next k n s now after lt h goes =
     let d = n - k - 1 in
     let e : k + suc d ≡ n = omega arith in
-    let rest : plain (suc d) now ≡ At after = sym (plain_steps_join k (suc d) s now h) ∙ ap (λ m. plain m s) e ∙ goes in
+    let rest : plain (suc d) now ≡ Went after = sym (plain_steps_join k (suc d) s now h) ∙ ap (λ m. plain m s) e ∙ goes in
     ap why_no_step (plain-first d now after rest).1
 
 pub reach_exact : (n : ℕ) (s : State) (e : Entry) → IsState s → n ≤ 1000000000 → length e.reads ≤ 4096 → length e.writes ≤ 4096 → entry_of n s ≡ Some e

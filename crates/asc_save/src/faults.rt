@@ -9,8 +9,8 @@ use crate::fields::{
     COUNTS_SIZE, HEADER_SIZE, MOST_CELLS, MOST_ENTRIES, MOST_STEPS, count, read_count, reads_end,
     steps, word, write_count, writes_end,
 };
-use asc_model::SaveFault;
-use asc_shape::{Shape, Version};
+use asc_model::{SaveFault, Version};
+use asc_shape::Shape;
 
 /// The first fault of the header.
 pub(crate) fn header_fault(file: &[u8]) -> Option<SaveFault>

@@ -8,12 +8,9 @@ mod fields;
 mod laws;
 mod loading;
 mod saved;
-#[cfg(test)]
-mod tests;
 mod trace;
 mod writing;
 
-pub use asc_model::SaveFault;
 pub use laws::files_mean_their_entries;
 pub use loading::{LoadFault, load};
 pub use saved::Saved;

@@ -7,9 +7,9 @@ use crate::Saved;
 use crate::faults::{entries_fault, header_fault};
 use crate::fields::{HEADER_SIZE, count, word};
 use crate::trace::retraced;
-use asc_model::SaveFault;
+use asc_model::{SaveFault, Version};
 use asc_outside::Memory;
-use asc_shape::{Shape, Version};
+use asc_shape::Shape;
 use std::alloc::{AllocError, AllocFailed, Global};
 
 /// Why a file was not loaded.

@@ -6,8 +6,9 @@ ghost use Rattle.asc_outside.specs.Outside.{HasCause, PutsPart, given_after};
 ghost use Rattle.asc_traj.specs.Parts.{all_cells, cells_from};
 
 use crate::fields::CELL_SIZE;
+use asc_model::Version;
 use asc_outside::{Failed, Sink, put_all};
-use asc_shape::{Shape, Version};
+use asc_shape::Shape;
 use asc_shard::Shard;
 use asc_traj::{Entry, Part, next_cell};
 use byteorder::{ByteOrder, LittleEndian};

@@ -1,8 +1,7 @@
 -- A search along a path: what is left of it where nothing happens, and the table of heads.
-use Rattle.std.proofs.Common.{◌≡◌, ◌≢◌, ◌⊎◌, inl, inr, ℕ, zero, suc, ◌+◌, ◌-◌, ◌<◌, ◌≤◌, Bool, true, false, ◌==◌, nat_le, if◌then◌else◌, List, [], ◌∷◌, length, set, Option, Some, None, refl, sym, ap, ◌∙◌, subst, arith}
+use Rattle.std.proofs.Common.{◌≡◌, ◌≢◌, ◌⊎◌, inl, inr, ℕ, zero, suc, ◌+◌, ◌-◌, ◌<◌, ◌≤◌, Bool, true, false, ◌==◌, nat_le, if◌then◌else◌, List, [], ◌∷◌, set, Option, Some, None, refl, sym, ap, ◌∙◌, subst, arith}
 use Rattle.std.specs.Prelude.{slice_index_or}
-use Rattle.std.proofs.Math.Nat.{add-suc, add-zero, zero-add}
-use Rattle.std.proofs.lemmas.List.{length-set}
+use Rattle.std.proofs.Math.Nat.{add-suc, add-zero}
 use Rattle.std.proofs.lemmas.Bool.Decides.{nat_tests}
 use Rattle.asc_seek.specs.declared.heads.Head.{Head}
 use Rattle.asc_seek.specs.declared.seeker.Phase.{Phase}
@@ -11,8 +10,8 @@ use Rattle.asc_seek.specs.declared.seeker.Seeking.{Seeking}
 use Rattle.asc_seek.specs.declared.seeker.Service.{Service}
 use Rattle.asc_seek.specs.declared.seeker.Trial.{Trial}
 use Rattle.asc_seek.specs.declared.seeker.Phase.TheVariants as phase
-use Rattle.asc_seek.specs.Heads.{AreEarlier, Path, head_at, heads_of, meet, no_heads, note, slot_of, table_slots}
-use Rattle.asc_seek.specs.Seek.{IsBehind, IsBehindIn, Seek, best_with, end_in, is_over, looked_steps, next_candidate, pays, profiled, score_at, searching, serving, seek_along, advanced, seek_visit, settled, sure_score, try_next, trying, advanced_from, visit_in}
+use Rattle.asc_seek.specs.Heads.{AreEarlier, Path, head_at, heads_of, meet, no_heads, note, slot_of}
+use Rattle.asc_seek.specs.Seek.{IsBehindIn, Seek, best_with, end_in, is_over, looked_steps, next_candidate, pays, profiled, score_at, searching, serving, seek_along, advanced, seek_visit, settled, sure_score, try_next, trying, advanced_from, visit_in}
 use Rattle.asc_seek.proofs.Tables.{empty}
 
 -- ---- what the definitions say
@@ -22,11 +21,6 @@ pub seek_visit-is : (at : ℕ) (reply : Option ℕ) (m : Seek)
 unfolding seek_visit
 seek_visit-is at reply m = refl
 
--- a phase that is over ends
-pub advanced-over : (count : ℕ) (m : Seek) → is_over count m ≡ true → advanced count m ≡ advanced_from count m m.phase
-unfolding advanced
-advanced-over count m over = ap (λ (b : Bool). if b then advanced_from count m m.phase else m) over
-
 -- another goes on
 pub advanced-same : (count : ℕ) (m : Seek) → is_over count m ≡ false → advanced count m ≡ m
 unfolding advanced
@@ -35,10 +29,6 @@ advanced-same count m goes_on = ap (λ (b : Bool). if b then advanced_from count
 -- a count is before its end
 pub is_over-early : (count : ℕ) (m : Seek) → count < end_in m m.phase → is_over count m ≡ false
 is_over-early count m early = grind (arith, nat_tests)
-
--- what goes on at a count is before its end
-pub is_over-tells : (count : ℕ) (m : Seek) → is_over count m ≡ false → count < end_in m m.phase
-is_over-tells count m not_over = grind (arith, nat_tests)
 
 pub seek_along-zero : (path : Path) (from : ℕ) (m : Seek) → seek_along path from zero m ≡ advanced from (profiled path from m m.phase)
 unfolding seek_along
@@ -93,24 +83,6 @@ pub seek_along-turn : (path : Path) (from n k : ℕ) (m now : Seek) → seek_alo
 seek_along-turn path from n zero m now is other some early = absurd (omega arith)
 seek_along-turn path from n (suc k) m now is other some early =
     seek_along-suc_same path from n k m now (seek_along-same path from n k m now is other (omega arith)) other
-
--- the same from the first of the steps on
-pub seek_along-stays : (path : Path) (from n : ℕ) (m : Seek) → m.phase ≢ phase.Profile
-    → from + n < end_in m m.phase → seek_along path from n m ≡ m
-seek_along-stays path from n m other early =
-    let first = seek_along-zero path from m ∙ ap (advanced from) (profiled-same path from m m.phase other)
-    ∙ advanced-same from m (is_over-early from m (omega arith)) in
-    ap (λ steps. seek_along path from steps m) (sym (zero-add n))
-    ∙ seek_along-same path from zero n m m first other (omega arith)
-
-pub seek_along-ends : (path : Path) (from n : ℕ) (m : Seek) → m.phase ≢ phase.Profile
-    → from + n ≤ end_in m m.phase → seek_along path from n m ≡ advanced (from + n) m
-seek_along-ends path from zero m other early =
-    seek_along-zero path from m ∙ ap (advanced from) (profiled-same path from m m.phase other)
-    ∙ ap (λ at. advanced at m) (sym (add-zero from))
-seek_along-ends path from (suc n) m other early =
-    let before = seek_along-stays path from n m other (omega arith) in
-    seek_along-suc path from n m m before ∙ ap (advanced (from + suc n)) (profiled-same path (from + suc n) m m.phase other)
 
 -- ---- a search that notes heads has those of the path
 
@@ -262,16 +234,6 @@ heads_of-next path from n k nowhere =
     ∙ ap (λ at. note at (head_at path at) (heads_of path from (n + k))) count
     ∙ ap (note (from + n + k + 1) (head_at path (from + n + k + 1))) (heads_of-same path from n k nowhere)
 
-length-note : (count : ℕ) (met : Option ℕ) (table : List (Option Head)) → length (note count met table) ≡ length table
-length-note count None table = refl
-length-note count (Some address) table =
-    length-set table (slot_of address) (meet address count (slice_index_or table (slot_of address) None))
-
-pub length-heads_of : (path : Path) (from n : ℕ) → length (heads_of path from n) ≡ table_slots
-length-heads_of path from zero = ap length (heads_of-zero path from) ∙ (empty no_heads refl).slots
-length-heads_of path from (suc n) = ap length (heads_of-suc path from n)
-    ∙ length-note (from + suc n) (head_at path (from + suc n)) (heads_of path from n) ∙ length-heads_of path from n
-
 pub AreEarlier-later : (a b : ℕ) (table : List (Option Head)) → a ≤ b → AreEarlier a table → AreEarlier b table
 AreEarlier-later a b table le early k h there = let lt = early k h there in omega arith
 
@@ -386,7 +348,3 @@ later a b m phase.Profile le behind = omega arith
 later a b m (phase.Trial t) le behind = omega arith
 later a b m (phase.Service v) le behind = omega arith
 later a b m (phase.Rest until) le behind = tt
-
--- a later count is behind it too
-pub IsBehind-later : (a b : ℕ) (m : Seek) → a ≤ b → IsBehind a m → IsBehind b m
-IsBehind-later a b m le behind = later a b m m.phase le behind

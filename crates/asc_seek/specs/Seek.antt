@@ -161,7 +161,7 @@ abbrev pub next_candidate : (count : ℕ) → (tried : Option Head) → Seek →
 next_candidate count tried m =
     if nat_lt count (m.since + (1 + tried_stretches) * m.stretch) then candidate_behind m.seeking tried m.table else None
 
--- a head is tried from a count on
+-- a head has its turn: from a count on its first visit is waited for
 abbrev pub trying : (count : ℕ) → Head → Seek → Seek
 trying count h m = record m { phase = phase.Trial (record { head = h; begun = false; from = count; given = 0 }) }
 

@@ -470,7 +470,7 @@ impl Seeker {
 }
 
 impl Trial {
-    // Learns of a visit at a count.
+    // Learns of a visit at a count, the first of which begins it.
     fn visit(&mut self, seeking: Seeking, at: u64, reply: Option<u64>)
         requires ahead { seeking.ahead ≤ 64 }
         requires times { 2 ≤ self.old.head.times }
@@ -486,7 +486,7 @@ impl Trial {
         self.given += given_at(reached, at, reply);
     }
 
-    // Its first visit begins it.
+    // Begins at this count, unless it has begun.
     fn begin(&mut self, at: u64)
         requires behind { self.old.from + self.old.given ≤ at }
         ensures begun { self.new ≡ begun_at at self.old }

@@ -12,7 +12,6 @@ mod state;
 mod steps;
 mod words;
 
-pub use asc_model::{Status, Version};
 pub use bytes::Bytes;
 pub use guess::Guess;
 pub use laws::good_shapes_are_made;

@@ -9,7 +9,7 @@ ghost use Rattle.asc_shape.specs.State.{zero_state};
 use crate::page::elements_are_bytes;
 use crate::{Shape, State};
 use asc_outside::Memory;
-use asc_pages::{FRONT, Marks, Pages, word_in};
+use asc_pages::{DirtyPages, FRONT, Pages, word_in};
 use std::alloc::Global;
 use std::marker::Model;
 use std::sync::Arc;
@@ -71,12 +71,12 @@ impl Snapshot {
         alloc: Global,
         shape: Shape,
         bytes: &[u8],
-        changed: &Marks,
+        changed: &DirtyPages,
         base: &Option<Pages>,
         spare: Option<Arc<Snapshot>>,
     ) -> Result<Arc<Snapshot>, Memory>
         requires length { length bytes.now ≡ length_of shape }
-        requires marks { length changed.now ≡ length_of shape / 1024 + 1 }
+        requires pages { length changed.now ≡ length_of shape / 1024 + 1 }
         requires kept { Keeps changed.now (base_bytes base.now) bytes.now }
         ensures { IfOk result (λ s. s.value ≡ record { shape = shape; bytes = bytes.now }) }
     {
@@ -108,11 +108,11 @@ impl Snapshot {
         &mut self,
         alloc: Global,
         bytes: &[u8],
-        changed: &Marks,
+        changed: &DirtyPages,
         base: &Option<Pages>,
     ) -> Result<(), Memory>
         requires length { length bytes.now ≡ length_of self.old.shape }
-        requires marks { length changed.now ≡ length_of self.old.shape / 1024 + 1 }
+        requires pages { length changed.now ≡ length_of self.old.shape / 1024 + 1 }
         requires kept { Keeps changed.now (base_bytes base.now) bytes.now }
         ensures { IfOk result (λ _. self.new ≡ record self.old { bytes = bytes.now }) }
     {

@@ -9,7 +9,7 @@ ghost use Rattle.asc_shape.specs.Face.{Untold};
 ghost use Rattle.std.specs.Borrow.{Lends, Array, sem, u8 as byte};
 ghost use Rattle.asc_shape.specs.contracts.state.State.{the_row};
 ghost use Rattle.asc_pages.specs.Pages.{IsPage, Keeps, base_bytes};
-ghost use Rattle.asc_shape.specs.Inside.{IsMarked};
+ghost use Rattle.asc_shape.specs.Inside.{Dirties};
 ghost use Rattle.asc_shape.specs.Stride.{strided, strided_byte};
 ghost use Rattle.asc_outside.specs.Outside.{HasCause, IsAtEnd};
 ghost use Rattle.asc_shape.specs.TakesIn.{TakesIn};
@@ -19,7 +19,7 @@ use crate::page::{elements_are_bytes, put_page, put_pages, stride, stride_pages}
 use crate::snapshot::front_of;
 use crate::{Bytes, Shape, Snapshot, Words};
 use asc_outside::{Failed, Memory, Source};
-use asc_pages::{FRONT, Marks, PAGE, Pages};
+use asc_pages::{DirtyPages, FRONT, PAGE, Pages};
 use std::alloc::Global;
 use std::marker::Model;
 use std::sync::Arc;
@@ -34,7 +34,7 @@ pub struct State {
     // What the pages that are not changed have; zeros where there are none.
     base: Option<Pages>,
     // For each page, whether it may differ from the base's.
-    changed: Marks,
+    changed: DirtyPages,
 }
 
 impl Model for State {
@@ -75,7 +75,7 @@ impl State {
             shape,
             bytes: vec![in alloc; 0; len]?,
             base: None,
-            changed: Marks::new(alloc, len / PAGE + 1)?,
+            changed: DirtyPages::new(alloc, len / PAGE + 1)?,
         })
     }
 
@@ -113,8 +113,8 @@ impl State {
         ensures { self.new ≡ record self.old { bytes = slice_set self.old.bytes place byte } }
     {
         self.bytes[place as usize] = byte;
-        // The mark comes last: so a function that ends with a put need not keep anything for it.
-        self.changed.mark(place as usize / PAGE);
+        // Its page comes last: so a function that ends with a put need not keep anything for it.
+        self.changed.add(place as usize / PAGE);
     }
 
     /// The word in the four bytes from a place on.
@@ -137,7 +137,7 @@ impl State {
         let at = place as usize;
         self.bytes[at..at + 4].copy_from_slice(&word.to_le_bytes());
         // Last, as in `set`.
-        mark_word(&mut self.changed, at);
+        add_word(&mut self.changed, at);
     }
 
     /// The pc.
@@ -199,7 +199,7 @@ impl State {
     }
 
     /// The n bytes of memory from an address on, for writing. All pages from there to the end of memory count as
-    /// changed; `write` and `take_in` mark theirs alone.
+    /// changed; `write` and `take_in` add theirs alone.
     pub fn mem_mut(&mut self, at: u32, n: u32) -> &mut [u8]
         requires { IsTrue (holds self.old.shape at n) }
         ensures* writes_back { sem 𝓛 (Lends the_row (Array byte 0) self.entry result (with_memory self.old at)) }
@@ -208,7 +208,7 @@ impl State {
     {
         let from = self.place(at);
         let len = self.bytes.len();
-        mark(&mut self.changed, from, len - from);
+        add_pages(&mut self.changed, from, len - from);
         self.bytes.slice_mut(from..from + n as usize)
     }
 
@@ -220,7 +220,7 @@ impl State {
         let _ = self.shape();
         elements_are_bytes(bytes);
         let from = self.place(at);
-        mark(&mut self.changed, from, bytes.len());
+        add_pages(&mut self.changed, from, bytes.len());
         self.bytes[from..from + bytes.len()].copy_from_slice(bytes);
     }
 
@@ -234,7 +234,7 @@ impl State {
         ensures cause { HasCause (I.faults input.old) (I.faults input.new) result }
     {
         let from = self.place(at);
-        mark(&mut self.changed, from, n as usize);
+        add_pages(&mut self.changed, from, n as usize);
         input.take(&mut self.bytes[from..from + n as usize])
     }
 
@@ -245,7 +245,7 @@ impl State {
     {
         let _ = self.shape();
         let from = self.place(at);
-        mark(&mut self.changed, from, n as usize);
+        add_pages(&mut self.changed, from, n as usize);
         self.bytes[from..from + n as usize].fill(0);
     }
 
@@ -266,7 +266,7 @@ impl State {
         ensures { self.new ≡ from.now }
     {
         self.bytes.copy_from_slice(&from.bytes);
-        self.changed.mark_all();
+        self.changed.add_all();
         self.base = None;
     }
 
@@ -278,7 +278,7 @@ impl State {
         // That they are states: so they have as many bytes.
         let _ = (self.shape(), from.shape());
         put_snapshot(&mut self.bytes, from);
-        self.changed.mark_all();
+        self.changed.add_all();
         self.base = None;
     }
 
@@ -290,7 +290,7 @@ impl State {
         // That they are states: so they have as many bytes.
         let _ = (self.shape(), prev.shape());
         stride_by(&mut self.bytes, prev, ahead);
-        self.changed.mark_all();
+        self.changed.add_all();
         self.base = None;
     }
 
@@ -411,54 +411,54 @@ impl Words for State {
     }
 }
 
-// Marks the pages of the word at a place. The front needs no marks.
+// The pages of the word at a place become dirty. Those of the front alone need not.
 //
-// It is always taken into its caller: where that puts a register, the compiler then sees that nothing is to be marked.
+// It is always taken into its caller: where that puts a register, the compiler then sees that no page is to be added.
 #[inline(always)]
-fn mark_word(changed: &mut Marks, at: usize)
+fn add_word(changed: &mut DirtyPages, at: usize)
     requires within { at + 4 < 2 ^ 32 }
     requires pages { (at + 3) / 1024 < length changed.old }
-    ensures { IsMarked at 4 changed.old changed.new }
+    ensures { Dirties at 4 changed.old changed.new }
 {
     if at + 3 >= FRONT {
         // A word at a multiple of 4 lies in one page.
         if at.is_multiple_of(4) {
-            changed.mark(at / PAGE);
+            changed.add(at / PAGE);
         } else {
-            mark_both(changed, at);
+            add_both(changed, at);
         }
     }
 }
 
-// Marks the pages of the first and of the last byte of the word at a place. It stands out of the loops, so that they
-// have one mark to set at most.
+// The pages of the first and of the last byte of the word at a place become dirty. It stands out of the loops, so that they
+// have one page to add at most.
 #[cold]
 #[inline(never)]
-fn mark_both(changed: &mut Marks, at: usize)
+fn add_both(changed: &mut DirtyPages, at: usize)
     requires within { at + 4 < 2 ^ 32 }
     requires pages { (at + 3) / 1024 < length changed.old }
-    ensures { IsMarked at 4 changed.old changed.new }
+    ensures { Dirties at 4 changed.old changed.new }
 {
-    changed.mark(at / PAGE);
-    changed.mark((at + 3) / PAGE);
+    changed.add(at / PAGE);
+    changed.add((at + 3) / PAGE);
 }
 
-// Marks the pages of the n places from a place on.
-fn mark(changed: &mut Marks, from: usize, n: usize)
+// The pages of the n places from a place on become dirty.
+fn add_pages(changed: &mut DirtyPages, from: usize, n: usize)
     requires within { from + n < 2 ^ 32 }
     requires pages { (from + n) / 1024 < length changed.old }
-    ensures { IsMarked from n changed.old changed.new }
+    ensures { Dirties from n changed.old changed.new }
 {
     for p in from / PAGE..(from + n + (PAGE - 1)) / PAGE {
-        changed.mark(p);
+        changed.add(p);
     }
 }
 
 // Makes all bytes 0, where those of pages that are not changed are the base's.
-fn fill_bytes(bytes: &mut [u8], changed: &Marks, base: &Option<Pages>)
+fn fill_bytes(bytes: &mut [u8], changed: &DirtyPages, base: &Option<Pages>)
     requires least { 136 ≤ length bytes.old }
     requires most { length bytes.old < 2 ^ 32 }
-    requires marks { length changed.now ≡ length bytes.old / 1024 + 1 }
+    requires pages { length changed.now ≡ length bytes.old / 1024 + 1 }
     requires kept { Keeps changed.now (base_bytes base.now) bytes.old }
     ensures { bytes.new ≡ replicate (length bytes.old) 0 }
 {
@@ -467,9 +467,9 @@ fn fill_bytes(bytes: &mut [u8], changed: &Marks, base: &Option<Pages>)
 }
 
 // Fills the pages with zeros that are changed or that the base has.
-fn fill_pages(bytes: &mut [u8], changed: &Marks, base: &Option<Pages>)
+fn fill_pages(bytes: &mut [u8], changed: &DirtyPages, base: &Option<Pages>)
     requires most { length bytes.old < 2 ^ 32 }
-    requires marks { length changed.now ≡ length bytes.old / 1024 + 1 }
+    requires pages { length changed.now ≡ length bytes.old / 1024 + 1 }
     requires kept { Keeps changed.now (base_bytes base.now) bytes.old }
     ensures size { length bytes.new ≡ length bytes.old }
     ensures zeros { (i : ℕ) → 136 ≤ i → i < length bytes.new → slice_index bytes.new i ≡ 0 }
@@ -478,7 +478,7 @@ fn fill_pages(bytes: &mut [u8], changed: &Marks, base: &Option<Pages>)
         return;
     }
     for p in 0..changed.len() {
-        if changed.is_marked(p) || !is_blank_in(base, p) {
+        if changed.is_dirty(p) || !is_blank_in(base, p) {
             put_page(bytes, p, &[]);
         }
     }

@@ -1,4 +1,4 @@
--- A few entries of one mark, each compared once.
+-- A few entries of one key, each compared once.
 use Rattle.std.proofs.Common.{◌≡◌, ℕ, zero, suc, ◌+◌, ◌-◌, ◌<◌, ◌≤◌, true, List, [], ◌∷◌, subst, ◌∙◌, inl, inr, ap, arith, length}
 use Rattle.std.specs.Prelude.{All, sum_by}
 use Rattle.std.specs.Ordering.{is_eq}
@@ -10,8 +10,8 @@ use Rattle.std.proofs.lemmas.List.Sums.{sum_by-cons}
 use Rattle.asc_model.specs.State.{State}
 use Rattle.asc_model.specs.Entry.{Entry}
 use Rattle.asc_shard.specs.Groups.{AreAsked, Asked, IsAsked, IsFew}
-use Rattle.asc_shard.specs.Marks.{may_match}
-use Rattle.asc_shard.specs.Inside.{IsFrom, IsIndex, by_group, mark_of, sorted_of}
+use Rattle.asc_shard.specs.Fingerprints.{may_match}
+use Rattle.asc_shard.specs.Inside.{IsFrom, IsIndex, by_group, key_of, sorted_of}
 use Rattle.asc_shard.proofs.Orders.{groups_total, is-equal, less-above}
 use Rattle.asc_shard.proofs.Slots.{nth, range-up}
 use Rattle.asc_shard.proofs.Ranges.{apart-more, asked-one, froms-one}
@@ -24,9 +24,9 @@ few-four (suc (suc (suc zero))) some most = (1, omega arith, omega arith)
 few-four (suc (suc (suc (suc zero)))) some most = (2, omega arith, omega arith)
 few-four (suc (suc (suc (suc (suc n))))) some most = absurd (omega arith)
 
--- These entries are of one mark, which the state has.
+-- These entries are of one key, which the state has.
 module _ (held : List Entry) (slots : List ℕ) (s : State) (low high : ℕ) (index : IsIndex held slots) (most : high ≤ length slots) (few : high - low ≤ 4)
-    (marks : (i j : ℕ) → low ≤ i → i < high → low ≤ j → j < high → mark_of (nth (sorted_of held slots) i) ≡ mark_of (nth (sorted_of held slots) j))
+    (keys : (i j : ℕ) → low ≤ i → i < high → low ≤ j → j < high → key_of (nth (sorted_of held slots) i) ≡ key_of (nth (sorted_of held slots) j))
     (prints : (i : ℕ) → low ≤ i → i < high → may_match s (nth (sorted_of held slots) i) ≡ true) where
   abbrev at : ℕ → Entry
   at i = nth (sorted_of held slots) i
@@ -42,7 +42,7 @@ module _ (held : List Entry) (slots : List ℕ) (s : State) (low high : ℕ) (in
       | inr past ↦ ap (λ k. by_group (at from) (at k)) (let e : i ≡ m = omega arith in e) ∙ is-equal (by_group (at from) (at m)) is
     ])
     | inr apart ↦
-        let up = range-up held slots from high index most (λ i j behind below behind_j below_j. marks i j (omega arith) below (omega arith) below_j) in
+        let up = range-up held slots from high index most (λ i j behind below behind_j below_j. keys i j (omega arith) below (omega arith) below_j) in
         (m, lt, omega (arith, sum), same, λ i behind below. less-above groups_total at from high up m i (omega arith) behind below apart)
   ]
 

@@ -1,27 +1,29 @@
 -- The index is kept: where an entry is put, and where the oldest goes.
-use Rattle.std.proofs.Common.{◌≡◌, ℕ, zero, suc, ◌+◌, ◌-◌, ◌<◌, ◌≤◌, ◌==◌, ◌&&◌, ◌||◌, Bool, true, false, cond, List, [], ◌∷◌, ◌++◌, length, get_or, map, None, Some, refl, sym, ap, subst, ◌∙◌, inl, inr, arith, add-one}
+use Rattle.std.proofs.lemmas.List.Folds.{fold-map, list_any_at, list_any_none}
+use Rattle.std.proofs.lemmas.Simd.{map-map}
+use Rattle.std.proofs.Common.{◌≡◌, ℕ, zero, suc, ◌+◌, ◌-◌, ◌<◌, ◌≤◌, ◌==◌, ◌&&◌, Bool, true, false, cond, List, [], ◌∷◌, ◌++◌, length, get_or, map, None, Some, refl, sym, ap, subst, ◌∙◌, inl, inr, arith, add-one}
 use Rattle.std.specs.Prelude.{All, count_by, nat_lt}
 use Rattle.std.specs.List.{AllPairs, insert, list_any, position_or_len, remove}
 use Rattle.std.specs.Ordering.{nat_cmp, ordering_reverse, is_eq, is_lt}
 use Rattle.std.specs.Cmp.Lexicographic.{slice_cmp}
 use Rattle.std.specs.declared.cmp.Ordering.TheVariants.{Less, Equal}
 use lib.Pointwise.{pointwise}
-use Rattle.std.proofs.lemmas.Bool.{and_parts, and_from, cases_Bool, cases_eq, cases_order, eq-eqb, eqb-true, ne_eqb, false≢true, false_from_ne_true, or_parts, or_from, or_left, or_right, cond-true, cond-false, lt-ltb, ltb-false}
+use Rattle.std.proofs.lemmas.Bool.{and_parts, and_from, cases_Bool, cases_eq, cases_order, eq-eqb, eqb-true, ne_eqb, false≢true, false_from_ne_true, cond-true, cond-false, lt-ltb, ltb-false}
 use Rattle.std.proofs.lemmas.Cmp.{tied_itself, alike_right}
 use Rattle.std.proofs.lemmas.List.{length-map, get_or_append_left, get_or_push, get_or_default, length_push}
-use Rattle.std.proofs.lemmas.List.Elements.{All-cons, All-head, All-push, All-tail, All-map}
+use Rattle.std.proofs.lemmas.List.Elements.{All-from_get_or, All-head, All-push, All-tail, All-map}
 use Rattle.std.proofs.lemmas.List.Edits.{length-insert, length-remove}
 use Rattle.std.proofs.lemmas.List.Quantifiers.{all_pairs_remove, position-Some}
-use Rattle.std.proofs.lemmas.List.Sums.{sum_by-cons, sum_by-insert, sum_by-remove, fails_before_first}
+use Rattle.std.proofs.lemmas.List.Sums.{get_or-le-sum_by, sum_by-cons, sum_by-insert, sum_by-remove, fails_before_first}
 use Rattle.asc_model.specs.Shape.{Shape, is_same_shape}
 use Rattle.asc_model.specs.Entry.{Entry, IsTrueEntry}
 use Rattle.asc_shard.specs.Content.{is_same_entry}
-use Rattle.asc_shard.specs.Inside.{IsIndex, by_all, by_group, by_head, by_mark, by_tail, bytes_of, count_below, mark_of, no_entry, places_of, sorted_of}
+use Rattle.asc_shard.specs.Inside.{IsIndex, by_all, by_group, by_head, by_key, by_tail, bytes_of, count_below, key_of, no_entry, places_of, sorted_of}
 use Rattle.asc_shard.proofs.Orders.{all_total, is-equal, nat-equal, not-less, then-equal}
-use Rattle.asc_shard.proofs.Lists.{all-insert, all-remove, map-insert, map-remove, pairs-insert}
+use Rattle.asc_shard.proofs.Lists.{count-none, all-insert, all-remove, map-insert, map-remove, pairs-insert}
 use Rattle.asc_shard.proofs.Slots.{nth, sorted-length}
-use Rattle.asc_shard.proofs.Ranges.{count-index, group-shape, group-places, same-list, same-shape}
-use Rattle.asc_shard.proofs.Matching.{shape-self}
+use Rattle.asc_shard.proofs.Ranges.{count-index, group-shape, group-places, same-list}
+use Rattle.asc_model.proofs.Shapes.{is_same_shape-refl, is_same_shape-true}
 
 -- ---- entries that are the same
 
@@ -35,40 +37,34 @@ same-cells (x ∷ xs) [] e = cc
 same-cells (x ∷ xs) (y ∷ ys) e =
     let parts = and_parts (is_same_cell x y) (pointwise is_same_cell xs ys) e in
     let both = and_parts (x.0 == y.0) (x.1 == y.1) parts.0 in
-    let pair : ℕ → ℕ → ℕ × ℕ = λ a b. (a, b) in
-    ap (λ a. pair a x.1 ∷ xs) (eqb-true x.0 y.0 both.0) ∙ ap (λ b. pair y.0 b ∷ xs) (eqb-true x.1 y.1 both.1) ∙ ap (λ list. y ∷ list) (same-cells xs ys parts.1)
+    λ i. (eqb-true x.0 y.0 both.0 i, eqb-true x.1 y.1 both.1 i) ∷ same-cells xs ys parts.1 i
 
 cells-same : (xs ys : List (ℕ × ℕ)) → places_of xs ≡ places_of ys → bytes_of xs ≡ bytes_of ys → pointwise is_same_cell ys xs ≡ true
 cells-same [] [] e k = refl
 cells-same [] (y ∷ ys) e k = cc
 cells-same (x ∷ xs) [] e k = cc
 cells-same (x ∷ xs) (y ∷ ys) e k =
-    let place : y.0 ≡ x.0 = cc in
-    let byte : y.1 ≡ x.1 = cc in
     let places : places_of xs ≡ places_of ys = cc in
     let bytes : bytes_of xs ≡ bytes_of ys = cc in
-    and_from (is_same_cell y x) (pointwise is_same_cell ys xs) (and_from (y.0 == x.0) (y.1 == x.1) (eq-eqb y.0 x.0 place) (eq-eqb y.1 x.1 byte)) (cells-same xs ys places bytes)
+    and_from (is_same_cell y x) (pointwise is_same_cell ys xs) (and_from (y.0 == x.0) (y.1 == x.1) (eq-eqb y.0 x.0 cc) (eq-eqb y.1 x.1 cc)) (cells-same xs ys places bytes)
 
 -- the order looks at these parts alone
 abbrev parts_of : Shape → List (ℕ × ℕ) → ℕ → Entry
 parts_of shape reads steps = record { shape = shape; reads = reads; writes = []; steps = steps }
 
-same-equal : (e h : Entry) → is_same_entry e h ≡ true → by_all h e ≡ Equal
+pub same-equal : (e h : Entry) → is_same_entry e h ≡ true → by_all h e ≡ Equal
 same-equal e h same =
     let parts = and_parts (is_same_shape e.shape h.shape && (e.steps == h.steps)) (pointwise is_same_cell e.reads h.reads) same in
     let first = and_parts (is_same_shape e.shape h.shape) (e.steps == h.steps) parts.0 in
-    ap (λ shape. by_all h (parts_of shape e.reads e.steps)) (same-shape e.shape h.shape first.0)
-    ∙ ap (λ reads. by_all h (parts_of h.shape reads e.steps)) (same-cells e.reads h.reads parts.1)
-    ∙ ap (λ steps. by_all h (parts_of h.shape h.reads steps)) (eqb-true e.steps h.steps first.1)
-    ∙ tied_itself all_total h
+    (λ i. by_all h (parts_of (is_same_shape-true e.shape h.shape first.0 i) (same-cells e.reads h.reads parts.1 i) (eqb-true e.steps h.steps first.1 i))) ∙ tied_itself all_total h
 
-equal-same : (e h : Entry) → by_all h e ≡ Equal → is_same_entry e h ≡ true
+pub equal-same : (e h : Entry) → by_all h e ≡ Equal → is_same_entry e h ≡ true
 equal-same e h equal =
     let parts = then-equal (by_head h e) (by_tail h e) equal in
-    let group = (then-equal (by_mark (mark_of h) (mark_of e)) (by_group h e) parts.0).1 in
+    let group = (then-equal (by_key (key_of h) (key_of e)) (by_group h e) parts.0).1 in
     let tail = then-equal (slice_cmp nat_cmp (bytes_of h.reads) (bytes_of e.reads)) (nat_cmp h.steps e.steps) parts.1 in
     and_from (is_same_shape e.shape h.shape && (e.steps == h.steps)) (pointwise is_same_cell e.reads h.reads)
-    (and_from (is_same_shape e.shape h.shape) (e.steps == h.steps) (ap (is_same_shape e.shape) (group-shape h e group) ∙ shape-self e.shape)
+    (and_from (is_same_shape e.shape h.shape) (e.steps == h.steps) (ap (is_same_shape e.shape) (group-shape h e group) ∙ is_same_shape-refl e.shape)
     (eq-eqb e.steps h.steps (sym (nat-equal h.steps e.steps tail.1))))
     (cells-same h.reads e.reads (group-places h e group) (same-list (bytes_of h.reads) (bytes_of e.reads) tail.0))
 
@@ -79,30 +75,15 @@ any-count f [] = refl
 any-count f (e ∷ held) =
     let counted = sum_by-cons (λ x. cond (f x) 1 0) e held in
     elim (cases_Bool (f e)) [
-      | inl is ↦
-          let here = ap (λ (b : Bool). cond {A = ℕ} b 1 0) is in
-          ap (λ b. b || list_any f held) is ∙ sym (lt-ltb 0 (count_by f (e ∷ held)) (omega (arith, here, counted)))
-      | inr not ↦
-          let here = ap (λ (b : Bool). cond {A = ℕ} b 1 0) not in
-          ap (λ b. b || list_any f held) not ∙ any-count f held ∙ ap (nat_lt 0) (let same : count_by f held ≡ count_by f (e ∷ held) = omega (arith, here, counted) in same)
+      | inl is ↦ rw (counted, is) (sym (lt-ltb 0 (1 + count_by f held) (omega arith)))
+      | inr not ↦ rw (counted, not) (any-count f held ∙ ap (nat_lt 0) (let same : count_by f held ≡ 0 + count_by f held = omega arith in same))
     ]
 
-any-index : (f : Entry → Bool) (held : List Entry) (slots : List ℕ) → IsIndex held slots → list_any f (sorted_of held slots) ≡ list_any f held
+pub any-index : (f : Entry → Bool) (held : List Entry) (slots : List ℕ) → IsIndex held slots → list_any f (sorted_of held slots) ≡ list_any f held
 any-index f held slots index = any-count f (sorted_of held slots) ∙ ap (nat_lt 0) (count-index f held slots index) ∙ sym (any-count f held)
 
-any-at : (f : Entry → Bool) (xs : List Entry) (i : ℕ) → i < length xs → f (nth xs i) ≡ true → list_any f xs ≡ true
-any-at f [] i lt is = absurd (omega arith)
-any-at f (x ∷ xs) zero lt is = or_left (f x) (list_any f xs) is
-any-at f (x ∷ xs) (suc i) lt is = or_right (f x) (list_any f xs) (any-at f xs i (omega arith) is)
-
-any-none : (f : Entry → Bool) (xs : List Entry) → ((i : ℕ) → i < length xs → f (nth xs i) ≡ false) → list_any f xs ≡ false
-any-none f [] none = refl
-any-none f (x ∷ xs) none = or_from (f x) (list_any f xs) (none 0 (omega arith)) (any-none f xs (λ i lt. none (suc i) (omega arith)))
-
-none-at : (f : Entry → Bool) (xs : List Entry) (i : ℕ) → i < length xs → list_any f xs ≡ false → f (nth xs i) ≡ false
-none-at f [] i lt none = absurd (omega arith)
-none-at f (x ∷ xs) zero lt none = (or_parts (f x) (list_any f xs) none).0
-none-at f (x ∷ xs) (suc i) lt none = none-at f xs i (omega arith) (or_parts (f x) (list_any f xs) none).1
+pub any-none : (f : Entry → Bool) (xs : List Entry) → ((i : ℕ) → i < length xs → f (nth xs i) ≡ false) → list_any f xs ≡ false
+any-none f xs none = list_any_none f xs (All-from_get_or (λ x. f x ≡ false) xs no_entry none)
 
 module _ (held : List Entry) (slots : List ℕ) (index : IsIndex held slots) (e : Entry) (place : ℕ)
     (before : (i : ℕ) → i < place → by_all (nth (sorted_of held slots) i) e ≡ Less)
@@ -124,7 +105,7 @@ module _ (held : List Entry) (slots : List ℕ) (index : IsIndex held slots) (e 
   same-there r is lt = elim (cases_Bool (is_eq (by_all (at place) e))) [
     | inl equal ↦
         is ∙ equal ∙ sym (sym (any-index (is_same_entry e) held slots index)
-        ∙ any-at (is_same_entry e) (sorted_of held slots) place (omega (arith, sorted-length held slots)) (equal-same e (at place) (is-equal (by_all (at place) e) equal)))
+        ∙ list_any_at (is_same_entry e) (sorted_of held slots) place no_entry (omega (arith, sorted-length held slots)) (equal-same e (at place) (is-equal (by_all (at place) e) equal)))
     | inr not ↦
         is ∙ not ∙ sym (sym (any-index (is_same_entry e) held slots index) ∙ any-none (is_same_entry e) (sorted_of held slots)
         (λ i below. apart-from i (λ equal. elim (cases_order i place) [
@@ -140,8 +121,9 @@ module _ (held : List Entry) (slots : List ℕ) (index : IsIndex held slots) (e 
   -- where none is the same those behind the place come behind the entry
   pub behind-place : list_any (is_same_entry e) held ≡ false → (i : ℕ) → place ≤ i → i < length slots → by_all e (at i) ≡ Less
   behind-place none i least lt = elim (not-less (by_all (at i) e) (rest i least lt)) [
-    | inl equal ↦ absurd (false≢true (sym (none-at (is_same_entry e) (sorted_of held slots) i (omega (arith, sorted-length held slots)) (any-index (is_same_entry e) held slots index ∙ none))
-        ∙ equal-same e (at i) equal))
+    | inl equal ↦
+        let there = list_any_at (is_same_entry e) (sorted_of held slots) i no_entry (omega (arith, sorted-length held slots)) (equal-same e (at i) equal) in
+        absurd (false≢true (sym (any-index (is_same_entry e) held slots index ∙ none) ∙ there))
     | inr more ↦ all_total.antisymm e (at i) ∙ ap ordering_reverse more
   ]
 
@@ -150,7 +132,7 @@ module _ (held : List Entry) (slots : List ℕ) (index : IsIndex held slots) (e 
 map-same : (f g : ℕ → Entry) (slots : List ℕ) → All (λ slot. f slot ≡ g slot) slots → map f slots ≡ map g slots
 map-same f g [] all = refl
 map-same f g (slot ∷ slots) all =
-    ap (λ e. e ∷ map f slots) (All-head (λ x. f x ≡ g x) slot slots all) ∙ ap (λ list. g slot ∷ list) (map-same f g slots (All-tail (λ x. f x ≡ g x) slot slots all))
+    λ i. All-head (λ x. f x ≡ g x) slot slots all i ∷ map-same f g slots (All-tail (λ x. f x ≡ g x) slot slots all) i
 
 pub sorted-added : (held : List Entry) (slots : List ℕ) (e : Entry) (place : ℕ) → IsIndex held slots → sorted_of (held ++ e ∷ []) (insert slots place (length held)) ≡ insert (sorted_of held slots) place e
 sorted-added held slots e place index =
@@ -193,45 +175,21 @@ count-after f (suc n) =
     let last = ap (λ k. cond {A = ℕ} (f k) 1 0) (let z : suc n - 1 ≡ n = omega arith in z) in
     omega (arith, ih, last)
 
-count-fallen : (f : ℕ → Bool) (slots : List ℕ) → count_by f (map (λ p. p - 1) slots) ≡ count_by (λ p. f (p - 1)) slots
-count-fallen f [] = refl
-count-fallen f (p ∷ slots) =
-    let ih = count-fallen f slots in
-    let left = sum_by-cons (λ (x : ℕ). cond (f x) 1 0) (p - 1) (map (λ x. x - 1) slots) in
-    let right = sum_by-cons (λ (x : ℕ). cond (f (x - 1)) 1 0) p slots in
-    omega (arith, ih, left, right)
-
 none-zero : (slots : List ℕ) → count_by (λ p. p == 0) slots ≡ 0 → All (λ p. 1 ≤ p) slots
-none-zero [] none = λ k d lt. absurd (omega arith)
-none-zero (p ∷ slots) none =
-    let counted = sum_by-cons (λ (x : ℕ). cond (x == 0) 1 0) p slots in
-    All-cons (λ x. 1 ≤ x) p slots (elim (cases_eq p 0) [
-      | inl zero_there ↦ let here = ap (λ (b : Bool). cond {A = ℕ} b 1 0) (eq-eqb p 0 zero_there) in absurd (omega (arith, here, counted, none))
+none-zero slots none k d lt =
+    let le = get_or-le-sum_by (λ (x : ℕ). cond (x == 0) 1 0) slots k d lt in
+    elim (cases_eq (get_or slots k d) 0) [
+      | inl is ↦ let one = ap (λ (b : Bool). cond {A = ℕ} b 1 0) (eq-eqb (get_or slots k d) 0 is) in absurd (omega (arith, le, one, none))
       | inr apart ↦ omega (arith, apart)
-    ]) (none-zero slots (omega (arith, counted, none)))
+    ]
 
-count-zero : (n : ℕ) → count_below (λ p. p == 0) (suc n) ≡ 1
-count-zero zero = refl
-count-zero (suc n) =
-    let ih = count-zero n in
+count-zero : (n : ℕ) → 0 < n → count_below (λ p. p == 0) n ≡ 1
+count-zero zero some = absurd (omega arith)
+count-zero (suc zero) some = refl
+count-zero (suc (suc n)) some =
+    let ih = count-zero (suc n) (omega arith) in
     let here : cond {A = ℕ} (suc n == 0) 1 0 ≡ 0 = cond-false (suc n == 0) 1 0 (ne_eqb (suc n) 0 (λ e. omega arith)) in
     omega (arith, ih, here)
-
-count-zero-of : (n : ℕ) → 0 < n → count_below (λ p. p == 0) n ≡ 1
-count-zero-of zero some = absurd (omega arith)
-count-zero-of (suc n) some = count-zero n
-
-map-fallen : (held : List Entry) (slots : List ℕ) → sorted_of held (map (λ p. p - 1) slots) ≡ map (λ p. nth held (p - 1)) slots
-map-fallen held [] = refl
-map-fallen held (p ∷ slots) = ap (λ list. nth held (p - 1) ∷ list) (map-fallen held slots)
-
-no-count : (slots : List ℕ) → ((k : ℕ) (d : ℕ) → k < length slots → (get_or slots k d == 0) ≡ false) → count_by (λ p. p == 0) slots ≡ 0
-no-count [] none = refl
-no-count (p ∷ slots) none =
-    let ih = no-count slots (λ k d lt. none (suc k) d (omega arith)) in
-    let here = ap (λ (b : Bool). cond {A = ℕ} b 1 0) (none 0 p (omega arith)) in
-    let counted = sum_by-cons (λ (x : ℕ). cond (x == 0) 1 0) p slots in
-    omega (arith, ih, here, counted)
 
 -- the oldest stands somewhere
 pub oldest-there : (held : List Entry) (slots : List ℕ) → IsIndex held slots → 0 < length held → (k : ℕ) × (k < length slots) × (get_or slots k 0 ≡ 0)
@@ -239,40 +197,34 @@ oldest-there held slots index some =
     let is_oldest = λ (p : ℕ). p == 0 in
     let first = position_or_len is_oldest slots in
     let once = index.once (λ p. p == 0) in
-    let one = count-zero-of (length held) some in
+    let one = count-zero (length held) some in
     elim (cases_Bool (nat_lt first (length slots))) [
       | inl there ↦
           let is = position-Some is_oldest slots first 0 (cond-true (nat_lt first (length slots)) (Some first) None there) in
           (first, is.0, eqb-true (get_or slots first 0) 0 is.1)
       | inr not ↦
           let most = ltb-false first (length slots) not in
-          let none = no-count slots (λ k d lt. fails_before_first is_oldest slots k d (omega (arith, most, lt))) in
+          let none = count-none is_oldest slots (λ k d lt. fails_before_first is_oldest slots k d (omega (arith, most, lt))) in
           absurd (omega (arith, once, one, none))
     ]
-
--- no other position is the oldest one's
-others-later : (held : List Entry) (slots : List ℕ) (place : ℕ) → IsIndex held slots → 0 < length held → place < length slots → get_or slots place 0 ≡ 0
-    → All (λ p. 1 ≤ p) (remove slots place)
-others-later held slots place index some lt is =
-    let counted = sum_by-remove (λ (x : ℕ). cond (x == 0) 1 0) slots place 0 lt in
-    let here = ap (λ (b : Bool). cond {A = ℕ} b 1 0) (eq-eqb (get_or slots place 0) 0 is) in
-    let once = index.once (λ p. p == 0) in
-    let one = count-zero-of (length held) some in
-    none-zero (remove slots place) (omega (arith, counted, here, once, one))
 
 module _ (x : Entry) (held : List Entry) (slots : List ℕ) (place : ℕ) (index : IsIndex (x ∷ held) slots) (lt : place < length slots) (is : get_or slots place 0 ≡ 0) where
   abbrev pub left : List ℕ
   left = remove slots place
 
+  -- no other position is the oldest one's
   pub later : All (λ p. 1 ≤ p) left
-  later = others-later (x ∷ held) slots place index (omega arith) lt is
+  later =
+      let counted = sum_by-remove (λ (x : ℕ). cond (x == 0) 1 0) slots place 0 lt in
+      let here = ap (λ (b : Bool). cond {A = ℕ} b 1 0) (eq-eqb (get_or slots place 0) 0 is) in
+      none-zero left (omega (arith, counted, here, index.once (λ p. p == 0), count-zero (length (x ∷ held)) (omega arith)))
 
   behind : (k d : ℕ) → k < length left → nth (x ∷ held) (get_or left k d) ≡ nth held (get_or left k d - 1)
   behind k d below = let least = later k d below in ap (nth (x ∷ held)) (let e : get_or left k d ≡ suc (get_or left k d - 1) = omega (arith, least) in e)
 
   pub sorted-without : sorted_of held (map (λ p. p - 1) left) ≡ remove (sorted_of (x ∷ held) slots) place
   sorted-without =
-      map-fallen held left ∙ sym (map-same (nth (x ∷ held)) (λ p. nth held (p - 1)) left behind) ∙ map-remove (nth (x ∷ held)) slots place
+      map-map (nth held) (λ (p : ℕ). p - 1) left ∙ sym (map-same (nth (x ∷ held)) (λ p. nth held (p - 1)) left behind) ∙ map-remove (nth (x ∷ held)) slots place
 
   pub index-without : IsIndex held (map (λ p. p - 1) left)
   index-without =
@@ -289,7 +241,7 @@ module _ (x : Entry) (held : List Entry) (slots : List ℕ) (place : ℕ) (index
             let once = index.once (λ p. f (p - 1)) in
             let after = count-after f (length held) in
             let here = ap (λ p. cond {A = ℕ} (f (p - 1)) 1 0) is in
-            count-fallen f left ∙ (omega (arith, counted, once, after, here));
+            fold-map (λ (a p : ℕ). a + cond (f p) 1 0) (λ (p : ℕ). p - 1) 0 left ∙ (omega (arith, counted, once, after, here));
         rise = subst (AllPairs (λ a b. by_all a b ≡ Less)) (sym sorted-without)
             (all_pairs_remove (λ a b. by_all a b ≡ Less) (sorted_of (x ∷ held) slots) place (omega (arith, lt, sorted-length (x ∷ held) slots)) index.rise);
       }

@@ -1,7 +1,7 @@
 pub mod Adding
 pub mod Few
 pub mod Finding
-pub mod Marks
+pub mod Keying
 pub mod Orders
 pub mod Slots
 pub mod Matching

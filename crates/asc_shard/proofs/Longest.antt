@@ -1,10 +1,9 @@
 -- What is found in the index is the longest match of the entries that are held.
-use Rattle.std.proofs.Common.{◌≡◌, ℕ, zero, suc, ◌<◌, ◌≤◌, ◌&&◌, Bool, true, false, cond, List, [], ◌∷◌, length, fold, Option, None, Some, refl, sym, ap, subst, ◌∙◌, inl, inr, arith}
-use Rattle.std.specs.Prelude.{All, IfNone, IfSome, count_by, nat_le, nat_lt, if◌then◌else◌}
-use Rattle.std.proofs.lemmas.Bool.{and_parts, and_from, cases_Bool, cases_lt, false≢true, false_from_ne_true, le-leb, leb-true, lt-ltb, ltb-true}
+use Rattle.std.proofs.Common.{◌≡◌, ℕ, zero, suc, ◌<◌, ◌≤◌, ◌&&◌, Bool, true, false, List, [], ◌∷◌, length, fold, Option, None, Some, refl, sym, ap, subst, ◌∙◌, inl, inr, arith}
+use Rattle.std.specs.Prelude.{All, IfNone, IfSome, nat_le, nat_lt, if◌then◌else◌}
+use Rattle.std.proofs.lemmas.Bool.{or_parts, and_parts, and_from, cases_Bool, cases_lt, false≢true, false_from_ne_true, le-leb, leb-true, lt-ltb, ltb-true}
 use Rattle.std.proofs.lemmas.List.{get_or_default}
 use Rattle.std.proofs.lemmas.List.Elements.{All-get_or, All-head, All-tail, All-weaker}
-use Rattle.std.proofs.lemmas.List.Sums.{sum_by-cons}
 use Rattle.asc_model.specs.State.{State}
 use Rattle.asc_model.specs.Entry.{Entry, IsTrueEntry}
 use Rattle.asc_traj.specs.Content.{longest, longer_of, matches}
@@ -13,7 +12,8 @@ use Rattle.asc_shard.specs.Content.{IsFound}
 use Rattle.asc_shard.specs.Inside as inside
 use Rattle.asc_shard.specs.Inside.{IsBest, IsIndex, no_entry, sorted_of}
 use Rattle.asc_shard.proofs.Slots.{nth, sorted-length}
-use Rattle.asc_shard.proofs.Ranges.{count-index}
+use Rattle.std.specs.List.{list_any}
+use Rattle.asc_shard.proofs.Keeping.{any-index, any-none}
 
 module _ (s : State) (left : ℕ) where
   -- whether an entry matches and is longer, within what is left
@@ -24,33 +24,26 @@ module _ (s : State) (left : ℕ) where
   abbrev onto : Option ℕ → Entry → Option ℕ
   onto best e = if matches s e then longer_of left best e.steps else best
 
-  count-parts : (most : ℕ) (e : Entry) (held : List Entry) → count_by (is_better most) (e ∷ held) ≡ 0 → (is_better most e ≡ false) × (count_by (is_better most) held ≡ 0)
-  count-parts most e held none =
-      let counted = sum_by-cons (λ x. cond (is_better most x) 1 0) e held in (
-        false_from_ne_true (is_better most e) (λ one. let here = ap (λ (b : Bool). cond {A = ℕ} b 1 0) one in omega (arith, here, counted, none)),
-        omega (arith, counted, none),
-      )
-
   -- where none is longer what was found stays
-  fold-stay : (held : List Entry) (best : Option ℕ) (most : ℕ) → IsMost best most → All (λ e. 1 ≤ e.steps) held → count_by (is_better most) held ≡ 0 → fold onto best held ≡ best
+  fold-stay : (held : List Entry) (best : Option ℕ) (most : ℕ) → IsMost best most → All (λ e. 1 ≤ e.steps) held → list_any (is_better most) held ≡ false → fold onto best held ≡ best
   fold-stay [] best most is least none = refl
   fold-stay (e ∷ held) best most is least none =
-      let parts = count-parts most e held none in
+      let parts = or_parts (is_better most e) (list_any (is_better most) held) none in
       ap (λ b. fold onto b held) (step-stay best (matches s e) left most e.steps is (All-head (λ x. 1 ≤ x.steps) e held least) parts.0)
       ∙ fold-stay held best most is (All-tail (λ x. 1 ≤ x.steps) e held least) parts.1
 
   -- where one has as many steps, and none has more
-  fold-reach : (held : List Entry) (best : Option ℕ) (n most p : ℕ) → IsMost best n → n < most → All (λ e. 1 ≤ e.steps) held → count_by (is_better most) held ≡ 0
+  fold-reach : (held : List Entry) (best : Option ℕ) (n most p : ℕ) → IsMost best n → n < most → All (λ e. 1 ≤ e.steps) held → list_any (is_better most) held ≡ false
       → p < length held → matches s (nth held p) ≡ true → (nth held p).steps ≡ most → most ≤ left → fold onto best held ≡ Some most
   fold-reach [] best n most p is lt least none within match same enough = absurd (omega arith)
   fold-reach (e ∷ held) best n most zero is lt least none within match same enough =
-      let parts = count-parts most e held none in
+      let parts = or_parts (is_better most e) (list_any (is_better most) held) none in
       let better = and_from (matches s e && nat_le e.steps left) (nat_lt n e.steps)
       (and_from (matches s e) (nat_le e.steps left) match (le-leb e.steps left (omega (arith, same)))) (lt-ltb n e.steps (omega (arith, same))) in
       ap (λ b. fold onto b held) (step-up best (matches s e) left n e.steps is better ∙ ap Some same)
       ∙ fold-stay held (Some most) most refl (All-tail (λ x. 1 ≤ x.steps) e held least) parts.1
   fold-reach (e ∷ held) best n most (suc p) is lt least none within match same enough =
-      let parts = count-parts most e held none in
+      let parts = or_parts (is_better most e) (list_any (is_better most) held) none in
       let rest = All-tail (λ x. 1 ≤ x.steps) e held least in
       elim (cases_Bool (is_better n e)) [
         | inl up ↦
@@ -73,25 +66,15 @@ module _ (s : State) (left : ℕ) where
 
   -- ---- from the index to the entries that are held
 
-  none-better : (xs : List Entry) (most : ℕ) → ((i : ℕ) → i < length xs → matches s (nth xs i) ≡ true → (nth xs i).steps ≤ left → (nth xs i).steps ≤ most)
-      → count_by (is_better most) xs ≡ 0
-  none-better [] most all = refl
-  none-better (e ∷ xs) most all =
-      let ih = none-better xs most (λ i lt. all (suc i) (omega arith)) in
-      let counted = sum_by-cons (λ x. cond (is_better most x) 1 0) e xs in
-      let here : is_better most e ≡ false = false_from_ne_true (is_better most e) (λ one.
-      let parts = and_parts (matches s e && nat_le e.steps left) (nat_lt most e.steps) one in
-      let fits = and_parts (matches s e) (nat_le e.steps left) parts.0 in
-      let le = all 0 (omega arith) fits.0 (leb-true e.steps left fits.1) in
-      let more = ltb-true most e.steps parts.1 in
-      omega arith) in
-      let zero_here = ap (λ (b : Bool). cond {A = ℕ} b 1 0) here in
-      omega (arith, ih, counted, zero_here)
-
-  none-held : (held : List Entry) (slots : List ℕ) (most : ℕ) → IsIndex held slots → inside.IsMost (sorted_of held slots) s left 0 (length slots) most → count_by (is_better most) held ≡ 0
+  none-held : (held : List Entry) (slots : List ℕ) (most : ℕ) → IsIndex held slots → inside.IsMost (sorted_of held slots) s left 0 (length slots) most
+      → list_any (is_better most) held ≡ false
   none-held held slots most index is =
-      sym (count-index (is_better most) held slots index)
-      ∙ none-better (sorted_of held slots) most (λ i lt match enough. is i (omega arith) (omega (arith, sorted-length held slots)) match enough)
+      let at = nth (sorted_of held slots) in
+      sym (any-index (is_better most) held slots index) ∙ any-none (is_better most) (sorted_of held slots) (λ i lt. false_from_ne_true (is_better most (at i)) (λ one.
+      let parts = and_parts (matches s (at i) && nat_le (at i).steps left) (nat_lt most (at i).steps) one in
+      let fits = and_parts (matches s (at i)) (nat_le (at i).steps left) parts.0 in
+      let le = is i (omega arith) (omega (arith, sorted-length held slots)) fits.0 (leb-true (at i).steps left fits.1) in
+      omega (arith, le, ltb-true most (at i).steps parts.1)))
 
   least-steps : (held : List Entry) → All IsTrueEntry held → All (λ e. 1 ≤ e.steps) held
   least-steps held all = All-weaker IsTrueEntry (λ e. 1 ≤ e.steps) (λ e is. is.entry.steps) held all

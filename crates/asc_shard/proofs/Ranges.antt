@@ -1,11 +1,12 @@
--- A look-up in slots of one mark, group by group.
-use Rattle.std.proofs.Common.{◌≡◌, ℕ, zero, suc, ◌+◌, ◌-◌, ◌<◌, ◌≤◌, ◌==◌, ◌&&◌, Bool, true, false, cond, List, [], ◌∷◌, length, get_or, take, map, Some, nat_lt, refl, sym, ap, subst, ◌∙◌, inl, inr, arith, add-one, add-zero}
+-- A look-up in slots of one key, group by group.
+use Rattle.std.proofs.lemmas.List.Folds.{fold-map}
+use Rattle.std.proofs.Common.{◌≡◌, ℕ, zero, suc, ◌+◌, ◌-◌, ◌<◌, ◌≤◌, ◌==◌, Bool, true, false, cond, List, [], ◌∷◌, length, get_or, take, Some, nat_lt, refl, sym, ap, subst, ◌∙◌, inl, inr, arith, add-one, add-zero}
 use Rattle.std.specs.Prelude.{All, Contains, count_by, sum_by, if◌then◌else◌}
 use Rattle.std.specs.Ordering.{nat_cmp, ordering_then}
 use Rattle.std.specs.Cmp.Lexicographic.{slice_cmp}
 use Rattle.std.specs.declared.cmp.Ordering.TheVariants.{Less, Equal}
 use lib.Pointwise.{pointwise}
-use Rattle.std.proofs.lemmas.Bool.{and_parts, and_from, cases_Bool, cases_lt, eq-eqb, eqb-true, false_from_ne_true, cond-true, cond-false, ltb-true, ltb-false}
+use Rattle.std.proofs.lemmas.Bool.{and_parts, and_from, cases_Bool, cases_lt, eq-eqb, eqb-true, false_from_ne_true, cond-true, ltb-true, ltb-false}
 use Rattle.std.proofs.lemmas.Cmp.{tied_itself, tied_back, nat_list_cmp_total}
 use Rattle.std.proofs.lemmas.List.{take_all}
 use Rattle.std.proofs.lemmas.List.Elements.{All-cons, All-weaker, Contains-get_or}
@@ -13,25 +14,19 @@ use Rattle.std.proofs.lemmas.List.Kept.{AllPairs-cons}
 use Rattle.std.proofs.lemmas.List.Sums.{sum_by-cons, sum_by_more}
 use Rattle.asc_model.specs.declared.version.Version.{Version}
 use Rattle.asc_model.specs.declared.version.Version.TheVariants.{One, Two}
-use Rattle.asc_model.specs.Shape.{Shape, is_same_shape, is_same_version}
+use Rattle.asc_model.specs.Shape.{Shape, is_same_shape}
 use Rattle.asc_model.specs.State.{State}
 use Rattle.asc_model.specs.Entry.{Entry}
 use Rattle.asc_traj.specs.Content.{matches}
 use Rattle.asc_shard.specs.declared.find.Best.{Best}
 use Rattle.asc_shard.specs.Groups.{AreAsked, Asked, IsAsked, IsFew, is_of_group}
-use Rattle.asc_shard.specs.Marks.{may_match}
-use Rattle.asc_shard.specs.Inside.{IsBest, IsFrom, IsIndex, IsMost, IsTailRising, by_group, by_shape, count_below, mark_of, no_entry, places_of, raised, rank_of, sorted_of}
-use Rattle.asc_shard.proofs.Orders.{groups_total, nat-equal, nat-same, then-equal, then-both}
-use Rattle.asc_shard.proofs.Matching.{shape-self}
+use Rattle.asc_shard.specs.Fingerprints.{may_match}
+use Rattle.asc_shard.specs.Inside.{IsBest, IsFrom, IsIndex, IsMost, IsTailRising, by_group, by_shape, count_below, key_of, no_entry, places_of, raised, rank_of, sorted_of}
+use Rattle.asc_shard.proofs.Orders.{groups_total, shapes_total, nat-equal, then-equal, then-both}
+use Rattle.asc_model.proofs.Shapes.{is_same_shape-refl, is_same_shape-true}
 use Rattle.asc_shard.proofs.Slots.{nth, sorted-at, sorted-length, position-in, tail-up}
 
 -- ---- groups
-
-same-version : (a b : Version) → is_same_version a b ≡ true → a ≡ b
-same-version One One e = refl
-same-version One Two e = cc
-same-version Two One e = cc
-same-version Two Two e = refl
 
 same-rank : (a b : Version) → rank_of a ≡ rank_of b → a ≡ b
 same-rank One One e = refl
@@ -39,18 +34,8 @@ same-rank One Two e = absurd (omega arith)
 same-rank Two One e = absurd (omega arith)
 same-rank Two Two e = refl
 
-abbrev shape_of : ℕ → ℕ → Version → Shape
-shape_of base size version = record { base = base; size = size; version = version }
-
 one-shape : (a b : Shape) → a.base ≡ b.base → a.size ≡ b.size → a.version ≡ b.version → a ≡ b
-one-shape a b base size version =
-    ap (λ n. shape_of n a.size a.version) base ∙ ap (λ n. shape_of b.base n a.version) size ∙ ap (shape_of b.base b.size) version
-
-pub same-shape : (a b : Shape) → is_same_shape a b ≡ true → a ≡ b
-same-shape a b h =
-    let parts = and_parts ((a.base == b.base) && (a.size == b.size)) (is_same_version a.version b.version) h in
-    let numbers = and_parts (a.base == b.base) (a.size == b.size) parts.0 in
-    one-shape a b (eqb-true a.base b.base numbers.0) (eqb-true a.size b.size numbers.1) (same-version a.version b.version parts.1)
+one-shape a b base size version = λ i. record { base = base i; size = size i; version = version i }
 
 by-shape : (a b : Shape) → by_shape a b ≡ Equal → a ≡ b
 by-shape a b h =
@@ -59,19 +44,13 @@ by-shape a b h =
     one-shape a b (nat-equal a.base b.base first.0) (nat-equal a.size b.size second.0)
     (same-rank a.version b.version (nat-equal (rank_of a.version) (rank_of b.version) second.1))
 
-shape-equal : (a : Shape) → by_shape a a ≡ Equal
-shape-equal a =
-    then-both (nat_cmp a.base a.base) (ordering_then (nat_cmp a.size a.size) (nat_cmp (rank_of a.version) (rank_of a.version))) (nat-same a.base a.base refl)
-    (then-both (nat_cmp a.size a.size) (nat_cmp (rank_of a.version) (rank_of a.version)) (nat-same a.size a.size refl)
-    (nat-same (rank_of a.version) (rank_of a.version) refl))
-
 pub same-list : (xs ys : List ℕ) → slice_cmp nat_cmp xs ys ≡ Equal → xs ≡ ys
 same-list [] [] e = refl
 same-list [] (y ∷ ys) e = cc
 same-list (x ∷ xs) [] e = cc
 same-list (x ∷ xs) (y ∷ ys) e =
     let parts = then-equal (nat_cmp x y) (slice_cmp nat_cmp xs ys) e in
-    ap (λ z. z ∷ xs) (nat-equal x y parts.0) ∙ ap (λ list. y ∷ list) (same-list xs ys parts.1)
+    λ i. nat-equal x y parts.0 i ∷ same-list xs ys parts.1 i
 
 abbrev is_same_place : ℕ × ℕ → ℕ × ℕ → Bool
 is_same_place x y = x.0 == y.0
@@ -82,16 +61,14 @@ point-places [] (y ∷ ys) e = cc
 point-places (x ∷ xs) [] e = cc
 point-places (x ∷ xs) (y ∷ ys) e =
     let parts = and_parts (x.0 == y.0) (pointwise is_same_place xs ys) e in
-    ap (λ z. z ∷ places_of xs) (eqb-true x.0 y.0 parts.0) ∙ ap (λ list. y.0 ∷ list) (point-places xs ys parts.1)
+    λ i. eqb-true x.0 y.0 parts.0 i ∷ point-places xs ys parts.1 i
 
 places-point : (xs ys : List (ℕ × ℕ)) → places_of xs ≡ places_of ys → pointwise is_same_place xs ys ≡ true
 places-point [] [] e = refl
 places-point [] (y ∷ ys) e = cc
 places-point (x ∷ xs) [] e = cc
 places-point (x ∷ xs) (y ∷ ys) e =
-    let first : x.0 ≡ y.0 = cc in
-    let rest : places_of xs ≡ places_of ys = cc in
-    and_from (x.0 == y.0) (pointwise is_same_place xs ys) (eq-eqb x.0 y.0 first) (places-point xs ys rest)
+    and_from (x.0 == y.0) (pointwise is_same_place xs ys) (eq-eqb x.0 y.0 cc) (places-point xs ys cc)
 
 -- what one group is
 pub group-shape : (a b : Entry) → by_group a b ≡ Equal → a.shape ≡ b.shape
@@ -103,24 +80,16 @@ group-places a b h = same-list (places_of a.reads) (places_of b.reads) (then-equ
 pub group-test : (a b : Entry) → by_group a b ≡ Equal → is_of_group a b ≡ true
 group-test a b h =
     and_from (is_same_shape a.shape b.shape) (pointwise is_same_place a.reads b.reads)
-    (ap (is_same_shape a.shape) (sym (group-shape a b h)) ∙ shape-self a.shape) (places-point a.reads b.reads (group-places a b h))
+    (ap (is_same_shape a.shape) (sym (group-shape a b h)) ∙ is_same_shape-refl a.shape) (places-point a.reads b.reads (group-places a b h))
 
 pub test-group : (a b : Entry) → is_of_group a b ≡ true → by_group a b ≡ Equal
 test-group a b h =
     let parts = and_parts (is_same_shape a.shape b.shape) (pointwise is_same_place a.reads b.reads) h in
     then-both (by_shape a.shape b.shape) (slice_cmp nat_cmp (places_of a.reads) (places_of b.reads))
-    (ap (by_shape a.shape) (sym (same-shape a.shape b.shape parts.0)) ∙ shape-equal a.shape)
+    (ap (by_shape a.shape) (sym (is_same_shape-true a.shape b.shape parts.0)) ∙ tied_itself shapes_total a.shape)
     (ap (slice_cmp nat_cmp (places_of a.reads)) (sym (point-places a.reads b.reads parts.1)) ∙ tied_itself nat_list_cmp_total (places_of a.reads))
 
 -- ---- counts
-
-count-map : (f : Entry → Bool) (g : ℕ → Entry) (slots : List ℕ) → count_by f (map g slots) ≡ count_by (λ p. f (g p)) slots
-count-map f g [] = refl
-count-map f g (slot ∷ slots) =
-    let ih = count-map f g slots in
-    let left = sum_by-cons (λ e. cond (f e) 1 0) (g slot) (map g slots) in
-    let right = sum_by-cons (λ x. cond (f (g x)) 1 0) slot slots in
-    omega (arith, ih, left, right)
 
 count-take : (f : Entry → Bool) (held : List Entry) (n : ℕ) → n ≤ length held → count_below (λ p. f (nth held p)) n ≡ count_by f (take n held)
 count-take f held zero most = refl
@@ -133,29 +102,20 @@ count-take f held (suc n) most =
 -- as many pass a test in the index as of those that are held
 pub count-index : (f : Entry → Bool) (held : List Entry) (slots : List ℕ) → IsIndex held slots → count_by f (sorted_of held slots) ≡ count_by f held
 count-index f held slots index =
-    count-map f (nth held) slots ∙ index.once (λ p. f (nth held p)) ∙ count-take f held (length held) (omega arith)
+    fold-map (λ (a : ℕ) (e : Entry). a + cond (f e) 1 0) (nth held) 0 slots ∙ index.once (λ p. f (nth held p)) ∙ count-take f held (length held) (omega arith)
     ∙ ap (count_by f) (take_all (length held) held (omega arith))
-
-count-front : (f : Entry → Bool) (xs : List Entry) (n : ℕ) → n ≤ length xs → ((i : ℕ) → i < n → f (nth xs i) ≡ true) → n ≤ count_by f xs
-count-front f xs zero most all = omega arith
-count-front f [] (suc n) most all = absurd (omega arith)
-count-front f (x ∷ xs) (suc n) most all =
-    let ih = count-front f xs n (omega arith) (λ i lt. all (suc i) (omega arith)) in
-    let here : cond {A = ℕ} (f x) 1 0 ≡ 1 = cond-true (f x) 1 0 (all 0 (omega arith)) in
-    let counted = sum_by-cons (λ e. cond (f e) 1 0) x xs in
-    omega (arith, ih, here, counted)
 
 -- those of a range that all pass
 pub count-range : (f : Entry → Bool) (xs : List Entry) (low n : ℕ) → low + n ≤ length xs → ((i : ℕ) → low ≤ i → i < low + n → f (nth xs i) ≡ true) → n ≤ count_by f xs
-count-range f xs zero n most all = count-front f xs n (omega arith) (λ i lt. all i (omega arith) (omega arith))
+count-range f xs zero zero most all = omega arith
+count-range f [] zero (suc n) most all = absurd (omega arith)
 count-range f [] (suc low) n most all = absurd (omega arith)
+count-range f (x ∷ xs) zero (suc n) most all =
+    let ih = count-range f xs 0 n (omega arith) (λ i least lt. all (suc i) (omega arith) (omega arith)) in
+    let here : cond {A = ℕ} (f x) 1 0 ≡ 1 = cond-true (f x) 1 0 (all 0 (omega arith) (omega arith)) in
+    omega (arith, ih, here, sum_by-cons (λ e. cond (f e) 1 0) x xs)
 count-range f (x ∷ xs) (suc low) n most all =
-    let ih = count-range f xs low n (omega arith) (λ i least lt. all (suc i) (omega arith) (omega arith)) in
-    let counted = sum_by-cons (λ e. cond (f e) 1 0) x xs in
-    omega (arith, ih, counted)
-
-few-more : (times n m : ℕ) → n ≤ m → IsFew times n → IsFew times m
-few-more times n m le few = (few.0, let most = few.1 in omega arith, few.2)
+    omega (arith, count-range f xs low n (omega arith) (λ i least lt. all (suc i) (omega arith) (omega arith)), sum_by-cons (λ e. cond (f e) 1 0) x xs)
 
 -- ---- one group more
 
@@ -176,7 +136,7 @@ asked-one held slots s low from end times asked index least some most before sam
       is_held = subst (Contains held) (sym (sorted-at held slots from blank (omega arith)))
           (Contains-get_or held (get_or slots from blank) no_entry (position-in held slots from blank index (omega arith)));
       has_print = may;
-      is_few = few-more times (end - from) (count_by (is_of_group first) held) (omega (arith, count, count-index (is_of_group first) held slots index)) few;
+      is_few = (few.0, omega (arith, few.1, count, count-index (is_of_group first) held slots index), few.2);
     } in
     record {
       each = All-cons (IsAsked held s) new asked is all.each;
@@ -205,10 +165,8 @@ pub best-longer : (held : List Entry) (s : State) (left : ℕ) (best : Best) (p 
     → IsBest held s left new.position new.steps × (best.steps ≤ new.steps) × ((nth held p).steps ≤ new.steps)
 best-longer held s left best p is lt match enough new e = elim (cases_Bool (nat_lt best.steps (nth held p).steps)) [
   | inl more ↦
-      let found : Best = record { position = Some p; steps = (nth held p).steps } in
-      let same : new ≡ found = e ∙ cond-true (nat_lt best.steps (nth held p).steps) found best more in
       let longer = ltb-true best.steps (nth held p).steps more in
-      subst (λ (b : Best). IsBest held s left b.position b.steps × (best.steps ≤ b.steps) × ((nth held p).steps ≤ b.steps)) (sym same) (
+      rw (e, more) (
         record {
           none = λ no. cc;
           within = λ q some. let at : p ≡ q = cc in subst (λ k. k < length held) at lt;
@@ -219,12 +177,7 @@ best-longer held s left best p is lt match enough new e = elim (cases_Bool (nat_
         omega arith,
         omega arith,
       )
-  | inr not ↦
-      let found : Best = record { position = Some p; steps = (nth held p).steps } in
-      let same : new ≡ best = e ∙ cond-false (nat_lt best.steps (nth held p).steps) found best not in
-      let longer = ltb-false best.steps (nth held p).steps not in
-      subst (λ (b : Best). IsBest held s left b.position b.steps × (best.steps ≤ b.steps) × ((nth held p).steps ≤ b.steps)) (sym same)
-      (is, omega arith, longer)
+  | inr not ↦ rw (e, not) (is, omega arith, omega (arith, ltb-false best.steps (nth held p).steps not))
 ]
 
 -- what none of two ranges in a row passes
@@ -236,15 +189,15 @@ most-more xs s left low from end old new first le second i least lt match enough
 
 -- the entries of a group
 pub tail-rising : (held : List Entry) (slots : List ℕ) (s : State) (from end : ℕ) → IsIndex held slots → end ≤ length slots
-    → ((i j : ℕ) → from ≤ i → i < end → from ≤ j → j < end → mark_of (nth (sorted_of held slots) i) ≡ mark_of (nth (sorted_of held slots) j))
+    → ((i j : ℕ) → from ≤ i → i < end → from ≤ j → j < end → key_of (nth (sorted_of held slots) i) ≡ key_of (nth (sorted_of held slots) j))
     → ((i : ℕ) → from ≤ i → i < end → by_group (nth (sorted_of held slots) from) (nth (sorted_of held slots) i) ≡ Equal)
     → (nth (sorted_of held slots) from).shape ≡ s.shape → IsTailRising (sorted_of held slots) s from end
-tail-rising held slots s from end index most marks same shape =
+tail-rising held slots s from end index most keys same shape =
     let at = nth (sorted_of held slots) in
     record {
       shape = λ i least lt. sym (group-shape (at from) (at i) (same i least lt)) ∙ shape;
       places = λ i least lt. group-places (at from) (at i) (same i least lt);
-      rise = λ i j least lt below. tail-up (at i) (at j) (marks i j least (omega arith) (omega arith) below)
+      rise = λ i j least lt below. tail-up (at i) (at j) (keys i j least (omega arith) (omega arith) below)
           (sym (groups_total.congr (at from) (at i) (at j) (same i least (omega arith))) ∙ same j (omega arith) below)
           (index.rise i j no_entry lt (omega (arith, sorted-length held slots)));
     }
@@ -254,7 +207,7 @@ pub most-apart : (xs : List Entry) (s : State) (left from end steps : ℕ) → (
     → ((nth xs from).shape ≡ s.shape → ⊥) → IsMost xs s left from end steps
 most-apart xs s left from end steps same apart i least lt match enough =
     let shape = (and_parts (is_same_shape s.shape (nth xs i).shape) _ match).0 in
-    absurd (apart (group-shape (nth xs from) (nth xs i) (same i least lt) ∙ sym (same-shape s.shape (nth xs i).shape shape)))
+    absurd (apart (group-shape (nth xs from) (nth xs i) (same i least lt) ∙ sym (is_same_shape-true s.shape (nth xs i).shape shape)))
 
 -- what comes behind a group is of later groups
 pub apart-more : (xs : List Entry) (low from end high : ℕ) → from ≤ end
@@ -274,12 +227,6 @@ raised-add more zero n count = ap (λ k. raised more k count) (let e : n ≡ 0 +
 raised-add more (suc times) n count =
     ap more (raised-add more times n count) ∙ ap (λ k. raised more k count) (let e : suc (times + n) ≡ suc times + n = omega arith in e)
 
-raised-one : (more : ℕ → ℕ) (e : Entry) (times : ℕ) (asked : List Asked) (now between before : ℕ) → now ≡ raised more times between
-    → between ≡ raised more (sum_by (λ a. a.probes) asked) before → now ≡ raised more (sum_by (λ a. a.probes) (record { entry = e; probes = times } ∷ asked)) before
-raised-one more e times asked now between before is was =
-    is ∙ ap (raised more times) was ∙ raised-add more times (sum_by (λ a. a.probes) asked) before
-    ∙ ap (λ k. raised more k before) (sym (sum_by-cons (λ (a : Asked). a.probes) (record { entry = e; probes = times }) asked))
-
 -- what is asked with one group more
 pub probes-one : (more : ℕ → ℕ) (held : List Entry) (slots : List ℕ) (s : State) (low from end times now between before : ℕ) → IsIndex held slots → low ≤ from → from < end → end ≤ length slots
     → ((i : ℕ) → low ≤ i → i < from → by_group (nth (sorted_of held slots) i) (nth (sorted_of held slots) from) ≡ Less)
@@ -289,11 +236,12 @@ pub probes-one : (more : ℕ → ℕ) (held : List Entry) (slots : List ℕ) (s 
     → (asked : List Asked) × AreAsked held s asked × All (λ a. IsFrom (sorted_of held slots) low from a.entry) asked × (between ≡ raised more (sum_by (λ a. a.probes) asked) before)
     → (asked : List Asked) × AreAsked held s asked × All (λ a. IsFrom (sorted_of held slots) low end a.entry) asked × (now ≡ raised more (sum_by (λ a. a.probes) asked) before)
 probes-one more held slots s low from end times now between before index least some most lower same may new old =
-    let first = nth (sorted_of held slots) from in (
-      record { entry = first; probes = times } ∷ old.0,
+    let new_one : Asked = record { entry = nth (sorted_of held slots) from; probes = times } in (
+      new_one ∷ old.0,
       asked-one held slots s low from end times old.0 index least some most lower same may new.0 old.1 old.2,
       froms-one (sorted_of held slots) low from end times old.0 least some old.2,
-      raised-one more first times old.0 now between before new.1 old.3,
+      new.1 ∙ ap (raised more times) old.3 ∙ raised-add more times (sum_by (λ a. a.probes) old.0) before
+          ∙ ap (λ k. raised more k before) (sym (sum_by-cons (λ (a : Asked). a.probes) new_one old.0)),
     )
 
 pub raised-by-one : (times count : ℕ) → raised (λ n. n + 1) times count ≡ count + times

@@ -4,7 +4,8 @@ use Rattle.std.specs.Prelude.{All}
 use Rattle.std.specs.List.{AllPairs, insert, remove}
 use Rattle.std.proofs.lemmas.Bool.{cases_lt}
 use Rattle.std.proofs.Math.Seq.{map-set_same}
-use Rattle.std.proofs.lemmas.List.{get_or-map, get_or_default, length-append, length-map, length-replicate}
+use Rattle.std.proofs.lemmas.List.Edits.{insert-append_right, remove-append_right}
+use Rattle.std.proofs.lemmas.List.{get_or-append_right, get_or-map, get_or-replicate, get_or_append_left, get_or_default, length-append, length-map, length-replicate}
 use Rattle.std.proofs.lemmas.List.Elements.{All-set}
 use Rattle.std.proofs.lemmas.List.Quantifiers.{all_pairs_remove}
 use Rattle.std.proofs.lemmas.List.Sums.{sum_by-cons}
@@ -15,14 +16,10 @@ use Rattle.asc_shard.specs.Inside.{AreHeads, IsHead, count_at, mask_at, no_head,
 -- ---- one run before the others
 
 inner : (c m : ℕ) (rest : List ℕ) (i : ℕ) → i < c → get_or (replicate c m ++ rest) i 0 ≡ m
-inner zero m rest i lt = absurd (omega arith)
-inner (suc c) m rest zero lt = refl
-inner (suc c) m rest (suc i) lt = inner c m rest i (omega arith)
+inner c m rest i lt = get_or_append_left (replicate c m) rest 0 i (omega (arith, length-replicate c m, lt)) ∙ get_or-replicate c i m 0 lt
 
 outer : (c m : ℕ) (rest : List ℕ) (i : ℕ) → c ≤ i → get_or (replicate c m ++ rest) i 0 ≡ get_or rest (i - c) 0
-outer zero m rest i le = ap (λ k. get_or rest k 0) (let e : i ≡ i - 0 = omega arith in e)
-outer (suc c) m rest zero le = absurd (omega arith)
-outer (suc c) m rest (suc i) le = outer c m rest i (omega arith) ∙ ap (λ k. get_or rest k 0) (let e : i - c ≡ suc i - suc c = omega arith in e)
+outer c m rest i le = get_or-append_right (replicate c m) rest c i 0 (length-replicate c m) le
 
 insert-inner : (c m : ℕ) (rest : List ℕ) (at : ℕ) → at ≤ c → replicate (suc c) m ++ rest ≡ insert (replicate c m ++ rest) at m
 insert-inner c m rest zero le = refl
@@ -30,10 +27,7 @@ insert-inner zero m rest (suc at) le = absurd (omega arith)
 insert-inner (suc c) m rest (suc at) le = ap (λ list. m ∷ list) (insert-inner c m rest at (omega arith))
 
 insert-outer : (c m x : ℕ) (rest : List ℕ) (at : ℕ) → c ≤ at → replicate c m ++ insert rest (at - c) x ≡ insert (replicate c m ++ rest) at x
-insert-outer zero m x rest at le = ap (λ k. insert rest k x) (let e : at - 0 ≡ at = omega arith in e)
-insert-outer (suc c) m x rest zero le = absurd (omega arith)
-insert-outer (suc c) m x rest (suc at) le =
-    ap (λ k. m ∷ (replicate c m ++ insert rest k x)) (let e : suc at - suc c ≡ at - c = omega arith in e) ∙ ap (λ list. m ∷ list) (insert-outer c m x rest at (omega arith))
+insert-outer c m x rest at le = sym (insert-append_right (replicate c m) rest c at x (length-replicate c m) le)
 
 remove-inner : (c m : ℕ) (rest : List ℕ) (at : ℕ) → at ≤ c → replicate c m ++ rest ≡ remove (replicate (suc c) m ++ rest) at
 remove-inner c m rest zero le = refl
@@ -41,10 +35,7 @@ remove-inner zero m rest (suc at) le = absurd (omega arith)
 remove-inner (suc c) m rest (suc at) le = ap (λ list. m ∷ list) (remove-inner c m rest at (omega arith))
 
 remove-outer : (c m : ℕ) (rest : List ℕ) (at : ℕ) → c ≤ at → replicate c m ++ remove rest (at - c) ≡ remove (replicate c m ++ rest) at
-remove-outer zero m rest at le = ap (remove rest) (let e : at - 0 ≡ at = omega arith in e)
-remove-outer (suc c) m rest zero le = absurd (omega arith)
-remove-outer (suc c) m rest (suc at) le =
-    ap (λ k. m ∷ (replicate c m ++ remove rest k)) (let e : suc at - suc c ≡ at - c = omega arith in e) ∙ ap (λ list. m ∷ list) (remove-outer c m rest at (omega arith))
+remove-outer c m rest at le = sym (remove-append_right (replicate c m) rest c at (length-replicate c m) le)
 
 -- ---- all runs
 
@@ -90,25 +81,19 @@ runs-before y (x ∷ xs) (suc h) i below most lt =
           omega (arith, rest, outer x.count x.mask (runs xs) i past)
     ]
 
-runs-all : (y : ℕ) (heads : List Head) (i : ℕ) → ((k : ℕ) → k < length heads → y < mask_at heads k) → i < total heads → y < get_or (runs heads) i 0
-runs-all y [] i above lt = absurd (omega arith)
-runs-all y (x ∷ xs) i above lt =
-    let more = one-more x xs in
-    elim (cases_lt i x.count) [
-      | inl here ↦ let first = above 0 (omega arith) in omega (arith, first, inner x.count x.mask (runs xs) i here)
-      | inr past ↦
-          let rest = runs-all y xs (i - x.count) (λ k lt. above (suc k) (omega arith)) (omega (arith, lt, more, past)) in
-          omega (arith, rest, outer x.count x.mask (runs xs) i past)
-    ]
-
 -- and behind one they are above what the heads from it on are above
 pub runs-behind : (y : ℕ) (heads : List Head) (h i : ℕ) → ((k : ℕ) → h ≤ k → k < length heads → y < mask_at heads k) → h ≤ length heads → begin heads h ≤ i → i < total heads → y < get_or (runs heads) i 0
-runs-behind y heads zero i above most least lt = runs-all y heads i (λ k below. above k (omega arith) below) lt
-runs-behind y [] (suc h) i above most least lt = absurd (omega arith)
+runs-behind y [] h i above most least lt = absurd (omega arith)
+runs-behind y (x ∷ xs) zero i above most least lt = elim (cases_lt i x.count) [
+  | inl here ↦ omega (arith, above 0 (omega arith) (omega arith), inner x.count x.mask (runs xs) i here)
+  | inr past ↦
+      let rest = runs-behind y xs 0 (i - x.count) (λ k le lt. above (suc k) (omega arith) (omega arith)) (omega arith) (omega arith) (omega (arith, lt, one-more x xs, past)) in
+      omega (arith, rest, outer x.count x.mask (runs xs) i past)
+]
 runs-behind y (x ∷ xs) (suc h) i above most least lt =
     let more = one-more x (take h xs) in
-    let all = one-more x xs in
-    let rest = runs-behind y xs h (i - x.count) (λ k le below. above (suc k) (omega arith) (omega arith)) (omega arith) (omega (arith, least, more)) (omega (arith, lt, all, least, more)) in
+    let rest = runs-behind y xs h (i - x.count) (λ k le below. above (suc k) (omega arith) (omega arith)) (omega arith)
+    (omega (arith, least, more)) (omega (arith, lt, one-more x xs, least, more)) in
     omega (arith, rest, outer x.count x.mask (runs xs) i (omega (arith, least, more)))
 
 -- ---- one entry more, and one less
@@ -161,12 +146,10 @@ runs-gone (x ∷ xs) (suc h) at lt one least most =
 pub read-head : (heads : List Head) (h : ℕ) (x : Head) → h < length heads → x ≡ get_or heads h x → x ≡ get_or heads h no_head
 read-head heads h x lt is = is ∙ get_or_default heads h x no_head lt
 
-head-counted : (x : Head) (count : ℕ) → IsHead x → IsHead (record x { count = count })
-head-counted x count is = record { fit = is.fit; low = is.low; places = is.places }
-
 pub heads-counted : (heads : List Head) (h count : ℕ) (x : Head) → AreHeads heads → h < length heads → x ≡ get_or heads h x → 0 < count → AreHeads (set heads h (record x { count = count }))
 heads-counted heads h count x are here is lt = record {
-  each = All-set IsHead heads h (record x { count = count }) (head-counted x count (subst IsHead (sym is) (are.each h x here))) are.each;
+  each = let head = subst IsHead (sym is) (are.each h x here) in
+      All-set IsHead heads h (record x { count = count }) (record { fit = head.fit; low = head.low; places = head.places }) are.each;
   some = All-set (λ head. 0 < head.count) heads h (record x { count = count }) lt are.some;
   rise = subst (AllPairs (λ a b. a < b)) (sym (map-set_same (λ (head : Head). head.mask) heads h (record x { count = count }) x (ap (λ (head : Head). head.mask) is))) are.rise;
 }
@@ -195,16 +178,6 @@ heads-gone heads h are lt = record {
   rise = subst (AllPairs (λ a b. a < b)) (sym (map-remove (λ (head : Head). head.mask) heads h))
       (all_pairs_remove (λ a b. a < b) (masks_in heads) h (omega (arith, lt, length-map heads (λ (head : Head). head.mask))) are.rise);
 }
-
-pub raised-read : (heads : List Head) (h at mask : ℕ) (x : Head) → h < length heads → x ≡ get_or heads h x → mask_at heads h ≡ mask → begin heads h ≤ at → at ≤ begin heads h + count_at heads h
-    → runs (set heads h (record x { count = x.count + 1 })) ≡ insert (runs heads) at mask
-raised-read heads h at mask x lt is same least most =
-    ap (λ (y : Head). runs (set heads h (record y { count = y.count + 1 }))) (read-head heads h x lt is) ∙ runs-raise heads h at lt least most ∙ ap (insert (runs heads) at) same
-
-pub lowered-read : (heads : List Head) (h at : ℕ) (x : Head) → h < length heads → x ≡ get_or heads h x → begin heads h ≤ at → at < begin heads h + count_at heads h
-    → runs (set heads h (record x { count = x.count - 1 })) ≡ remove (runs heads) at
-lowered-read heads h at x lt is least most =
-    ap (λ (y : Head). runs (set heads h (record y { count = y.count - 1 }))) (read-head heads h x lt is) ∙ runs-lower heads h at lt least most
 
 -- a head that is not of many is of one
 pub one-left : (heads : List Head) (h : ℕ) (x : Head) → AreHeads heads → h < length heads → x ≡ get_or heads h x → x.count ≤ 1 → count_at heads h ≡ 1

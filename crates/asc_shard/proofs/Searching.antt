@@ -12,17 +12,17 @@ use Rattle.asc_traj.specs.Content.{matches}
 use Rattle.asc_shard.specs.declared.heads.Head.{Head}
 use Rattle.asc_shard.specs.declared.index.Index.{Index}
 use Rattle.asc_shard.specs.Groups.{AreAsked, Asked, IsAsked, is_of_group}
-use Rattle.asc_shard.specs.Marks.{may_match, print_in, print_of}
-use Rattle.asc_shard.specs.Inside.{IsFrom, IsIndex, IsIndexed, IsMost, count_at, mark_of, mask_at, mask_of, no_entry, no_head, positions_of, raised, sorted_in, sorted_of, total}
-use Rattle.asc_shard.proofs.Placing.{head-lower, head-mask, head-range, mark-is, print-is}
-use Rattle.asc_shard.proofs.Marks.{none-hidden, places-filter, same-print}
+use Rattle.asc_shard.specs.Fingerprints.{may_match, print_in, print_of}
+use Rattle.asc_shard.specs.Inside.{IsFrom, IsIndex, IsIndexed, IsMost, count_at, key_of, mask_at, mask_of, no_entry, no_head, positions_of, raised, sorted_in, sorted_of, total}
+use Rattle.asc_shard.proofs.Placing.{head-lower, head-mask, head-range, key-is, print-is}
+use Rattle.asc_shard.proofs.Keying.{none-hidden, places-filter, same-print}
 use Rattle.asc_shard.proofs.Slots.{nth, position-in, sorted-at}
 use Rattle.asc_shard.proofs.Ranges.{froms-more, group-places, raised-add, test-group}
 
 -- ---- the entries of one mask
 
 -- groups of other masks are others
-group-mask : (a b : Entry) → is_of_group a b ≡ true → (mark_of a).mask ≡ (mark_of b).mask
+group-mask : (a b : Entry) → is_of_group a b ≡ true → (key_of a).mask ≡ (key_of b).mask
 group-mask a b h = ap mask_of (
     places-filter (λ p. nat_lt p 128) a.reads ∙ ap (filter (λ p. nat_lt p 128)) (group-places a b (test-group a b h))
     ∙ sym (places-filter (λ p. nat_lt p 128) b.reads)
@@ -40,19 +40,19 @@ pub record IsMasked (held : List Entry) (slots : List ℕ) (s : State) (from low
   pub some : from < next
   pub most : next ≤ length slots
   pub range : (from ≤ low) × (low ≤ high) × (high ≤ next)
-  pub same : (i : ℕ) → from ≤ i → i < next → (mark_of (nth (sorted_of held slots) i)).mask ≡ (mark_of (nth (sorted_of held slots) from)).mask
+  pub same : (i : ℕ) → from ≤ i → i < next → (key_of (nth (sorted_of held slots) i)).mask ≡ (key_of (nth (sorted_of held slots) from)).mask
   pub state : print ≡ print_in s (nth (sorted_of held slots) from)
   pub before : (i : ℕ) → from ≤ i → i < low → print_of (nth (sorted_of held slots) i) < print
   pub inside : (i : ℕ) → low ≤ i → i < high → print_of (nth (sorted_of held slots) i) ≡ print
   pub behind : (i : ℕ) → high ≤ i → i < next → print < print_of (nth (sorted_of held slots) i)
 
-module _ (held : List Entry) (slots : List ℕ) (s : State) (from low high next print : ℕ) (k : IsMasked held slots s from low high next print) where
+module _ {held : List Entry} {slots : List ℕ} {s : State} {from low high next print : ℕ} (k : IsMasked held slots s from low high next print) where
   abbrev at : ℕ → Entry
   at i = nth (sorted_of held slots) i
 
-  pub wanted-same : (i j : ℕ) → low ≤ i → i < high → low ≤ j → j < high → mark_of (at i) ≡ mark_of (at j)
+  pub wanted-same : (i j : ℕ) → low ≤ i → i < high → low ≤ j → j < high → key_of (at i) ≡ key_of (at j)
   wanted-same i j least lt least_j lt_j =
-      mark-is (mark_of (at i)) (mark_of (at j))
+      key-is (key_of (at i)) (key_of (at j))
       (k.same i (omega (arith, least, k.range.0)) (omega (arith, lt, k.range.2)) ∙ sym (k.same j (omega (arith, least_j, k.range.0)) (omega (arith, lt_j, k.range.2))))
       (k.inside i least lt ∙ sym (k.inside j least_j lt_j))
 
@@ -85,17 +85,17 @@ module _ (held : List Entry) (slots : List ℕ) (s : State) (from low high next 
   ]
 
   asked-apart : (old : List Asked) (a : Asked) → IsFrom (sorted_of held slots) low high a.entry
-      → ((i j : ℕ) → i < from → from ≤ j → j < length slots → (mark_of (at i)).mask < (mark_of (at j)).mask)
+      → ((i j : ℕ) → i < from → from ≤ j → j < length slots → (key_of (at i)).mask < (key_of (at j)).mask)
       → All (λ b. IsFrom (sorted_of held slots) 0 from b.entry) old → All (λ b. is_of_group a.entry b.entry ≡ false) old
   asked-apart old a is masks froms = All-weaker (λ b. IsFrom (sorted_of held slots) 0 from b.entry) (λ b. is_of_group a.entry b.entry ≡ false)
       (λ b is_b. false_from_ne_true (is_of_group a.entry b.entry) (λ one.
       let lower = masks is_b.0 from is_b.2 (omega arith) (omega (arith, k.some, k.most)) in
-      let same = sym (ap (λ (e : Entry). (mark_of e).mask) is_b.3) ∙ sym (group-mask a.entry b.entry one) ∙ ap (λ (e : Entry). (mark_of e).mask) is.3
+      let same = sym (ap (λ (e : Entry). (key_of e).mask) is_b.3) ∙ sym (group-mask a.entry b.entry one) ∙ ap (λ (e : Entry). (key_of e).mask) is.3
       ∙ k.same is.0 (omega (arith, is.1, k.range.0)) (omega (arith, is.2, k.range.2)) in
       omega (arith, lower, same))) old froms
 
   pub asked-both : (new old : List Asked) → AreAsked held s new → AreAsked held s old
-      → ((i j : ℕ) → i < from → from ≤ j → j < length slots → (mark_of (at i)).mask < (mark_of (at j)).mask)
+      → ((i j : ℕ) → i < from → from ≤ j → j < length slots → (key_of (at i)).mask < (key_of (at j)).mask)
       → All (λ a. IsFrom (sorted_of held slots) low high a.entry) new → All (λ a. IsFrom (sorted_of held slots) 0 from a.entry) old → AreAsked held s (new ++ old)
   asked-both new old first second masks is_new is_old = record {
     each = All-append (IsAsked held s) new old first.each second.each;
@@ -130,22 +130,22 @@ pub record IsHere (held : List Entry) (index : Index) (list : List Head) (h from
   pub some : from < from + count_at list h
   pub most : from + count_at list h ≤ length held
   pub next : from + count_at list h ≡ total (take (h + 1) index.heads.items)
-  pub mask : (i : ℕ) → from ≤ i → i < from + count_at list h → (mark_of (nth (sorted_in held index) i)).mask ≡ mask_at list h
-  pub lower : (i j : ℕ) → i < from → from ≤ j → j < length (positions_of index) → (mark_of (nth (sorted_in held index) i)).mask < (mark_of (nth (sorted_in held index) j)).mask
+  pub mask : (i : ℕ) → from ≤ i → i < from + count_at list h → (key_of (nth (sorted_in held index) i)).mask ≡ mask_at list h
+  pub lower : (i j : ℕ) → i < from → from ≤ j → j < length (positions_of index) → (key_of (nth (sorted_in held index) i)).mask < (key_of (nth (sorted_in held index) j)).mask
 
-pub head-here : (held : List Entry) (index : Index) (list : List Head) (h from : ℕ) → IsIndexed held index → h < length list → list ≡ index.heads.items
+pub head-here : {held : List Entry} {index : Index} {list : List Head} {h from : ℕ} → IsIndexed held index → h < length list → list ≡ index.heads.items
     → from ≡ total (take h index.heads.items) → IsHere held index list h from
-head-here held index list h from is lt_list same begins =
+head-here {index = index} {h = h} is lt_list same begins =
     let heads = index.heads.items in
     let lt : h < length heads = omega (arith, lt_list, ap length same) in
-    let range = head-range held index is h lt in
+    let range = head-range is h lt in
     let count = ap (λ (l : List Head). count_at l h) same in
     record {
       some = omega (arith, begins, count, range.0);
       most = omega (arith, begins, count, range.1);
       next = omega (arith, begins, count, sum_by_more (λ (head : Head). head.count) heads h no_head lt);
-      mask = λ i least below. head-mask held index is h lt i (omega (arith, least, begins)) (omega (arith, below, begins, count)) ∙ sym (ap (λ (l : List Head). mask_at l h) same);
-      lower = λ i j before behind below. head-lower held index is h lt i j (omega (arith, before, begins)) (omega (arith, behind, begins)) (omega (arith, below, is.entries.size));
+      mask = λ i least below. head-mask is h lt i (omega (arith, least, begins)) (omega (arith, below, begins, count)) ∙ sym (ap (λ (l : List Head). mask_at l h) same);
+      lower = λ i j before behind below. head-lower is h lt i j (omega (arith, before, begins)) (omega (arith, behind, begins)) (omega (arith, below, is.entries.size));
     }
 
 -- and where code has found the state's fingerprint among them
@@ -157,7 +157,7 @@ pub head-masked : (held : List Entry) (index : Index) (s : State) (list : List H
     → ((i : ℕ) → high ≤ i → i < from + count_at list h → print < get_or index.prints.items i 0)
     → IsMasked held (positions_of index) s from low high (from + count_at list h) print
 head-masked held index s list h from low high print is here state range before inside behind =
-    let at = λ (i : ℕ) (below : i < from + count_at list h). print-is held index is i (omega (arith, below, here.most)) in
+    let at = λ (i : ℕ) (below : i < from + count_at list h). print-is is i (omega (arith, below, here.most)) in
     record {
       index = is.entries;
       some = here.some;

@@ -11,9 +11,9 @@ use Rattle.asc_traj.specs.declared.part.Part.{Part}
 use Rattle.asc_traj.specs.Parts.{all_cells, kept, masked, part_cells, word_place}
 use Rattle.asc_traj.proofs.Parts.{cells-push, kept-suc, kept-zero, masked-suc, masked-zero, part, part_cells-is}
 use Rattle.asc_shard.specs.declared.heads.Head.{Head}
-use Rattle.asc_shard.specs.Marks.{factor, first_reads_of, print_in, weight}
-use Rattle.asc_shard.specs.Inside.{AreProducts, IsHead, mark_of, places_of, word_places, words_in}
-use Rattle.asc_shard.proofs.Marks.{part-sum, sum-places}
+use Rattle.asc_shard.specs.Fingerprints.{factor, first_reads_of, print_in, weight}
+use Rattle.asc_shard.specs.Inside.{AreProducts, IsHead, key_of, places_of, word_places, words_in}
+use Rattle.asc_shard.proofs.Keying.{part-sum, sum-places}
 
 -- ---- places
 
@@ -24,14 +24,16 @@ word-push (w ∷ words) word = ap (λ list. (w * 4) ∷ (w * 4 + 1) ∷ (w * 4 +
 whole-cells : (place word : ℕ) → masked 4 15 place word
     ≡ (place, word % 256) ∷ (place + 1, word / 256 % 256) ∷ (place + 1 + 1, word / 256 / 256 % 256) ∷ (place + 1 + 1 + 1, word / 256 / 256 / 256 % 256) ∷ []
 whole-cells place word =
-    masked-suc 3 15 place word
-    ∙ ap (λ list. (place, word % 256) ∷ list) (masked-suc 2 7 (place + 1) (word / 256)
-    ∙ ap (λ list. (place + 1, word / 256 % 256) ∷ list) (masked-suc 1 3 (place + 1 + 1) (word / 256 / 256)
-    ∙ ap (λ list. (place + 1 + 1, word / 256 / 256 % 256) ∷ list) (masked-suc 0 1 (place + 1 + 1 + 1) (word / 256 / 256 / 256)
-    ∙ ap (λ list. (place + 1 + 1 + 1, word / 256 / 256 / 256 % 256) ∷ list) (masked-zero 0 (place + 1 + 1 + 1 + 1) (word / 256 / 256 / 256 / 256)))))
+    rw (
+      masked-suc 3 15 place word,
+      masked-suc 2 7 (place + 1) (word / 256),
+      masked-suc 1 3 (place + 1 + 1) (word / 256 / 256),
+      masked-suc 0 1 (place + 1 + 1 + 1) (word / 256 / 256 / 256),
+      masked-zero 0 (place + 1 + 1 + 1 + 1) (word / 256 / 256 / 256 / 256),
+    ) refl
 
 one-list : (a b c d e f g h : ℕ) → a ≡ e → b ≡ f → c ≡ g → d ≡ h → a ∷ b ∷ c ∷ d ∷ [] ≡ e ∷ f ∷ g ∷ h ∷ []
-one-list a b c d e f g h p q r s = ap (λ x. x ∷ b ∷ c ∷ d ∷ []) p ∙ ap (λ x. e ∷ x ∷ c ∷ d ∷ []) q ∙ ap (λ x. e ∷ f ∷ x ∷ d ∷ []) r ∙ ap (λ x. e ∷ f ∷ g ∷ x ∷ []) s
+one-list a b c d e f g h p q r s = λ i. p i ∷ q i ∷ r i ∷ s i ∷ []
 
 pub part-places : (p : Part) → p.at % 16 ≡ 15 → places_of (part_cells p) ≡ word_places (p.at / 16 ∷ [])
 part-places p whole =
@@ -58,16 +60,9 @@ low-more words i word room lt low = subst (All (λ w. w < 32)) (sym (take_more_s
 abbrev word_sum : State → List ℕ → ℕ
 word_sum s words = sum_by (λ w. word_at s.bytes (w * 4) * factor w) words
 
-four : (f : ℕ → ℕ) (a b c d : ℕ) → sum_by f (a ∷ b ∷ c ∷ d ∷ []) ≡ f a + (f b + (f c + (f d + 0)))
-four f a b c d =
-    sum_by-cons f a (b ∷ c ∷ d ∷ []) ∙ ap (λ n. f a + n) (sum_by-cons f b (c ∷ d ∷ []) ∙ ap (λ n. f b + n) (sum_by-cons f c (d ∷ []) ∙ ap (λ n. f c + n) (sum_by-cons f d [])))
-
 kept-whole : (word : ℕ) → word < 2 ^ 32 → kept 4 15 word ≡ word
 kept-whole word lt =
-    kept-suc 3 15 word ∙ ap (λ n. word % 256 + 256 * n) (kept-suc 2 7 (word / 256)
-    ∙ ap (λ n. word / 256 % 256 + 256 * n) (kept-suc 1 3 (word / 256 / 256)
-    ∙ ap (λ n. word / 256 / 256 % 256 + 256 * n) (kept-suc 0 1 (word / 256 / 256 / 256) ∙ ap (λ n. word / 256 / 256 / 256 % 256 + 256 * n) (kept-zero 0 (word / 256 / 256 / 256 / 256)))))
-    ∙ omega (arith, lt)
+    rw (kept-suc 3 15 word, kept-suc 2 7 (word / 256), kept-suc 1 3 (word / 256 / 256), kept-suc 0 1 (word / 256 / 256 / 256), kept-zero 0 (word / 256 / 256 / 256 / 256)) (omega (arith, lt))
 
 places-sum : (s : State) (words : List ℕ) → AreBytes s.bytes → ((w : ℕ) → word_at s.bytes (w * 4) < 2 ^ 32)
     → sum_by (λ p. slice_index s.bytes p * weight p) (word_places words) ≡ word_sum s words
@@ -77,35 +72,25 @@ places-sum s (w ∷ words) fine fits =
     let p : Part = record { at = w * 16 + 15; word = 0 } in
     let whole : p.at % 16 ≡ 15 = omega arith in
     let index : p.at / 16 ≡ w = omega arith in
-    sum_by-append f (word_places (w ∷ [])) (word_places words)
-    ∙ ap (λ n. n + sum_by f (word_places words)) (
-    ap (λ k. sum_by f (word_places (k ∷ []))) (sym index) ∙ ap (sum_by f) (sym (part-places p whole)) ∙ sym (sum-places (slice_index s.bytes) (part_cells p))
-    ∙ part-sum s.bytes p fine ∙ ap (λ m. kept 4 m (word_at s.bytes (word_place p)) * factor (p.at / 16)) whole
-    ∙ ap (λ k. kept 4 15 (word_at s.bytes (k * 4)) * factor k) index
-    ∙ ap (λ n. n * factor w) (kept-whole (word_at s.bytes (w * 4)) (fits w))
-    )
-    ∙ ap (λ n. word_at s.bytes (w * 4) * factor w + n) (places-sum s words fine fits)
-    ∙ sym (sum_by-cons (λ w. word_at s.bytes (w * 4) * factor w) w words)
-
-mod-both : (a b t : ℕ) → t % 2 ^ 64 ≡ b % 2 ^ 64 → (a % 2 ^ 64 + t) % 2 ^ 64 ≡ (a + b) % 2 ^ 64
-mod-both a b t e = omega (arith, e)
+    let one = ap (λ k. sum_by f (word_places (k ∷ []))) (sym index) ∙ ap (sum_by f) (sym (part-places p whole)) ∙ sym (sum-places (slice_index s.bytes) (part_cells p))
+    ∙ part-sum s.bytes p fine ∙ (λ i. kept 4 (whole i) (word_at s.bytes (index i * 4)) * factor (index i)) ∙ ap (λ n. n * factor w) (kept-whole (word_at s.bytes (w * 4)) (fits w)) in
+    omega (arith, sum_by-append f (word_places (w ∷ [])) (word_places words), one, places-sum s words fine fits, sum_by-cons (λ w. word_at s.bytes (w * 4) * factor w) w words)
 
 products-sum : (s : State) (products words : List ℕ) → AreProducts s products → All (λ w. w < 32) words → sum_by (slice_index products) words % 2 ^ 64 ≡ word_sum s words % 2 ^ 64
 products-sum s products [] are low = refl
 products-sum s products (w ∷ words) are low =
-    let f : ℕ → ℕ = λ w. word_at s.bytes (w * 4) * factor w in
-    ap (λ n. n % 2 ^ 64) (sum_by-cons (slice_index products) w words ∙ ap (λ n. n + sum_by (slice_index products) words) (are.counts w (All-head (λ w. w < 32) w words low)))
-    ∙ mod-both (f w) (word_sum s words) (sum_by (slice_index products) words) (products-sum s products words are (All-tail (λ w. w < 32) w words low))
-    ∙ ap (λ n. n % 2 ^ 64) (sym (sum_by-cons f w words))
+    let counts = are.counts w (All-head (λ w. w < 32) w words low) in
+    let ih = products-sum s products words are (All-tail (λ w. w < 32) w words low) in
+    omega (arith, counts, ih, sum_by-cons (slice_index products) w words, sum_by-cons (λ w. word_at s.bytes (w * 4) * factor w) w words)
 
 -- the fingerprint of a head's words is that of each of its entries
 pub state-print : (s : State) (e : Entry) (head : Head) → AreBytes s.bytes → ((w : ℕ) → word_at s.bytes (w * 4) < 2 ^ 32) → IsTrueEntry e → IsHead head → 0 < head.len
-    → (mark_of e).mask ≡ head.mask → word_sum s (words_in head) % 2 ^ 64 ≡ print_in s e
+    → (key_of e).mask ≡ head.mask → word_sum s (words_in head) % 2 ^ 64 ≡ print_in s e
 state-print s e head fine fits true_e is some same =
     ap (λ n. n % 2 ^ 64) (sym (places-sum s (words_in head) fine fits) ∙ ap (sum_by (λ p. slice_index s.bytes p * weight p)) (sym (is.places some e true_e same))
     ∙ sym (sum-places (slice_index s.bytes) (first_reads_of e)))
 
 pub words-print : (s : State) (e : Entry) (head : Head) (products : List ℕ) → AreBytes s.bytes → ((w : ℕ) → word_at s.bytes (w * 4) < 2 ^ 32) → IsTrueEntry e → IsHead head → 0 < head.len
-    → (mark_of e).mask ≡ head.mask → AreProducts s products → sum_by (slice_index products) (words_in head) % 2 ^ 64 ≡ print_in s e
+    → (key_of e).mask ≡ head.mask → AreProducts s products → sum_by (slice_index products) (words_in head) % 2 ^ 64 ≡ print_in s e
 words-print s e head products fine fits true_e is some same are =
     products-sum s products (words_in head) are is.low ∙ state-print s e head fine fits true_e is some same

@@ -5,7 +5,7 @@ use lib.Pointwise.{pointwise}
 use Rattle.asc_model.specs.Shape.{is_same_shape}
 use Rattle.asc_model.specs.State.{State}
 use Rattle.asc_model.specs.Entry.{Entry}
-use Rattle.asc_shard.specs.Marks.{may_match}
+use Rattle.asc_shard.specs.Fingerprints.{may_match}
 
 -- A group is the entries of one shape and one list of read places.
 abbrev pub is_of_group : Entry → Entry → Bool

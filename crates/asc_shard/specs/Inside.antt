@@ -13,19 +13,19 @@ use Rattle.asc_model.specs.Entry.{Entry, IsTrueEntry}
 use Rattle.asc_model.specs.DependencyVector.{is_among}
 use Rattle.asc_model.specs.Number.{word_at}
 use Rattle.asc_traj.specs.Content.{matches}
-use Rattle.asc_shard.specs.declared.mark.Mark.{Mark}
+use Rattle.asc_shard.specs.declared.key.Key.{Key}
 use Rattle.asc_shard.specs.declared.heads.Head.{Head}
 use Rattle.asc_shard.specs.declared.heads.Beginning.{Beginning}
 use Rattle.asc_shard.specs.declared.index.Index.{Index}
 use Rattle.asc_shard.specs.declared.index.Place.{Place}
-use Rattle.asc_shard.specs.Marks.{factor, first_reads_of, print_of}
+use Rattle.asc_shard.specs.Fingerprints.{factor, first_reads_of, print_of}
 
 -- a count that was raised so many times
 abbrev pub raised : (more : ℕ → ℕ) → (times count : ℕ) → ℕ
 raised more zero count = count
 raised more (suc times) count = more (raised more times count)
 
--- ---- marks
+-- ---- keys
 
 -- those of n places, from a place on, that pass a test, as the bits of a number
 unfoldable pub bits_of : (ℕ → Bool) → (n place : ℕ) → ℕ
@@ -46,13 +46,13 @@ bytes_at s cells = map (λ cell. slice_index s.bytes cell.0) cells
 abbrev pub mask_of : List ℕ → ℕ
 mask_of places = bits_of (λ p. is_among p places) 128 0
 
-abbrev pub mark_of : Entry → Mark
-mark_of e = record { mask = mask_of (places_of (first_reads_of e)); print = print_of e }
+abbrev pub key_of : Entry → Key
+key_of e = record { mask = mask_of (places_of (first_reads_of e)); print = print_of e }
 
 -- ---- the order of entries
 
-abbrev pub by_mark : Mark → Mark → Ordering
-by_mark = then_cmp (on (λ (m : Mark). m.mask) nat_cmp) (on (λ (m : Mark). m.print) nat_cmp)
+abbrev pub by_key : Key → Key → Ordering
+by_key = then_cmp (on (λ (m : Key). m.mask) nat_cmp) (on (λ (m : Key). m.print) nat_cmp)
 
 abbrev pub rank_of : Version → ℕ
 rank_of One = 1
@@ -68,7 +68,7 @@ by_group = then_cmp (on (λ (e : Entry). e.shape) by_shape) (on (λ (e : Entry).
 
 -- first by fingerprint, then by group
 abbrev pub by_head : Entry → Entry → Ordering
-by_head = then_cmp (on mark_of by_mark) by_group
+by_head = then_cmp (on key_of by_key) by_group
 
 -- in a group by the bytes read, and then by steps
 abbrev pub by_tail : Entry → Entry → Ordering
@@ -144,7 +144,7 @@ words_in head = take head.len head.words
 pub record IsHead (head : Head) : Type 0 where
   pub fit : head.len ≤ length head.words
   pub low : All (λ word. word < 32) (words_in head)
-  pub places : 0 < head.len → (e : Entry) → IsTrueEntry e → (mark_of e).mask ≡ head.mask → places_of (first_reads_of e) ≡ word_places (words_in head)
+  pub places : 0 < head.len → (e : Entry) → IsTrueEntry e → (key_of e).mask ≡ head.mask → places_of (first_reads_of e) ≡ word_places (words_in head)
 
 -- what each of the first words of a state counts
 pub record AreProducts (s : State) (products : List ℕ) : Type 0 where
@@ -171,12 +171,12 @@ pub record IsIndexed (held : List Entry) (index : Index) : Type 0 where
   pub oldest : index.oldest < 2 ^ 32
   pub few : length held < 2 ^ 32
   pub prints : index.prints.items ≡ map print_of (sorted_in held index)
-  pub masks : runs index.heads.items ≡ map (λ e. (mark_of e).mask) (sorted_in held index)
+  pub masks : runs index.heads.items ≡ map (λ e. (key_of e).mask) (sorted_in held index)
   pub heads : AreHeads index.heads.items
 
 -- where an entry stands, or would
 pub record IsPlace (held : List Entry) (index : Index) (e : Entry) (place : Place) : Type 0 where
-  pub beginning : IsBeginning index.heads.items (mark_of e).mask place.beginning
+  pub beginning : IsBeginning index.heads.items (key_of e).mask place.beginning
   pub least : place.beginning.from ≤ place.at
   pub most : place.at ≤ place.beginning.next
   pub before : (i : ℕ) → i < place.at → by_all (slice_index_or (sorted_in held index) i no_entry) e ≡ Less

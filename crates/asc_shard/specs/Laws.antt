@@ -4,7 +4,7 @@ use Rattle.asc_model.specs.State.{State}
 use Rattle.asc_model.specs.Entry.{Entry}
 use Rattle.asc_traj.specs.Content.{matches}
 use Rattle.asc_shard.specs.Content.{add, content_of}
-use Rattle.asc_shard.specs.Marks.{may_match}
+use Rattle.asc_shard.specs.Fingerprints.{may_match}
 
 -- A state that an entry matches has its fingerprint.
 abbrev pub PrintsHideNoMatch : Type 0

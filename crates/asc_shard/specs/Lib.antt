@@ -2,5 +2,5 @@ pub mod Content
 pub mod Groups
 pub mod Inside
 pub mod Laws
-pub mod Marks
+pub mod Fingerprints
 pub mod Shard

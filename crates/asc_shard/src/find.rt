@@ -3,12 +3,12 @@ ghost use Rattle.std.specs.Arc.{arc_value};
 ghost use Rattle.asc_traj.specs.Content.{longest};
 ghost use Rattle.asc_shard.specs.Content.{IsFound};
 ghost use Rattle.asc_shard.specs.Groups.{AreAsked, Asked, IsFew};
-ghost use Rattle.asc_shard.specs.Marks.{may_match, print_in};
-ghost use Rattle.asc_shard.specs.Inside.{AreProducts, IsBest, IsFrom, IsHead, IsIndexed, IsLast, IsMost, IsTailRising, by_group, mark_of, no_entry, positions_of, raised, sorted_in};
+ghost use Rattle.asc_shard.specs.Fingerprints.{may_match, print_in};
+ghost use Rattle.asc_shard.specs.Inside.{AreProducts, IsBest, IsFrom, IsHead, IsIndexed, IsLast, IsMost, IsTailRising, by_group, key_of, no_entry, positions_of, raised, sorted_in};
 
 use crate::heads::Head;
 use crate::index::Index;
-use crate::mark::{print_in, print_of_state, print_of_words, products_of};
+use crate::key::{print_in, print_of_state, print_of_words, products_of};
 use crate::order::{compare_groups, compare_with, has_reads};
 use crate::prints::range_of;
 use asc_shape::{State, Steps};
@@ -63,7 +63,7 @@ pub struct Best {
 
 /// The position of the longest of these entries, of at most `left` steps, that matches a state.
 ///
-/// Marks with one mask stand together in the index. For each mask the state has one fingerprint, and the entries that
+/// Keys with one mask stand together in the index. For each mask the state has one fingerprint, and the entries that
 /// have it stand together again, group by group.
 pub fn search<P: Probes>(
     entries: &[Arc<Entry>],
@@ -140,7 +140,7 @@ fn print_for(
     requires index { IsIndexed (map arc_value entries.now) index.now }
     requires within { from < length (positions_of index.now) }
     requires head { IsHead head.now }
-    requires entry { (mark_of (slice_index_or (sorted_in (map arc_value entries.now) index.now) from no_entry)).mask
+    requires entry { (key_of (slice_index_or (sorted_in (map arc_value entries.now) index.now) from no_entry)).mask
         ≡ head.now.mask }
     requires products { IfSome products (λ p. AreProducts state.now p.now) }
     ensures { result ≡ print_in state.now (slice_index_or (sorted_in (map arc_value entries.now) index.now) from no_entry) }
@@ -157,7 +157,7 @@ fn print_for(
     }
 }
 
-/// The longest match so far, after the entries of one mark, which the state has, if there are any.
+/// The longest match so far, after the entries of one key, which the state has, if there are any.
 #[inline]
 fn search_some<P: Probes>(
     entries: &[Arc<Entry>],
@@ -172,9 +172,9 @@ fn search_some<P: Probes>(
 ) -> Best
     requires index { IsIndexed (map arc_value entries.now) index.now }
     requires range { (low ≤ high) × (high ≤ length (positions_of index.now)) }
-    requires marks { (i j : ℕ) → low ≤ i → i < high → low ≤ j → j < high
-        → mark_of (slice_index_or (sorted_in (map arc_value entries.now) index.now) i no_entry)
-        ≡ mark_of (slice_index_or (sorted_in (map arc_value entries.now) index.now) j no_entry) }
+    requires keys { (i j : ℕ) → low ≤ i → i < high → low ≤ j → j < high
+        → key_of (slice_index_or (sorted_in (map arc_value entries.now) index.now) i no_entry)
+        ≡ key_of (slice_index_or (sorted_in (map arc_value entries.now) index.now) j no_entry) }
     requires prints { (i : ℕ) → low ≤ i → i < high
         → may_match state.now (slice_index_or (sorted_in (map arc_value entries.now) index.now) i no_entry) ≡ true }
     requires best { IsBest (map arc_value entries.now) state.now left best.position best.steps }
@@ -210,9 +210,9 @@ fn search_few<P: Probes>(
     requires index { IsIndexed (map arc_value entries.now) index.now }
     requires range { (low ≤ high) × (high ≤ length (positions_of index.now)) }
     requires few { high - low ≤ 4 }
-    requires marks { (i j : ℕ) → low ≤ i → i < high → low ≤ j → j < high
-        → mark_of (slice_index_or (sorted_in (map arc_value entries.now) index.now) i no_entry)
-        ≡ mark_of (slice_index_or (sorted_in (map arc_value entries.now) index.now) j no_entry) }
+    requires keys { (i j : ℕ) → low ≤ i → i < high → low ≤ j → j < high
+        → key_of (slice_index_or (sorted_in (map arc_value entries.now) index.now) i no_entry)
+        ≡ key_of (slice_index_or (sorted_in (map arc_value entries.now) index.now) j no_entry) }
     requires prints { (i : ℕ) → low ≤ i → i < high
         → may_match state.now (slice_index_or (sorted_in (map arc_value entries.now) index.now) i no_entry) ≡ true }
     requires best { IsBest (map arc_value entries.now) state.now left best.position best.steps }
@@ -256,7 +256,7 @@ fn longer_with(
     best
 }
 
-/// The longest match so far, after the entries of one mark, which the state has, group by group.
+/// The longest match so far, after the entries of one key, which the state has, group by group.
 fn search_range<P: Probes>(
     entries: &[Arc<Entry>],
     index: &Index,
@@ -269,9 +269,9 @@ fn search_range<P: Probes>(
 ) -> Best
     requires index { IsIndexed (map arc_value entries.now) index.now }
     requires range { (low ≤ high) × (high ≤ length (positions_of index.now)) }
-    requires marks { (i j : ℕ) → low ≤ i → i < high → low ≤ j → j < high
-        → mark_of (slice_index_or (sorted_in (map arc_value entries.now) index.now) i no_entry)
-        ≡ mark_of (slice_index_or (sorted_in (map arc_value entries.now) index.now) j no_entry) }
+    requires keys { (i j : ℕ) → low ≤ i → i < high → low ≤ j → j < high
+        → key_of (slice_index_or (sorted_in (map arc_value entries.now) index.now) i no_entry)
+        ≡ key_of (slice_index_or (sorted_in (map arc_value entries.now) index.now) j no_entry) }
     requires prints { (i : ℕ) → low ≤ i → i < high
         → may_match state.now (slice_index_or (sorted_in (map arc_value entries.now) index.now) i no_entry) ≡ true }
     requires best { IsBest (map arc_value entries.now) state.now left best.position best.steps }
@@ -314,14 +314,14 @@ fn longer_of(best: Best, entries: &[Arc<Entry>], position: usize) -> Best
     best
 }
 
-/// Where the group ends of which the first entry is at `from`, among those of one mark.
+/// Where the group ends of which the first entry is at `from`, among those of one key.
 fn group_end(entries: &[Arc<Entry>], index: &Index, from: usize, high: usize) -> usize
     requires index { IsIndexed (map arc_value entries.now) index.now }
     requires some { from < high }
     requires range { high ≤ length (positions_of index.now) }
-    requires marks { (i j : ℕ) → from ≤ i → i < high → from ≤ j → j < high
-        → mark_of (slice_index_or (sorted_in (map arc_value entries.now) index.now) i no_entry)
-        ≡ mark_of (slice_index_or (sorted_in (map arc_value entries.now) index.now) j no_entry) }
+    requires keys { (i j : ℕ) → from ≤ i → i < high → from ≤ j → j < high
+        → key_of (slice_index_or (sorted_in (map arc_value entries.now) index.now) i no_entry)
+        ≡ key_of (slice_index_or (sorted_in (map arc_value entries.now) index.now) j no_entry) }
     ensures some { from < result }
     ensures range { result ≤ high }
     ensures same { (i : ℕ) → from ≤ i → i < result

@@ -1,9 +1,9 @@
 ghost use Rattle.std.specs.Prelude.{◌≡◌, ℕ, ◌+◌, ◌^◌, ◌<◌, ◌≤◌, All, length, map, take, true, slice_index_or, vec_len, vec_capacity};
 ghost use Rattle.std.specs.List.{AllPairs, insert, remove};
 ghost use Rattle.asc_traj.specs.Parts.{all_cells};
-ghost use Rattle.asc_shard.specs.Inside.{AreHeads, IsBeginning, IsHead, count_at, mark_of, places_of, runs, total, word_places};
+ghost use Rattle.asc_shard.specs.Inside.{AreHeads, IsBeginning, IsHead, count_at, key_of, places_of, runs, total, word_places};
 
-use crate::mark::first_parts;
+use crate::key::first_parts;
 use asc_traj::{Entry, Part};
 
 /// A list of first places that entries read, and how many entries do.
@@ -60,7 +60,7 @@ pub fn raise(heads: &mut Vec<Head>, beginning: Beginning, entry: &Entry, mask: u
     requires room { vec_len heads.old < vec_capacity heads.old }
     requires few { total heads.old.items < 2 ^ 32 }
     requires heads { AreHeads heads.old.items }
-    requires mask { mask ≡ (mark_of entry.now).mask }
+    requires mask { mask ≡ (key_of entry.now).mask }
     requires beginning { IsBeginning heads.old.items mask beginning }
     ensures runs { (at : ℕ) → beginning.from ≤ at → at ≤ beginning.next
         → runs heads.new.items ≡ insert (runs heads.old.items) at mask }
@@ -94,7 +94,7 @@ pub fn lower(heads: &mut Vec<Head>, head: usize)
 
 /// The head of an entry's mask, with that entry alone.
 fn head_of(entry: &Entry, mask: u128) -> Head
-    requires { mask ≡ (mark_of entry.now).mask }
+    requires { mask ≡ (key_of entry.now).mask }
     ensures mask { result.mask ≡ mask }
     ensures count { result.count ≡ 1 }
     ensures head { IsHead result }

@@ -3,10 +3,10 @@ ghost use Rattle.std.specs.Arc.{arc_value};
 ghost use Rattle.std.specs.List.{list_any, remove};
 ghost use Rattle.std.specs.Ordering.{is_lt};
 ghost use Rattle.asc_shard.specs.Content.{is_same_entry};
-ghost use Rattle.asc_shard.specs.Inside.{IsIndexed, IsPlace, by_all, mark_of, no_entry, positions_of, sorted_in};
+ghost use Rattle.asc_shard.specs.Inside.{IsIndexed, IsPlace, by_all, key_of, no_entry, positions_of, sorted_in};
 
 use crate::heads::{Beginning, Head, beginning_of, lower, raise};
-use crate::mark::{Mark, mark_of};
+use crate::key::{Key, key_of};
 use crate::order::compare_alike;
 #[cfg(test)]
 use crate::order::compare_groups;
@@ -76,14 +76,14 @@ impl Index {
 }
 
 /// Where an entry stands in an index, or would.
-pub fn place_of(entries: &[Arc<Entry>], index: &Index, entry: &Entry, mark: Mark) -> Place
+pub fn place_of(entries: &[Arc<Entry>], index: &Index, entry: &Entry, key: Key) -> Place
     requires index { IsIndexed (map arc_value entries.now) index.now }
-    requires mark { mark ≡ mark_of entry.now }
+    requires key { key ≡ key_of entry.now }
     ensures place { IsPlace (map arc_value entries.now) index.now entry.now result }
     ensures same { result.same ≡ list_any (is_same_entry entry.now) (map arc_value entries.now) }
 {
-    let beginning = beginning_of(&index.heads, mark.mask);
-    let (low, high) = range_of(index, beginning.from, beginning.next, mark.print);
+    let beginning = beginning_of(&index.heads, key.mask);
+    let (low, high) = range_of(index, beginning.from, beginning.next, key.print);
     let at = place_among(entries, index, low, high, entry);
     let same = at < high && compare_alike(index.entry(entries, at), entry).is_eq();
     Place {
@@ -93,7 +93,7 @@ pub fn place_of(entries: &[Arc<Entry>], index: &Index, entry: &Entry, mark: Mark
     }
 }
 
-/// The same among entries of its mark.
+/// The same among entries of its key.
 fn place_among(
     entries: &[Arc<Entry>],
     index: &Index,
@@ -103,8 +103,8 @@ fn place_among(
 ) -> usize
     requires index { IsIndexed (map arc_value entries.now) index.now }
     requires range { (from ≤ end) × (end ≤ length (positions_of index.now)) }
-    requires marks { (i : ℕ) → from ≤ i → i < end
-        → mark_of (slice_index_or (sorted_in (map arc_value entries.now) index.now) i no_entry) ≡ mark_of entry.now }
+    requires keys { (i : ℕ) → from ≤ i → i < end
+        → key_of (slice_index_or (sorted_in (map arc_value entries.now) index.now) i no_entry) ≡ key_of entry.now }
     ensures range { (from ≤ result) × (result ≤ end) }
     ensures before { (i : ℕ) → from ≤ i → i < result
         → by_all (slice_index_or (sorted_in (map arc_value entries.now) index.now) i no_entry) entry.now
@@ -131,7 +131,7 @@ pub fn add(
     entries: &mut Vec<Arc<Entry>>,
     index: &mut Index,
     entry: Arc<Entry>,
-    mark: Mark,
+    key: Key,
     place: Place,
 )
     requires room { vec_len entries.old < vec_capacity entries.old }
@@ -140,7 +140,7 @@ pub fn add(
     requires prints_room { vec_len entries.old < vec_capacity index.old.prints }
     requires heads_room { vec_len entries.old < vec_capacity index.old.heads }
     requires index { IsIndexed (map arc_value entries.old.items) index.old }
-    requires mark { mark ≡ mark_of (arc_value entry) }
+    requires key { key ≡ key_of (arc_value entry) }
     requires place { IsPlace (map arc_value entries.old.items) index.old (arc_value entry) place }
     requires apart { list_any (is_same_entry (arc_value entry)) (map arc_value entries.old.items) ≡ false }
     ensures entries { entries.new.items ≡ entries.old.items ++ entry ∷ [] }
@@ -155,8 +155,8 @@ pub fn add(
     let number = index.oldest.wrapping_add(entries.len() as u32);
     // There is room for each.
     let _ = index.numbers.insert(place.at, number);
-    let _ = index.prints.insert(place.at, mark.print);
-    raise(&mut index.heads, place.beginning, &entry, mark.mask);
+    let _ = index.prints.insert(place.at, key.print);
+    raise(&mut index.heads, place.beginning, &entry, key.mask);
     entries.push_reserved(entry);
 }
 
@@ -171,9 +171,9 @@ pub fn forget_oldest(entries: &mut Vec<Arc<Entry>>, index: &mut Index)
         × (vec_capacity index.new.prints ≡ vec_capacity index.old.prints)
         × (vec_capacity index.new.heads ≡ vec_capacity index.old.heads) }
 {
-    let mark = mark_of(&entries[0]);
-    let beginning = beginning_of(&index.heads, mark.mask);
-    let (low, high) = range_of(index, beginning.from, beginning.next, mark.print);
+    let key = key_of(&entries[0]);
+    let beginning = beginning_of(&index.heads, key.mask);
+    let (low, high) = range_of(index, beginning.from, beginning.next, key.print);
     let at = place_of_oldest(index, low, high);
     index.numbers.remove(at);
     index.prints.remove(at);

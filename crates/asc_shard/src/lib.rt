@@ -4,8 +4,8 @@
 mod find;
 mod heads;
 mod index;
+mod key;
 mod laws;
-mod mark;
 mod order;
 mod prints;
 mod shard;

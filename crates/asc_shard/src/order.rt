@@ -5,16 +5,16 @@ ghost use Rattle.std.specs.Ordering.{nat_cmp};
 ghost use Rattle.std.specs.Cmp.Lexicographic.{slice_cmp};
 ghost use Rattle.asc_model.specs.Shape.{length_of};
 ghost use Rattle.asc_traj.specs.Parts.{IsPart, all_cells, cells_from, part_cells, word_place};
-ghost use Rattle.asc_shard.specs.Inside.{bytes_at, bytes_of, compare_with, mark_of, places_of, rank_of, by_all, by_group, by_shape};
+ghost use Rattle.asc_shard.specs.Inside.{bytes_at, bytes_of, compare_with, key_of, places_of, rank_of, by_all, by_group, by_shape};
 
 use asc_model::Version;
 use asc_shape::{Shape, State};
 use asc_traj::{Entry, Part, has_parts, next_cell};
 use std::cmp::Ordering;
 
-/// Which of two entries of one mark is first in the index.
+/// Which of two entries of one key is first in the index.
 pub fn compare_alike(a: &Entry, b: &Entry) -> Ordering
-    requires { mark_of a.now ≡ mark_of b.now }
+    requires { key_of a.now ≡ key_of b.now }
     ensures { result ≡ by_all a.now b.now }
 {
     compare_groups(a, b)

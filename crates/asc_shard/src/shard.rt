@@ -9,7 +9,7 @@ ghost use Rattle.asc_shard.specs.Inside.{raised};
 
 use crate::find::{Probes, Uncounted, search};
 use crate::index::{Index, add, forget_oldest, place_of};
-use crate::mark::mark_of;
+use crate::key::key_of;
 use asc_outside::Memory;
 use asc_shape::{State, Steps};
 use asc_traj::{Entry, jump_by};
@@ -86,7 +86,7 @@ impl Shard {
     pub fn holds(&self, entry: &Entry) -> bool
         ensures { result ≡ list_any (is_same_entry entry.now) self.now.held }
     {
-        place_of(&self.entries, &self.index, entry, mark_of(entry)).same
+        place_of(&self.entries, &self.index, entry, key_of(entry)).same
     }
 
     /// Puts an entry last, unless one that is the same is held. No allocator is handed in.
@@ -95,12 +95,12 @@ impl Shard {
         ensures capacity { self.new.capacity ≡ self.old.capacity }
         ensures outcome { result ≡ outcome_of self.old.held (arc_value entry) }
     {
-        let mark = mark_of(&entry);
-        let place = place_of(&self.entries, &self.index, &entry, mark);
+        let key = key_of(&entry);
+        let place = place_of(&self.entries, &self.index, &entry, key);
         if place.same {
             return Inserted::Known;
         }
-        add(&mut self.entries, &mut self.index, entry, mark, place);
+        add(&mut self.entries, &mut self.index, entry, key, place);
         if self.entries.len() > self.capacity {
             forget_oldest(&mut self.entries, &mut self.index);
         }

@@ -1,8 +1,10 @@
 -- An answer to a file is an answer to the words that ask for it.
-use Rattle.std.proofs.Common.{ℕ, List, Option, ◌≡◌, refl, ap, ◌∙◌, subst}
+use Rattle.std.proofs.Common.{ℕ, inl, inr, List, Option, Result, Ok, Err, IfErr, IsErrAnd, ◌≡◌, refl, ap, ◌∙◌, subst, arith}
 use Rattle.asc_model.specs.State.{State}
+use Rattle.asc_outside.specs.Lists.{given_number}
 use Rattle.asc_outside.specs.Outside.{Blames, File, MayHold}
-use Rattle.asc_calls.specs.World.{CallState, World}
+use Rattle.asc_calls.specs.World.{BlamesOnly, CallState, Outside, Told, World, faults, faults_after, outside, world_in}
+use Rattle.asc_run.specs.declared.walk.Ended.TheVariants as ends
 use Rattle.asc_words.specs.declared.answer.Bad.{Bad}
 use Rattle.asc_words.specs.declared.line.LineFault.{LineFault}
 use Rattle.asc_words.specs.declared.line.LineFault.TheVariants as LineFaults
@@ -13,7 +15,7 @@ use Rattle.asc_show.specs.declared.request.Question.{Question}
 use Rattle.asc_show.specs.declared.request.Question.TheVariants.{Entry, Miss, At, Profile, Seek}
 use Rattle.asc_show.specs.declared.request.Request.{Request}
 use Rattle.asc_show.specs.Asked.{Asks}
-use Rattle.asc_show.specs.Shown.{Answers, HasNoText, Outer, Says, Starts, counted_world, refusal_of}
+use Rattle.asc_show.specs.Shown.{Answers, HasInputFailed, HasNoText, HasOutputFailed, Outer, Says, Starts, counted_outside, device_of_answer, device_of_result, refusal_of}
 
 pub of-file : (words : List (List ℕ)) (files : Option (List File)) (old new : Outer) (request : Request) (content : List ℕ) (answer : Answer) → Asks words request → MayHold files request.line.image content
     → Says request content old new answer → Answers words files old new answer
@@ -99,9 +101,45 @@ none-OutFault line question start left steps n answer none = record {
 }
 
 -- the program of an image, before it begins
-pub same-start : (s t : State) (calls calls' : CallState) (left : Option (List ℕ)) (steps faults : ℕ) → s ≡ t → calls ≡ calls' → counted_world s calls left steps faults ≡ counted_world t calls' left steps faults
-same-start s t calls calls' left steps faults same also =
-    ap (λ x. counted_world x calls left steps faults) same ∙ ap (λ x. counted_world t x left steps faults) also
+pub same-start : (s t : State) (calls calls' : CallState) (o : Outside) → s ≡ t → calls ≡ calls' → world_in s calls o ≡ world_in t calls' o
+same-start s t calls calls' o same also = λ i. world_in (same i) (also i) o
+
+-- what is told of devices before the guest puts anything
+pub nothing-put : (t : Told) (left : Option (List ℕ)) (out err steps input_faults : ℕ)
+    → t ≡ record { left = left; out = given_number out; err = given_number err; faults = faults input_faults 0 0 } → out ≡ 0 → err ≡ 0
+    → outside t.left t.out t.err steps t.faults ≡ counted_outside left steps input_faults
+nothing-put t left out err steps input_faults is no_out no_err =
+    ap (λ (x : Told). outside x.left x.out x.err steps x.faults) is ∙ (λ i. outside left (given_number (no_out i)) (given_number (no_err i)) steps (faults input_faults 0 0))
+
+-- The input failed where that is answered, and else not. Outputs that are only counted do not fail.
+blames-answer : (answer : Answer) (old new : ℕ) → BlamesOnly (device_of_answer answer) (faults old 0 0) (faults new 0 0) → Blames (HasInputFailed answer) old new
+blames-answer (answers.Ended ends.ReadFault at) old new blamed = record { rose = λ _. ap (λ f. f.input) blamed; stays = λ no. absurd (no (at, refl)) }
+blames-answer (answers.Ended ends.WriteFault at) old new blamed = record { rose = λ is. let e = is.1 in cc; stays = λ _. ap (λ f. f.input) blamed }
+blames-answer (answers.Ended ends.ErrFault at) old new blamed = record { rose = λ is. let e = is.1 in cc; stays = λ _. ap (λ f. f.input) blamed }
+blames-answer (answers.Ended ends.Limit at) old new blamed = record { rose = λ is. let e = is.1 in cc; stays = λ _. ap (λ f. f.input) blamed }
+blames-answer (answers.Ended (ends.Exit code) at) old new blamed = record { rose = λ is. let e = is.1 in cc; stays = λ _. ap (λ f. f.input) blamed }
+blames-answer (answers.Ended (ends.Fault fault) at) old new blamed = record { rose = λ is. let e = is.1 in cc; stays = λ _. ap (λ f. f.input) blamed }
+blames-answer answers.Memory old new blamed = record { rose = λ is. let e = is.1 in cc; stays = λ _. ap (λ f. f.input) blamed }
+blames-answer (answers.Image fault) old new blamed = record { rose = λ is. let e = is.1 in cc; stays = λ _. ap (λ f. f.input) blamed }
+blames-answer answers.Shown old new blamed = record { rose = λ is. let e = is.1 in cc; stays = λ _. ap (λ f. f.input) blamed }
+blames-answer answers.NoStep old new blamed = record { rose = λ is. let e = is.1 in cc; stays = λ _. ap (λ f. f.input) blamed }
+blames-answer answers.Usage old new blamed = record { rose = λ is. let e = is.1 in cc; stays = λ _. ap (λ f. f.input) blamed }
+blames-answer answers.TooLong old new blamed = record { rose = λ is. let e = is.1 in cc; stays = λ _. ap (λ f. f.input) blamed }
+blames-answer answers.StoreFault old new blamed = record { rose = λ is. let e = is.1 in cc; stays = λ _. ap (λ f. f.input) blamed }
+blames-answer answers.OutFault old new blamed = record { rose = λ is. let e = is.1 in cc; stays = λ _. ap (λ f. f.input) blamed }
+
+pub blames-input : {T : Type 0} (r : Result T Answer) (old new : ℕ) → BlamesOnly (device_of_result r) (faults old 0 0) (faults new 0 0) → Blames (IsErrAnd r HasInputFailed) old new
+blames-input (Ok done) old new blamed = record { rose = λ is. absurd is; stays = λ _. ap (λ f. f.input) blamed }
+blames-input (Err answer) old new blamed = blames-answer answer old new blamed
+
+pub no-output-failed : {T : Type 0} (r : Result T Answer) (old new : ℕ) → BlamesOnly (device_of_result r) (faults old 0 0) (faults new 0 0) → IfErr r (λ answer. HasOutputFailed answer → ⊥)
+no-output-failed (Ok done) old new blamed = tt
+no-output-failed (Err answer) old new blamed = λ failed.
+    let after = λ (a : Answer). faults_after (device_of_answer a) (faults old 0 0) in
+    elim failed.1 [
+      | inl is ↦ let e : 0 ≡ 1 = ap (λ f. f.out) (blamed ∙ ap after is) in absurd (let x : ⊥ = omega (arith, e) in x)
+      | inr is ↦ let e : 0 ≡ 1 = ap (λ f. f.err) (blamed ∙ ap after is) in absurd (let x : ⊥ = omega (arith, e) in x)
+    ]
 
 -- words that are refused
 pub refused : (words : List (List ℕ)) (files : Option (List File)) (o : Outer) (fault : LineFault) (answer : Answer) → answer ≡ refusal_of fault

@@ -8,9 +8,6 @@ use Rattle.asc_model.specs.State.{State}
 use Rattle.asc_depvec.proofs.Bits.{places_from-append}
 use Rattle.asc_show.specs.Registers.{cells_from}
 
-pub cells-none : (s : State) (place n : ℕ) → n ≡ 0 → [] ≡ cells_from s place n
-cells-none s place n none = ap (cells_from s place) (sym none)
-
 pub cells-more : (s : State) (place at m byte : ℕ) (cells after : List (ℕ × ℕ)) → cells ≡ cells_from s place (at - place) → place ≤ at → byte ≡ slice_index s.bytes at → m ≡ at + 1 → after ≡ cells ++ (at, byte) ∷ []
     → after ≡ cells_from s place (m - place)
 cells-more s place at m byte cells after so_far past is one more =

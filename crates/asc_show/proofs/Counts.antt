@@ -1,12 +1,12 @@
 -- A program that comes to a count of steps: the start, one turn more, and the end.
 use Rattle.std.proofs.Common.{◌≡◌, ◌≤◌, ◌<◌, ◌+◌, ◌-◌, ℕ, List, [], Bool, true, false, Option, Some, None, refl, sym, subst, arith}
 use Rattle.asc_model.specs.State.{State}
-use Rattle.asc_model.specs.Step.{Next, At, Call, Bad, next}
+use Rattle.asc_model.specs.Step.{Next, Went, Call, Faulted, next}
 use Rattle.asc_model.specs.Plain.{plain}
 use Rattle.asc_outside.specs.Outside.{Given}
 use Rattle.asc_calls.specs.GuestCall.{Device, Input, Out, Err, guest_call, nothing}
 use Rattle.asc_calls.specs.GuestCall as called
-use Rattle.asc_calls.specs.World.{CallState, Faults, MayCome, World, world}
+use Rattle.asc_calls.specs.World.{CallState, DeviceFaults, MayCome, World, world}
 use Rattle.asc_run.specs.declared.walk.Ended.{Ended}
 use Rattle.asc_run.specs.declared.walk.Ended.TheVariants as ends
 use Rattle.asc_run.specs.Execution.{Position, Off, device_of, progress_after_call, progress_after_step}
@@ -20,8 +20,8 @@ pub comes-first : (w : World) (n : ℕ) → HasNotBegun n w.calls → ComesTo n 
 comes-first w n start = Reaches-first_position (λ _. Unit {0}) w n (λ _. tt) start.going start.brk start.none
 
 -- plain steps that are counted
-pub comes-plain : (old : World) (s t : State) (calls calls' : CallState) (left : Option (List ℕ)) (out err : Given) (steps steps' : ℕ) (faults : Faults) (n n' : ℕ)
-    → calls' ≡ calls → steps' ≡ steps + (n' - n) → n ≤ n' → plain (n' - n) s ≡ At t
+pub comes-plain : (old : World) (s t : State) (calls calls' : CallState) (left : Option (List ℕ)) (out err : Given) (steps steps' : ℕ) (faults : DeviceFaults) (n n' : ℕ)
+    → calls' ≡ calls → steps' ≡ steps + (n' - n) → n ≤ n' → plain (n' - n) s ≡ Went t
     → ComesTo n old (world s calls left out err steps faults) → ComesTo n' old (world t calls' left out err steps' faults)
 comes-plain old s t calls calls' left out err steps steps' faults n n' same counted grows goes way =
     let sum : n + (n' - n) ≡ n' = omega arith in
@@ -32,12 +32,8 @@ comes-plain old s t calls calls' left out err steps steps' faults n n' same coun
 pub comes-turn : (old now new : World) (n d : ℕ) → Turns now new n d None → ComesTo n old now → ComesTo d old new
 comes-turn old now new n d turn way = Reaches-turn _ old.calls.low old.calls.high old.state old now new n d 0 way turn
 
--- the count that was wanted
-pub comes-there : (old now : World) (n m : ℕ) → n ≡ m → ComesTo n old now → ComesTo m old now
-comes-there old now n m same way = subst (λ k. ComesTo k old now) same way
-
 -- some input may still come
-some-input : (ended : Bool) (left : Option (List ℕ)) (s : State) (low high brk : ℕ) (out err : Given) (steps : ℕ) (faults : Faults)
+some-input : (ended : Bool) (left : Option (List ℕ)) (s : State) (low high brk : ℕ) (out err : Given) (steps : ℕ) (faults : DeviceFaults)
     → (rest : List ℕ) × MayCome (world s (record { low = low; high = high; brk = brk; ended = ended }) left out err steps faults) rest
 some-input true left s low high brk out err steps faults = ([], refl)
 some-input false (Some told) s low high brk out err steps faults = (told, refl)
@@ -54,10 +50,10 @@ before-call n d wanted ended position last (called.Exit code) below is =
     subst (λ e. IsBefore e d wanted) how (let most : d ≤ wanted = omega (arith, count, below) in most)
 
 before-step : (low high n d wanted : ℕ) (ended : Ended) (position last : Position) (x : Next) → n < wanted → progress_after_step low high n position x ≡ Off d ended last → IsBefore ended d wanted
-before-step low high n d wanted ended position last (At state) below is = cc
+before-step low high n d wanted ended position last (Went state) below is = cc
 before-step low high n d wanted ended position last Call below is =
     before-call n d wanted ended position last (guest_call low high position.state position.brk position.left) below is
-before-step low high n d wanted ended position last (Bad fault) below is =
+before-step low high n d wanted ended position last (Faulted fault) below is =
     let how : ends.Fault fault ≡ ended = cc in let count : n ≡ d = cc in
     subst (λ e. IsBefore e d wanted) how (let less : d < wanted = omega (arith, count, below) in less)
 

@@ -1,12 +1,10 @@
 -- The lines of what a guess has wrong, one line more.
-use Rattle.std.proofs.Common.{◌≡◌, ◌≤◌, ◌<◌, ◌+◌, ◌-◌, ℕ, zero, suc, List, [], ◌∷◌, ◌++◌, take, drop, length, slice_index_or, append_assoc, append-nil, Option, Some, None, true, if◌then◌else◌, refl, sym, ap, ◌∙◌, arith, add-one}
+use Rattle.std.proofs.Common.{◌≡◌, ◌≤◌, ◌<◌, ◌+◌, ◌-◌, ℕ, zero, suc, List, [], ◌∷◌, ◌++◌, take, drop, length, append_assoc, append-nil, Option, Some, None, if◌then◌else◌, refl, sym, ap, ◌∙◌, arith}
 use Rattle.std.specs.Option.{is_some}
 use Rattle.std.proofs.lemmas.List.{drop_all, drop-drop, length-drop}
-use Rattle.std.proofs.Math.Seq.{drop-cons}
-use Rattle.hex.specs.Hex.{encode_lower}
 use Rattle.asc_model.specs.State.{State}
 use Rattle.asc_show.specs.Text.{word_of}
-use Rattle.asc_show.specs.Missed.{hex_of, line_length, miss_line, misses_text}
+use Rattle.asc_show.specs.Missed.{line_length, miss_line, misses_text}
 
 -- cells that are skipped are left out
 skip : (now : State) (k : ℕ) (cells : List (ℕ × ℕ)) → misses_text now k cells ≡ misses_text now 0 (drop k cells)
@@ -14,14 +12,6 @@ unfolding misses_text
 skip now zero cells = refl
 skip now (suc k) [] = refl
 skip now (suc k) (a ∷ rest) = skip now k rest
-
--- a word has four places
-pub word-length : (cells : List (ℕ × ℕ)) → is_some (word_of cells) ≡ true → 4 ≤ length cells
-word-length [] h = cc
-word-length (a ∷ []) h = cc
-word-length (a ∷ b ∷ []) h = cc
-word-length (a ∷ b ∷ c ∷ []) h = cc
-word-length (a ∷ b ∷ c ∷ d ∷ rest) h = omega arith
 
 behind : (now : State) (a : ℕ × ℕ) (rest : List (ℕ × ℕ)) (word : Option (List ℕ))
     → misses_text now ((if is_some word then 4 else 1) - 1) rest ≡ misses_text now 0 (drop (if is_some word then 4 else 1) (a ∷ rest))
@@ -59,13 +49,3 @@ pub misses-put : (now : State) (cells : List (ℕ × ℕ)) (n : ℕ) (text whole
 unfolding misses_text
 misses-put now cells n text whole past h =
     sym (append-nil text) ∙ ap (λ rest. text ++ misses_text now 0 rest) (sym (drop_all n cells past)) ∙ h
-
--- the digits of one cell more
-pub hex-put : (cells : List (ℕ × ℕ)) (k : ℕ) (text before after : List ℕ) → k < length cells → before ≡ text ++ hex_of (drop (k + 1) cells)
-    → after ≡ before ++ encode_lower ((slice_index_or cells k (0, 0)).1 ∷ []) → after ≡ text ++ hex_of (drop k cells)
-hex-put cells k text before after below so_far put =
-    let cell = (slice_index_or cells k (0, 0)) in
-    let one = ap (λ m. cell ∷ drop m cells) (sym (add-one k)) in
-    let whole = ap hex_of (drop-cons cells k (0, 0) below ∙ one) in
-    put ∙ ap (λ t. t ++ encode_lower (cell.1 ∷ [])) so_far ∙ append_assoc text (hex_of (drop (k + 1) cells)) (encode_lower (cell.1 ∷ []))
-    ∙ ap (λ t. text ++ t) (sym whole)

@@ -1,5 +1,5 @@
 -- The way to three visits one after another, and how it ends.
-use Rattle.std.proofs.Common.{◌≡◌, ◌≤◌, ℕ, List, [], Option, Some, None, refl, sym, ap, ◌∙◌, arith}
+use Rattle.std.proofs.Common.{◌≡◌, ◌≤◌, ℕ, [], Option, Some, None, refl, sym, ◌∙◌, arith}
 use Rattle.asc_model.specs.State.{State}
 use Rattle.std.specs.Arc.{arc_value}
 use Rattle.std.specs.Option.{IfSome, MatchOption}
@@ -7,23 +7,20 @@ use Rattle.std.proofs.lemmas.Option.{IfSome_then}
 use Rattle.asc_model.specs.Shape.{Shape}
 use Rattle.asc_model.specs.Reach.{Bounds}
 use Rattle.asc_run.proofs.Few.{entry_of-shape}
-use Rattle.asc_outside.specs.Outside.{Blames}
-use Rattle.asc_calls.specs.World.{World, faults, BlamesOnly}
+use Rattle.asc_calls.specs.World.{Outside, World, world_in}
 use Rattle.asc_guess.specs.declared.kind.Kind.{Kind}
 use Rattle.asc_guess.specs.declared.kind.Kind.TheVariants as kinds
 use Rattle.asc_guess.specs.Guess.{guess_of}
 use Rattle.asc_words.specs.declared.line.RunLine.{RunLine}
 use Rattle.asc_run.specs.declared.process.Process.{Process}
 use Rattle.asc_run.specs.Walk.{HasNotBegun}
-use Rattle.asc_run.specs.declared.walk.Ended.TheVariants as ends
 use Rattle.asc_show.specs.declared.answer.Answer.{Answer}
 use Rattle.asc_show.specs.declared.answer.Answer.TheVariants as answers
 use Rattle.asc_show.specs.declared.answer.Reached.TheVariants as reached
 use Rattle.asc_show.specs.declared.request.Visit.{Visit}
 use Rattle.asc_show.specs.declared.lap.Lap.{Lap}
 use Rattle.asc_show.specs.Visited.{IsLap}
-use Rattle.asc_show.specs.Missed.{EndsMisses, StopsShort, counting_world, device_of_answer}
-use Rattle.asc_show.specs.Shown.{HasInputFailed, counted_world}
+use Rattle.asc_show.specs.Missed.{EndsMisses, StopsShort}
 use Rattle.asc_show.specs.Seen.{IsOnWay}
 use Rattle.asc_show.proofs.Visits.{on-way-first}
 
@@ -40,11 +37,10 @@ lap-shape bounds s lap shape is same = IfSome_then lap.entry (if-there lap.entry
     if-there (Some x) P Q h = h
     if-there None P Q h = tt
 
--- a program that has not begun, and has put nothing, is on its way
-pub first-way : (address : ℕ) (process : Process) (left : Option (List ℕ)) (out err steps input_faults : ℕ) → out ≡ 0 → err ≡ 0 → HasNotBegun process.count process.calls
-    → IsOnWay address 0 [] (counted_world process.state process.calls left steps input_faults) (counting_world process left out err steps input_faults) process.count
-first-way address process left out err steps input_faults no_out no_err start =
-    rw (no_out, no_err) (on-way-first address (counted_world process.state process.calls left steps input_faults) process.count 0 start.going start.brk start.none refl)
+-- a program that has not begun is on its way
+pub first-way : (address : ℕ) (process : Process) (o : Outside) → HasNotBegun process.count process.calls
+    → IsOnWay address 0 [] (world_in process.state process.calls o) (world_in process.state process.calls o) process.count
+first-way address process o start = on-way-first address (world_in process.state process.calls o) process.count 0 start.going start.brk start.none refl
 
 -- it stopped short of that visit, and so of a later one
 pub stops-earlier : (limit : ℕ) (at visit : Visit) (start now : World) (count : ℕ) (answer : Answer) → at.pc ≡ visit.pc → at.number ≤ visit.number
@@ -75,20 +71,3 @@ ends-short line visit start now count answers.Usage short = absurd short
 ends-short line visit start now count answers.TooLong short = absurd short
 ends-short line visit start now count answers.StoreFault short = absurd short
 ends-short line visit start now count answers.OutFault short = absurd short
-
--- the input failed where that is answered, and else another device did, or none
-pub blames-input : (answer : Answer) (before now : ℕ) → BlamesOnly (device_of_answer answer) (faults before 0 0) (faults now 0 0) → Blames (HasInputFailed answer) before now
-blames-input (answers.Ended ends.ReadFault at) before now blamed = record { rose = λ _. ap (λ f. f.input) blamed; stays = λ no. absurd (no (at, refl)) }
-blames-input (answers.Ended ends.WriteFault at) before now blamed = record { rose = λ is. let e = is.1 in cc; stays = λ _. ap (λ f. f.input) blamed }
-blames-input (answers.Ended ends.ErrFault at) before now blamed = record { rose = λ is. let e = is.1 in cc; stays = λ _. ap (λ f. f.input) blamed }
-blames-input (answers.Ended ends.Limit at) before now blamed = record { rose = λ is. let e = is.1 in cc; stays = λ _. ap (λ f. f.input) blamed }
-blames-input (answers.Ended (ends.Exit code) at) before now blamed = record { rose = λ is. let e = is.1 in cc; stays = λ _. ap (λ f. f.input) blamed }
-blames-input (answers.Ended (ends.Fault fault) at) before now blamed = record { rose = λ is. let e = is.1 in cc; stays = λ _. ap (λ f. f.input) blamed }
-blames-input answers.Memory before now blamed = record { rose = λ is. let e = is.1 in cc; stays = λ _. ap (λ f. f.input) blamed }
-blames-input (answers.Image fault) before now blamed = record { rose = λ is. let e = is.1 in cc; stays = λ _. ap (λ f. f.input) blamed }
-blames-input answers.Shown before now blamed = record { rose = λ is. let e = is.1 in cc; stays = λ _. ap (λ f. f.input) blamed }
-blames-input answers.NoStep before now blamed = record { rose = λ is. let e = is.1 in cc; stays = λ _. ap (λ f. f.input) blamed }
-blames-input answers.Usage before now blamed = record { rose = λ is. let e = is.1 in cc; stays = λ _. ap (λ f. f.input) blamed }
-blames-input answers.TooLong before now blamed = record { rose = λ is. let e = is.1 in cc; stays = λ _. ap (λ f. f.input) blamed }
-blames-input answers.StoreFault before now blamed = record { rose = λ is. let e = is.1 in cc; stays = λ _. ap (λ f. f.input) blamed }
-blames-input answers.OutFault before now blamed = record { rose = λ is. let e = is.1 in cc; stays = λ _. ap (λ f. f.input) blamed }

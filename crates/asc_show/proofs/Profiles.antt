@@ -2,10 +2,8 @@
 use Rattle.std.proofs.Common.{◌≡◌, ◌⊎◌, inl, inr, ℕ, zero, suc, ◌+◌, ◌*◌, ◌/◌, ◌<◌, if◌then◌else◌, List, [], ◌++◌, length, slice_index_or, Option, Some, None, refl, sym, ap, ◌∙◌, subst, arith, append_assoc, append-nil, add-one}
 use Rattle.std.specs.Option.{option_or}
 use Rattle.asc_model.specs.declared.fault.Fault.{Fault}
-use Rattle.asc_model.specs.State.{State}
-use Rattle.asc_outside.specs.Lists.{given_number}
 use Rattle.asc_calls.specs.GuestCall.{Device, Input, Out, Err}
-use Rattle.asc_calls.specs.World.{CallState, World, faults, world}
+use Rattle.asc_calls.specs.World.{World}
 use Rattle.asc_guess.specs.Choice.{chosen_address}
 use Rattle.asc_run.specs.declared.walk.Ended.{Ended}
 use Rattle.asc_run.specs.declared.walk.Ended.TheVariants as ends
@@ -91,40 +89,30 @@ text-of-run line addresses ended count base words table list text chosen run lon
     (rows-same addresses base (length table) (λ k. slice_index_or table k no_meetings) (λ k. meetings (base + 4 * k) run line.limit) noted.met)
     ∙ ap (λ n. profile_text ended count (address_of line run) addresses base n (λ k. meetings (base + 4 * k) run line.limit)) long
 
-module _ (line : RunLine) (s : State) (calls : CallState) (before : Option (List ℕ)) (o e steps_before fault : ℕ) (now : World) (left : Option (List ℕ)) (steps : ℕ) (ended : Ended) (count base profile : ℕ) (table : List Meetings) (list : List (ℕ × ℕ))
-    (no_out : o ≡ 0) (no_err : e ≡ 0)
-    (way : Goes line.limit (IsNoted base profile table list) (world s calls before (given_number o) (given_number e) steps_before (faults fault 0 0)) now count 0 ended)
-    (same_left : left ≡ now.left) (same_steps : steps ≡ now.steps) where
-  abbrev start : World
-  start = world s calls before (given_number 0) (given_number 0) steps_before (faults fault 0 0)
-
-  goes : Goes line.limit (IsNoted base profile table list) start now count 0 ended
-  goes = subst (λ n. Goes line.limit (IsNoted base profile table list) (world s calls before (given_number n) (given_number 0) steps_before (faults fault 0 0)) now count 0 ended) no_out
-      (subst (λ n. Goes line.limit (IsNoted base profile table list) (world s calls before (given_number o) (given_number n) steps_before (faults fault 0 0)) now count 0 ended) no_err way)
-
-  pub shows-profile : (addresses : Addresses) (base' : ℕ) (text : List ℕ) (chosen : Option ℕ) → device_of ended ≡ None → base' ≡ base → base ≡ s.shape.base → profile ≡ line.profile → length table ≡ s.shape.size / 4
+module _ (line : RunLine) (start now : World) (ended : Ended) (count base profile : ℕ) (table : List Meetings) (list : List (ℕ × ℕ)) (goes : Goes line.limit (IsNoted base profile table list) start now count 0 ended) where
+  pub shows-profile : (addresses : Addresses) (base' : ℕ) (text : List ℕ) (chosen : Option ℕ) → device_of ended ≡ None → base' ≡ base → base ≡ start.state.shape.base → profile ≡ line.profile → length table ≡ start.state.shape.size / 4
       → chosen ≡ option_or line.pc (chosen_address list line.least) → text ≡ profile_text ended count chosen addresses base' (length table) (λ k. slice_index_or table k no_meetings)
-      → ShowsProfile line addresses start left steps text
+      → ShowsProfile line addresses start now.left now.steps text
   shows-profile addresses base' text chosen sound same_base at_base at_profile long choice is = record {
     now = now;
     count = count;
     ended = ended;
     sound = sound;
     follows = Follows-says line.limit (IsNoted base profile table list line.limit) _ start now count 0 ended (λ run noted.
-        subst (λ b. text ≡ profile_text ended count (address_of line run) addresses b (s.shape.size / 4) (λ k. meetings (b + 4 * k) run line.limit)) at_base
-        (text-of-run line addresses ended count base (s.shape.size / 4) table list text chosen run long choice
+        subst (λ b. text ≡ profile_text ended count (address_of line run) addresses b (start.state.shape.size / 4) (λ k. meetings (b + 4 * k) run line.limit)) at_base
+        (text-of-run line addresses ended count base (start.state.shape.size / 4) table list text chosen run long choice
         (is ∙ ap (λ b. profile_text ended count chosen addresses b (length table) (λ k. slice_index_or table k no_meetings)) same_base)
         (subst (λ p. IsNoted base p table list line.limit run) at_profile noted))) (goes.follows sound);
-    same_left = same_left;
-    same_steps = same_steps;
+    same_left = refl;
+    same_steps = refl;
   }
 
-  pub profile-fails : (device : Device) → device_of ended ≡ Some device → ProfileFails line start left steps ended count
+  pub profile-fails : (device : Device) → device_of ended ≡ Some device → ProfileFails line start now.left now.steps ended count
   profile-fails device failed = record {
     now = now;
     device = device;
     failed = failed;
     stops = StopsAt-unsaid line.limit _ start now count 0 device (goes.stops device failed);
-    same_left = same_left;
-    same_steps = same_steps;
+    same_left = refl;
+    same_steps = refl;
   }

@@ -5,12 +5,12 @@ use Rattle.std.proofs.lemmas.Bool.Decides.{nat_tests}
 use Rattle.std.proofs.lemmas.List.{append-nil, length_push}
 use Rattle.asc_model.specs.State.{State}
 use Rattle.asc_model.specs.Machine.{view_of}
-use Rattle.asc_model.specs.Step.{At, next}
+use Rattle.asc_model.specs.Step.{Went, next}
 use Rattle.asc_model.specs.Plain.{plain}
 use Rattle.asc_model.proofs.PlainSteps.{plain-first, plain-none}
 use Rattle.asc_outside.specs.Outside.{Given}
 use Rattle.asc_calls.specs.GuestCall.{Device, nothing}
-use Rattle.asc_calls.specs.World.{CallState, Faults, World, world}
+use Rattle.asc_calls.specs.World.{CallState, DeviceFaults, World, world}
 use Rattle.asc_run.specs.declared.walk.Ended.{Ended}
 use Rattle.asc_run.specs.declared.walk.Ended.TheVariants.{Limit}
 use Rattle.asc_run.specs.Execution.{Progress, Position, On, Off, device_of, progress_after_step}
@@ -20,7 +20,7 @@ use Rattle.asc_run.specs.Way.{Reaches}
 use Rattle.asc_run.specs.Walk.{Goes, HasNotBegun, StopsAt}
 use Rattle.asc_run.proofs.Growth.{then_io-nothing}
 use Rattle.asc_run.proofs.Shapes.{next-shape}
-use Rattle.asc_run.proofs.Marks.{goes_on_at-on, goes_on_at-off}
+use Rattle.asc_run.proofs.VisitRules.{goes_on_at-on, goes_on_at-off}
 use Rattle.asc_run.proofs.Profiled.{AreNumbered, noted-more, numbered-more}
 use Rattle.asc_run.proofs.Reach.{DoesIo-nothing, IsOff, Leads, Reaches-first_position, Reaches-turn, Reaches-says, Follows-turn, Follows-limit, StopsAt-fails}
 use Rattle.asc_show.specs.declared.meetings.Meetings.{Meetings}
@@ -29,16 +29,16 @@ use Rattle.asc_show.proofs.Noted.{meetings-more, meetings-none, meetings-off}
 
 -- ---- a turn that is a step
 
-next-once : (s t : State) → plain 1 s ≡ At t → next s ≡ At t
+next-once : (s t : State) → plain 1 s ≡ Went t → next s ≡ Went t
 next-once s t h =
     let first = plain-first 0 s t h in
-    first.1 ∙ ap At (plain-none first.0 t first.2)
+    first.1 ∙ ap Went (plain-none first.0 t first.2)
 
-pub Turns-step : (s t : State) (calls calls' : CallState) (left : Option (List ℕ)) (out err : Given) (steps steps' : ℕ) (faults : Faults) (n n' : ℕ) → calls' ≡ calls → steps' ≡ steps + (n' - n) → n' ≡ n + 1
-    → plain (n' - n) s ≡ At t → Turns (world s calls left out err steps faults) (world t calls' left out err steps' faults) n n' None
+pub Turns-step : (s t : State) (calls calls' : CallState) (left : Option (List ℕ)) (out err : Given) (steps steps' : ℕ) (faults : DeviceFaults) (n n' : ℕ) → calls' ≡ calls → steps' ≡ steps + (n' - n) → n' ≡ n + 1
+    → plain (n' - n) s ≡ Went t → Turns (world s calls left out err steps faults) (world t calls' left out err steps' faults) n n' None
 Turns-step s t calls calls' left out err steps steps' faults n n' same counted one goes =
     let once : n' - n ≡ 1 = omega (arith, one) in
-    let step : next s ≡ At t = next-once s t (ap (λ k. plain k s) (sym once) ∙ goes) in
+    let step : next s ≡ Went t = next-once s t (ap (λ k. plain k s) (sym once) ∙ goes) in
     let devices = DoesIo-nothing (world s calls left out err steps faults).outside in
     rw same (record {
       io = nothing;
@@ -55,8 +55,8 @@ Turns-step s t calls calls' left out err steps steps' faults n n' same counted o
       one = λ _. one;
     })
 
-module _ (s t : State) (calls calls' : CallState) (left : Option (List ℕ)) (out err : Given) (steps steps' : ℕ) (faults : Faults) (n n' : ℕ)
-    (none : n' ≡ n) (same : calls' ≡ calls) (counted : steps' ≡ steps + (n' - n)) (goes : plain (n' - n) s ≡ At t) where
+module _ (s t : State) (calls calls' : CallState) (left : Option (List ℕ)) (out err : Given) (steps steps' : ℕ) (faults : DeviceFaults) (n n' : ℕ)
+    (none : n' ≡ n) (same : calls' ≡ calls) (counted : steps' ≡ steps + (n' - n)) (goes : plain (n' - n) s ≡ Went t) where
   -- where no step was taken all is as it was
   still : world t calls' left out err steps' faults ≡ world s calls left out err steps faults
   still =

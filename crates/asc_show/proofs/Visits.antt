@@ -1,12 +1,12 @@
 -- The visits of a program so far: one landing more, the steps behind it, and the end.
-use Rattle.std.proofs.Common.{◌≡◌, ◌≤◌, ◌<◌, ◌+◌, ◌-◌, List, [], ◌∷◌, ℕ, zero, suc, Bool, true, false, if◌then◌else◌, Option, Some, None, refl, sym, ap, ◌∙◌, subst, arith, add-one}
+use Rattle.std.proofs.Common.{◌≡◌, ◌≤◌, ◌<◌, ◌+◌, ◌-◌, List, [], ℕ, zero, suc, Bool, true, false, if◌then◌else◌, Option, Some, None, refl, sym, ap, ◌∙◌, subst, arith, add-one}
 use Rattle.asc_model.specs.State.{State}
-use Rattle.asc_model.specs.Step.{At}
+use Rattle.asc_model.specs.Step.{Went}
 use Rattle.asc_model.specs.Plain.{plain}
 use Rattle.asc_model.proofs.PlainSteps.{plain-none}
 use Rattle.asc_outside.specs.Outside.{Given}
 use Rattle.asc_calls.specs.GuestCall.{Device}
-use Rattle.asc_calls.specs.World.{CallState, Faults, World, world}
+use Rattle.asc_calls.specs.World.{CallState, DeviceFaults, World, world}
 use Rattle.asc_run.specs.declared.walk.Ended.{Ended}
 use Rattle.asc_run.specs.declared.walk.Ended.TheVariants.{Limit}
 use Rattle.asc_run.specs.Execution.{device_of}
@@ -16,9 +16,9 @@ use Rattle.asc_run.specs.Way.{Reaches}
 use Rattle.asc_run.specs.Walk.{StopsAt}
 use Rattle.asc_run.proofs.Reach.{Reaches-first_position, Reaches-turn, Reaches-says, Reaches-along, Reaches-steps, Follows-turn, Follows-limit, StopsAt-fails}
 use Rattle.asc_run.proofs.Shapes.{plain-part}
-use Rattle.asc_run.proofs.Marks.{goes_on_at-on, goes_on_at-off}
+use Rattle.asc_run.proofs.VisitRules.{goes_on_at-on, goes_on_at-off}
 use Rattle.asc_show.specs.Visited.{visits_before, Comes, IsVisit, EndsBefore}
-use Rattle.asc_show.specs.Seen.{ComesFrom, IsOnWay, WasIn, WasInAll}
+use Rattle.asc_show.specs.Seen.{ComesFrom, IsOnWay, WasInAll}
 
 -- a visit, or none
 abbrev pub one : Bool → ℕ
@@ -61,7 +61,7 @@ module _ (P : Course → Type 0) (address : ℕ) (old : World) where
       Reaches-first_position (HasVisited P address v n) old n (λ run. (ap (visits_before address run) none ∙ sym no_visit, says run)) going brk none
 
   -- a landing
-  pub visit-lands : (s s' : State) (calls calls' : CallState) (left : Option (List ℕ)) (out err : Given) (steps : ℕ) (faults : Faults) (c c' v v' : ℕ) → s' ≡ s → calls' ≡ calls → c' ≡ c
+  pub visit-lands : (s s' : State) (calls calls' : CallState) (left : Option (List ℕ)) (out err : Given) (steps : ℕ) (faults : DeviceFaults) (c c' v v' : ℕ) → s' ≡ s → calls' ≡ calls → c' ≡ c
       → WalksTo P address old (world s calls left out err steps faults) v c c → v' ≡ v + one (is_at (Some address) s) → WalksTo P address old (world s' calls' left out err steps faults) v' c' (c' + 1)
   visit-lands s s' calls calls' left out err steps faults c c' v v' same_state same_calls same_count way more = rw (same_state, same_calls, same_count)
       (Reaches-says _ _ old.calls.low old.calls.high old.state old (world s calls left out err steps faults) c 0 way (λ run r e at so_far.
@@ -70,7 +70,7 @@ module _ (P : Course → Type 0) (address : ℕ) (old : World) where
       (visits-more address run c ∙ omega (arith, times, here, more), so_far.1)))
 
   -- the visit that is wanted
-  pub visit-there : (s s' : State) (calls calls' : CallState) (left : Option (List ℕ)) (out err : Given) (steps : ℕ) (faults : Faults) (c c' v number : ℕ) → s' ≡ s → calls' ≡ calls → c' ≡ c
+  pub visit-there : (s s' : State) (calls calls' : CallState) (left : Option (List ℕ)) (out err : Given) (steps : ℕ) (faults : DeviceFaults) (c c' v number : ℕ) → s' ≡ s → calls' ≡ calls → c' ≡ c
       → WalksTo P address old (world s calls left out err steps faults) v c c → is_at (Some address) s ≡ true → v + 1 ≡ number
       → Reaches (λ run. IsVisit address number run c' × P run) old.calls.low old.calls.high old.state old (world s' calls' left out err steps faults) c' 0
   visit-there s s' calls calls' left out err steps faults c c' v number same_state same_calls same_count way stands wanted = rw (same_state, same_calls, same_count)
@@ -83,8 +83,8 @@ module _ (P : Course → Type 0) (address : ℕ) (old : World) where
         so_far.1,
       )))
 
-  module _ (s t : State) (calls calls' : CallState) (left : Option (List ℕ)) (out err : Given) (steps steps' : ℕ) (faults : Faults) (c c' v v' : ℕ)
-      (same_calls : calls' ≡ calls) (same_visits : v' ≡ v) (counted : steps' ≡ steps + (c' - c)) (goes : plain (c' - c) s ≡ At t) where
+  module _ (s t : State) (calls calls' : CallState) (left : Option (List ℕ)) (out err : Given) (steps steps' : ℕ) (faults : DeviceFaults) (c c' v v' : ℕ)
+      (same_calls : calls' ≡ calls) (same_visits : v' ≡ v) (counted : steps' ≡ steps + (c' - c)) (goes : plain (c' - c) s ≡ Went t) where
     -- plain steps from a landing to the next
     pub visit-plain : c < c' → Passes (Some address) s (c' - c) → WalksTo P address old (world s calls left out err steps faults) v c (c + 1)
         → WalksTo P address old (world t calls' left out err steps' faults) v' c' c'
@@ -146,12 +146,3 @@ on-way-first address w n v going brk none no_visit = visit-first (WasInAll addre
 pub comes-alone : (address number : ℕ) (seen : List (ℕ × State)) (start now : World) (count : ℕ) → ComesFrom address number seen start now count → Comes address number start now count
 comes-alone address number seen start now count way =
     Reaches-says _ _ start.calls.low start.calls.high start.state start now count 0 way (λ run r e at says. says.0)
-
--- a visit to which it came is seen where it goes on
-pub on-way-further : (address number v : ℕ) (seen : List (ℕ × State)) (s : State) (start now : World) (count : ℕ) → v + 1 ≡ number → s ≡ now.state
-    → ComesFrom address number seen start now count → IsOnWay address v ((number, s) ∷ seen) start now count
-on-way-further address number v seen s start now count last same way =
-    Reaches-says _ _ start.calls.low start.calls.high start.state start now count 0 way (λ run r e at says.
-    let times = says.0.times in
-    let was : WasIn address number s run = record { count = count; visit = says.0; position = r; stands = at; state = e ∙ sym same } in
-    (omega (arith, times, last), (was, says.1)))

@@ -1,5 +1,5 @@
 -- What guesses of a visit have wrong.
-use Rattle.std.specs.Prelude.{◌≡◌, ℕ, zero, suc, ◌-◌, ◌<◌, ◌==◌, Bool, MatchBool, codes, decimal, List, [], ◌∷◌, ◌++◌, map, take, slice_index, slice_index_or, Option, Some, None, is_some, Result, Ok, Err, if◌then◌else◌}
+use Rattle.std.specs.Prelude.{◌≡◌, ℕ, zero, suc, ◌-◌, ◌<◌, ◌==◌, Bool, MatchBool, codes, decimal, List, [], ◌∷◌, ◌++◌, map, take, slice_index, slice_index_or, Option, Some, None, is_some, if◌then◌else◌}
 use Rattle.std.specs.Arc.{arc_value}
 use Rattle.std.specs.List.{list_all}
 use Rattle.hex.specs.Hex.{encode_lower}
@@ -11,12 +11,8 @@ use Rattle.asc_guess.specs.declared.kind.Kind.TheVariants as kinds
 use Rattle.asc_guess.specs.Guess.{guess_of}
 use Rattle.asc_traj.specs.Content.{matches}
 use Rattle.asc_traj.specs.Trace.{guess_bounds}
-use Rattle.asc_outside.specs.Lists.{given_number}
-use Rattle.asc_calls.specs.GuestCall.{Device}
-use Rattle.asc_calls.specs.World.{World, faults, world}
+use Rattle.asc_calls.specs.World.{World}
 use Rattle.asc_words.specs.declared.line.RunLine.{RunLine}
-use Rattle.asc_run.specs.declared.process.Process.{Process}
-use Rattle.asc_run.specs.Execution.{device_of}
 use Rattle.asc_show.specs.declared.answer.Answer.{Answer}
 use Rattle.asc_show.specs.declared.answer.Answer.TheVariants as answers
 use Rattle.asc_show.specs.declared.answer.Reached.TheVariants.{Visits}
@@ -128,23 +124,9 @@ EndsMisses line visit start left steps answer = ⊥
 
 -- ---- on the way
 
--- the world of a program whose outputs are only counted
-abbrev pub counting_world : Process → (left : Option (List ℕ)) → (out err steps input_faults : ℕ) → World
-counting_world process left out err steps input_faults =
-    world process.state process.calls left (given_number out) (given_number err) steps (faults input_faults 0 0)
-
 -- Why a run from start did not come to a visit: it ended so before, or memory was wanting.
 abbrev pub StopsShort : (limit : ℕ) → Visit → (start now : World) → (count : ℕ) → Answer → Type 0
 StopsShort limit visit start now count answers.Memory = Unit {0}
 StopsShort limit visit start now count (answers.Ended ended (Visits visits)) =
     (visits < visit.number) × EndsBefore limit visit.pc visits start now count ended
 StopsShort limit visit start now count answer = ⊥
-
--- the device that failed, where that is answered
-abbrev pub device_of_answer : Answer → Option Device
-device_of_answer (answers.Ended ended at) = device_of ended
-device_of_answer answer = None
-
-abbrev pub device_of_result : {T : Type 0} → Result T Answer → Option Device
-device_of_result (Ok done) = None
-device_of_result (Err answer) = device_of_answer answer

@@ -1,13 +1,14 @@
 -- What asc_show answers.
-use Rattle.std.specs.Prelude.{◌≡◌, ◌⊎◌, ℕ, ◌*◌, false, codes, decimal, List, [], ◌++◌, Option, Result, Ok, Err}
-use Rattle.asc_model.specs.State.{State}
+use Rattle.std.specs.Prelude.{◌≡◌, ◌⊎◌, ℕ, ◌*◌, false, codes, decimal, List, [], ◌++◌, Option, None, Result, Ok, Err}
 use Rattle.asc_outside.specs.Outside.{AsksFor, File, Given, MayHold, MayHoldLonger, PutsPart, given_after}
 use Rattle.asc_outside.specs.Lists.{given_number}
 use Rattle.asc_elf.specs.Image as loader
 use Rattle.asc_elf.specs.declared.fault.ElfFault.{ElfFault}
-use Rattle.asc_calls.specs.World.{CallState, World, world, faults}
+use Rattle.asc_calls.specs.GuestCall.{Device}
+use Rattle.asc_calls.specs.World.{Outside, World, faults, outside, world_in}
 use Rattle.asc_run.specs.declared.walk.Ended.{Ended}
 use Rattle.asc_run.specs.declared.walk.Ended.TheVariants as ends
+use Rattle.asc_run.specs.Execution.{device_of}
 use Rattle.asc_words.specs.Line.{file_limit}
 use Rattle.asc_words.specs.declared.line.LineFault.{LineFault}
 use Rattle.asc_words.specs.declared.line.LineFault.TheVariants as LineFaults
@@ -88,15 +89,19 @@ answer_text (answers.Ended ended reached) =
 
 -- ---- what is shown of a run, and how it ends before
 
--- A program that stands so; what it writes is only counted, from nothing on.
-abbrev pub counted_world : State → CallState → (left : Option (List ℕ)) → (steps input_faults : ℕ) → World
-counted_world state calls left steps input_faults =
-    world state calls left (given_number 0) (given_number 0) steps (faults input_faults 0 0)
-
 -- the program of an image, which has not begun
+abbrev pub first_world : loader.Image → Outside → World
+first_world image o =
+    world_in image.start (record { low = image.low; high = loader.high_of image; brk = image.low; ended = false }) o
+
+-- what is told where the guest's outputs are only counted, from nothing on
+abbrev pub counted_outside : (left : Option (List ℕ)) → (steps input_faults : ℕ) → Outside
+counted_outside left steps input_faults =
+    outside left (given_number 0) (given_number 0) steps (faults input_faults 0 0)
+
+-- the program of an image, whose outputs are only counted
 abbrev pub image_world : loader.Image → (left : Option (List ℕ)) → (steps input_faults : ℕ) → World
-image_world image left steps input_faults = counted_world image.start
-    (record { low = image.low; high = loader.high_of image; brk = image.low; ended = false }) left steps input_faults
+image_world image left steps input_faults = first_world image (counted_outside left steps input_faults)
 
 -- the text is what a question asks of the run from start
 abbrev pub ShowsText : RunLine → Question → (start : World) → (left : Option (List ℕ)) → (steps : ℕ)
@@ -145,6 +150,15 @@ Starts request content o P =
 abbrev pub Shows : Request → (content : List ℕ) → (old new : Outer) → (List ℕ → Type 0) → Type 0
 Shows request content old new P = Starts request content old
     (λ start. (text : List ℕ) × ShowsText request.line request.question start new.left new.steps text × P text)
+
+-- the device that failed, where that is answered
+abbrev pub device_of_answer : Answer → Option Device
+device_of_answer (answers.Ended ended reached) = device_of ended
+device_of_answer answer = None
+
+abbrev pub device_of_result : {T : Type 0} → Result T Answer → Option Device
+device_of_result (Ok done) = None
+device_of_result (Err answer) = device_of_answer answer
 
 -- it is answered that the guest's input failed
 abbrev pub HasInputFailed : Answer → Type 0

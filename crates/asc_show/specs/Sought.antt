@@ -5,14 +5,14 @@ use Rattle.asc_model.specs.Shape.{Shape}
 use Rattle.asc_model.specs.State.{State}
 use Rattle.asc_calls.specs.GuestCall.{Device}
 use Rattle.asc_calls.specs.World.{World}
-use Rattle.asc_find.specs.Finder.{Tally}
+use Rattle.asc_find.specs.Finder.{Jumps}
 use Rattle.asc_find.specs.Serial.{Serial}
 use Rattle.asc_run.specs.declared.walk.Ended.{Ended}
 use Rattle.asc_run.specs.Execution.{device_of}
 use Rattle.asc_run.specs.Helped.{IsSerial}
 use Rattle.asc_run.specs.SerialRun.{serial_of}
-use Rattle.asc_run.specs.Visits.{AreVisits, Course, Visit, is_mark, tally_of}
-use Rattle.asc_run.specs.Walk.{Follows, StopsAt, tally}
+use Rattle.asc_run.specs.Visits.{AreVisits, Course, Visit, visit_rule, jumps_of}
+use Rattle.asc_run.specs.Walk.{Follows, StopsAt, jumps}
 use Rattle.asc_top.specs.Numbers.{guessing_of, recognised_by}
 use Rattle.asc_words.specs.declared.line.RunLine.{RunLine}
 use Rattle.asc_show.specs.declared.answer.Answer.{Answer}
@@ -28,7 +28,7 @@ last_address (Some before) (Some now) = Some (view_of now).pc
 
 -- The text: how many steps the run has, and how it ended; the address at which it was visited last; how often it was
 -- visited, the jumps, and the steps that they gave.
-abbrev pub sought_text : Ended → (count : ℕ) → (address : Option ℕ) → Tally → List ℕ
+abbrev pub sought_text : Ended → (count : ℕ) → (address : Option ℕ) → Jumps → List ℕ
 sought_text ended count address t =
     codes "steps " ++ decimal count ++ until_text ended
     ++ codes "\naddress " ++ chosen_text address
@@ -39,7 +39,7 @@ sought_text ended count address t =
 -- these are the visits of a run without workers up to the limit, and so the machine stands at its end
 pub record IsVisitedAlone (line : RunLine) (shape : Shape) (visits : List Visit) (now : Serial) (made : ℕ) (run : Course)
     : Type 0 where
-  pub are : AreVisits line.limit run (is_mark (recognised_by line) run) visits line.limit
+  pub are : AreVisits line.limit run (visit_rule (recognised_by line) run) visits line.limit
   pub serial : IsSerial line.limit run (serial_of shape (guessing_of line) []) visits now made
 
 -- This is the text of the run without workers up to the limit, in which no device failed. What was taken from the input,
@@ -54,10 +54,10 @@ pub record ShowsSought (line : RunLine) (start : World) (left : Option (List ℕ
     pub made : ℕ
     pub sound : device_of ended ≡ None
     pub follows : Follows line.limit (IsVisitedAlone line start.state.shape visits machine made) start now count
-        (tally_of visits (tally 0 0 0)).given ended
+        (jumps_of visits (jumps 0 0 0)).given ended
     pub same_left : left ≡ now.left
     pub same_steps : steps ≡ now.steps
-    pub is : text ≡ sought_text ended count (last_address machine.prev machine.last) (tally_of visits (tally 0 0 0))
+    pub is : text ≡ sought_text ended count (last_address machine.prev machine.last) (jumps_of visits (jumps 0 0 0))
 
 -- a device failed on the run, so many steps from its start, of which some were jumped over
 pub record SoughtFails (line : RunLine) (start : World) (left : Option (List ℕ)) (steps : ℕ) (ended : Ended) (count : ℕ)

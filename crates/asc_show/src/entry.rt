@@ -1,16 +1,17 @@
 //! The entry of the lap that begins at a visit.
-ghost use Rattle.std.specs.Prelude.{◌≡◌, ◌≤◌, ◌⊎◌, None, IfErr, IfOk, IsErrAnd};
-ghost use Rattle.asc_outside.specs.Outside.{Blames};
+ghost use Rattle.std.specs.Prelude.{◌≡◌, ◌≤◌, ◌⊎◌, None, IfErr, IfOk};
+ghost use Rattle.asc_calls.specs.World.{BlamesOnly, outside_of, world_in};
 ghost use Rattle.asc_run.specs.Walk.{HasNotBegun};
 ghost use Rattle.asc_words.specs.Line.{IsRunWithin};
 ghost use Rattle.asc_show.specs.Entered.{EndsEntry, HasText, ShowsEntry};
-ghost use Rattle.asc_show.specs.Shown.{HasInputFailed, HasOutputFailed, counted_world};
+ghost use Rattle.asc_show.specs.Shown.{device_of_result};
 
 use crate::answer::{Answer, Reached};
 use crate::lap::{Lap, trace_lap};
 use crate::request::Visit;
 use crate::text::entry_text;
 use crate::visit::Visitor;
+use asc_calls::Devices;
 use asc_outside::{CountSink, Source};
 use asc_run::Process;
 use asc_shape::Steps;
@@ -25,32 +26,22 @@ pub(crate) fn entry_of_visit<I: Source, L: Ledger>(
     process: Process,
     line: &RunLine,
     visit: Visit,
-    input: &mut I,
+    guest: &mut Devices<I, CountSink, CountSink>,
     steps: &mut Steps<L>,
 ) -> Result<Vec<u8>, Answer>
     requires within { IsRunWithin line.now }
     requires start { HasNotBegun process.count process.calls }
     requires number { 1 ≤ visit.number }
     ensures shown { IfOk result (λ text. ShowsEntry line.now visit
-        (counted_world process.state process.calls (I.left input.old) steps.old (I.faults input.old))
-        (I.left input.new) steps.new text.items) }
+        (world_in process.state process.calls (outside_of guest.old steps.old))
+        guest.new.told.left steps.new text.items) }
     ensures ended { IfErr result (λ answer. EndsEntry line.now visit
-        (counted_world process.state process.calls (I.left input.old) steps.old (I.faults input.old))
-        (I.left input.new) steps.new answer) }
-    ensures input { Blames (IsErrAnd result HasInputFailed) (I.faults input.old) (I.faults input.new) }
-    ensures counted { IfErr result (λ answer. HasOutputFailed answer → ⊥) }
+        (world_in process.state process.calls (outside_of guest.old steps.old))
+        guest.new.told.left steps.new answer) }
+    ensures faults { BlamesOnly (device_of_result result) guest.old.told.faults guest.new.told.faults }
 {
     let mut visitor = Visitor { process, visits: 0 };
-    let (mut out, mut err) = (CountSink::new(), CountSink::new());
-    if let Some(ended) = visitor.come(
-        visit.pc,
-        visit.number,
-        line.limit,
-        input,
-        &mut out,
-        &mut err,
-        steps,
-    ) {
+    if let Some(ended) = visitor.come(visit.pc, visit.number, line.limit, guest, steps) {
         return Err(Answer::Ended(ended, Reached::Visits(visitor.visits)));
     }
     match trace_lap(

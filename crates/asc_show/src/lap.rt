@@ -4,9 +4,10 @@ ghost use Rattle.asc_traj.specs.Trace.{guess_bounds};
 ghost use Rattle.asc_show.specs.Visited.{IsLap};
 
 use asc_depvec::Tracer;
+use asc_model::Why;
 use asc_outside::Memory;
 use asc_shape::{Guess, Snapshot, State};
-use asc_traj::{Entry, Never, Stop, TRACE_CAP, Why, trace};
+use asc_traj::{Entry, Never, Stop, TRACE_CAP, trace};
 use std::alloc::Global;
 use std::sync::Arc;
 

@@ -76,11 +76,11 @@ fn run<L: Ledger>(rt: &HostRuntime, words: &[String], blank: Blank) -> ExitCode
     requires some { 0 < L.parts }
     ensures { IsStatusOver (map string_bytes words.now) (exit_status result) }
 {
-    let answer = show(
+    let (answer, _) = show(
         rt.alloc(),
         words,
         &mut FileStore::new(rt),
-        &mut StreamSource::new(rt.stdin()),
+        StreamSource::new(rt.stdin()),
         &mut StreamSink::new(rt.stdout()),
         &mut Steps::<L>::new(blank),
     );

@@ -1,20 +1,20 @@
 //! What guesses of a visit have wrong.
-ghost use Rattle.std.specs.Prelude.{◌≡◌, ◌≤◌, ◌<◌, ◌+◌, ◌-◌, ◌^◌, [], ◌∷◌, ℕ, List, IfErr, IfOk, IsErrAnd};
+ghost use Rattle.std.specs.Prelude.{◌≡◌, ◌≤◌, ◌<◌, ◌+◌, ◌-◌, ◌^◌, [], ◌∷◌, ℕ, List, IfErr, IfOk};
 ghost use Rattle.asc_model.specs.State as model;
-ghost use Rattle.asc_outside.specs.Outside.{Blames};
-ghost use Rattle.asc_calls.specs.World.{World, faults, BlamesOnly};
+ghost use Rattle.asc_calls.specs.World.{World, BlamesOnly, outside_of, world_in};
 ghost use Rattle.asc_guess.specs.Guess.{guess_of};
 ghost use Rattle.asc_run.specs.Walk.{HasNotBegun};
 ghost use Rattle.asc_words.specs.Line.{IsRunWithin};
-ghost use Rattle.asc_show.specs.Shown.{HasInputFailed, HasOutputFailed, counted_world};
+ghost use Rattle.asc_show.specs.Shown.{device_of_result};
 ghost use Rattle.asc_show.specs.Seen.{ComesFrom, IsOnWay};
-ghost use Rattle.asc_show.specs.Missed.{EndsMisses, IsGuessText, IsKindText, IsMissText, ShowsMisses, StopsShort, counting_world, device_of_result, is_on};
+ghost use Rattle.asc_show.specs.Missed.{EndsMisses, IsGuessText, IsKindText, IsMissText, ShowsMisses, StopsShort, is_on};
 
 use crate::answer::{Answer, Reached};
 use crate::lap::trace_guess;
 use crate::miss_text::put_guess;
 use crate::request::Visit;
 use crate::visit::Visitor;
+use asc_calls::Devices;
 use asc_guess::{Kind, guess};
 use asc_outside::{CountSink, Memory, Source};
 use asc_run::Process;
@@ -31,33 +31,22 @@ pub(crate) fn misses_at<I: Source, L: Ledger>(
     process: Process,
     line: &RunLine,
     visit: Visit,
-    input: &mut I,
+    guest: &mut Devices<I, CountSink, CountSink>,
     steps: &mut Steps<L>,
 ) -> Result<Vec<u8>, Answer>
     requires within { IsRunWithin line.now }
     requires start { HasNotBegun process.count process.calls }
     requires number { 3 ≤ visit.number }
     ensures shown { IfOk result (λ text. ShowsMisses line.now visit
-        (counted_world process.state process.calls (I.left input.old) steps.old (I.faults input.old))
-        (I.left input.new) steps.new text.items) }
+        (world_in process.state process.calls (outside_of guest.old steps.old))
+        guest.new.told.left steps.new text.items) }
     ensures ended { IfErr result (λ answer. EndsMisses line.now visit
-        (counted_world process.state process.calls (I.left input.old) steps.old (I.faults input.old))
-        (I.left input.new) steps.new answer) }
-    ensures input { Blames (IsErrAnd result HasInputFailed) (I.faults input.old) (I.faults input.new) }
-    ensures counted { IfErr result (λ answer. HasOutputFailed answer → ⊥) }
+        (world_in process.state process.calls (outside_of guest.old steps.old))
+        guest.new.told.left steps.new answer) }
+    ensures faults { BlamesOnly (device_of_result result) guest.old.told.faults guest.new.told.faults }
 {
     let mut visitor = Visitor { process, visits: 0 };
-    let (mut out, mut err) = (CountSink::new(), CountSink::new());
-    let copies = come_with_copies(
-        alloc,
-        &mut visitor,
-        visit,
-        line.limit,
-        input,
-        &mut out,
-        &mut err,
-        steps,
-    )?;
+    let copies = come_with_copies(alloc, &mut visitor, visit, line.limit, guest, steps)?;
     match misses_text(
         alloc,
         line,
@@ -77,9 +66,7 @@ fn come_with_copies<I: Source, L: Ledger>(
     visitor: &mut Visitor,
     visit: Visit,
     limit: u64,
-    input: &mut I,
-    out: &mut CountSink,
-    err: &mut CountSink,
+    guest: &mut Devices<I, CountSink, CountSink>,
     steps: &mut Steps<L>,
 ) -> Result<(Arc<Snapshot>, Arc<Snapshot>), Answer>
     requires limit { limit ≤ 2 ^ 40 }
@@ -88,31 +75,31 @@ fn come_with_copies<I: Source, L: Ledger>(
     requires before { visitor.old.visits + 2 < visit.number }
     // Wherever it began.
     ensures there { IfOk result (λ copies. (start : World) → IsOnWay visit.pc visitor.old.visits [] start
-        (counting_world visitor.old.process (I.left input.old) out.old err.old steps.old (I.faults input.old)) visitor.old.process.count
+        (world_in visitor.old.process.state visitor.old.process.calls (outside_of guest.old steps.old)) visitor.old.process.count
         → ComesFrom visit.pc visit.number ((visit.number - 1, copies.1.value) ∷ (visit.number - 2, copies.0.value) ∷ []) start
-        (counting_world visitor.new.process (I.left input.new) out.new err.new steps.new (I.faults input.new)) visitor.new.process.count) }
+        (world_in visitor.new.process.state visitor.new.process.calls (outside_of guest.new steps.new)) visitor.new.process.count) }
     ensures shapes { IfOk result (λ copies. (start : World) → IsOnWay visit.pc visitor.old.visits [] start
-        (counting_world visitor.old.process (I.left input.old) out.old err.old steps.old (I.faults input.old)) visitor.old.process.count
+        (world_in visitor.old.process.state visitor.old.process.calls (outside_of guest.old steps.old)) visitor.old.process.count
         → (copies.0.value.shape ≡ start.state.shape) × (copies.1.value.shape ≡ start.state.shape)) }
     ensures ended { IfErr result (λ answer. (start : World) → IsOnWay visit.pc visitor.old.visits [] start
-        (counting_world visitor.old.process (I.left input.old) out.old err.old steps.old (I.faults input.old)) visitor.old.process.count
+        (world_in visitor.old.process.state visitor.old.process.calls (outside_of guest.old steps.old)) visitor.old.process.count
         → StopsShort limit visit start
-        (counting_world visitor.new.process (I.left input.new) out.new err.new steps.new (I.faults input.new)) visitor.new.process.count answer) }
+        (world_in visitor.new.process.state visitor.new.process.calls (outside_of guest.new steps.new)) visitor.new.process.count answer) }
     ensures below { IfOk result (λ _. visitor.new.process.count < limit) }
-    ensures faults { BlamesOnly (device_of_result result) (faults (I.faults input.old) 0 0) (faults (I.faults input.new) 0 0) }
+    ensures faults { BlamesOnly (device_of_result result) guest.old.told.faults guest.new.told.faults }
 {
     let Visit { pc, number } = visit;
     let first = Visit {
         pc,
         number: number - 2,
     };
-    let prev = copy_at(alloc, visitor, first, limit, input, out, err, steps)?;
+    let prev = copy_at(alloc, visitor, first, limit, guest, steps)?;
     let second = Visit {
         pc,
         number: number - 1,
     };
-    let last = copy_at(alloc, visitor, second, limit, input, out, err, steps)?;
-    come_to(visitor, visit, limit, input, out, err, steps)?;
+    let last = copy_at(alloc, visitor, second, limit, guest, steps)?;
+    come_to(visitor, visit, limit, guest, steps)?;
     Ok((prev, last))
 }
 
@@ -122,9 +109,7 @@ fn copy_at<I: Source, L: Ledger>(
     visitor: &mut Visitor,
     visit: Visit,
     limit: u64,
-    input: &mut I,
-    out: &mut CountSink,
-    err: &mut CountSink,
+    guest: &mut Devices<I, CountSink, CountSink>,
     steps: &mut Steps<L>,
 ) -> Result<Arc<Snapshot>, Answer>
     requires limit { limit ≤ 2 ^ 40 }
@@ -133,20 +118,20 @@ fn copy_at<I: Source, L: Ledger>(
     requires before { visitor.old.visits < visit.number }
     // Wherever it began, and whatever was seen at earlier visits, it goes on so.
     ensures there { IfOk result (λ copy. (start : World) (seen : List (ℕ × model.State)) → IsOnWay visit.pc visitor.old.visits seen start
-        (counting_world visitor.old.process (I.left input.old) out.old err.old steps.old (I.faults input.old)) visitor.old.process.count
+        (world_in visitor.old.process.state visitor.old.process.calls (outside_of guest.old steps.old)) visitor.old.process.count
         → IsOnWay visit.pc visitor.new.visits ((visit.number, copy.value) ∷ seen) start
-        (counting_world visitor.new.process (I.left input.new) out.new err.new steps.new (I.faults input.new)) visitor.new.process.count) }
+        (world_in visitor.new.process.state visitor.new.process.calls (outside_of guest.new steps.new)) visitor.new.process.count) }
     ensures ended { IfErr result (λ answer. (start : World) (seen : List (ℕ × model.State)) → IsOnWay visit.pc visitor.old.visits seen start
-        (counting_world visitor.old.process (I.left input.old) out.old err.old steps.old (I.faults input.old)) visitor.old.process.count
+        (world_in visitor.old.process.state visitor.old.process.calls (outside_of guest.old steps.old)) visitor.old.process.count
         → StopsShort limit visit start
-        (counting_world visitor.new.process (I.left input.new) out.new err.new steps.new (I.faults input.new)) visitor.new.process.count answer) }
+        (world_in visitor.new.process.state visitor.new.process.calls (outside_of guest.new steps.new)) visitor.new.process.count answer) }
     ensures copied { IfOk result (λ copy. copy.value ≡ visitor.new.process.state) }
     ensures last { IfOk result (λ _. visitor.new.visits + 1 ≡ visit.number) }
     ensures few { IfOk result (λ _. visitor.new.visits ≤ visitor.new.process.count) }
     ensures limit { visitor.new.process.count ≤ limit }
-    ensures faults { BlamesOnly (device_of_result result) (faults (I.faults input.old) 0 0) (faults (I.faults input.new) 0 0) }
+    ensures faults { BlamesOnly (device_of_result result) guest.old.told.faults guest.new.told.faults }
 {
-    come_to(visitor, visit, limit, input, out, err, steps)?;
+    come_to(visitor, visit, limit, guest, steps)?;
     match Snapshot::of(alloc, &visitor.process.state) {
         Ok(copy) => Ok(copy),
         Err(Memory) => Err(Answer::Memory),
@@ -158,9 +143,7 @@ fn come_to<I: Source, L: Ledger>(
     visitor: &mut Visitor,
     visit: Visit,
     limit: u64,
-    input: &mut I,
-    out: &mut CountSink,
-    err: &mut CountSink,
+    guest: &mut Devices<I, CountSink, CountSink>,
     steps: &mut Steps<L>,
 ) -> Result<(), Answer>
     requires limit { limit ≤ 2 ^ 40 }
@@ -169,20 +152,20 @@ fn come_to<I: Source, L: Ledger>(
     requires before { visitor.old.visits < visit.number }
     // Wherever it began, and whatever was seen at earlier visits, it goes on so.
     ensures there { IfOk result (λ _. (start : World) (seen : List (ℕ × model.State)) → IsOnWay visit.pc visitor.old.visits seen start
-        (counting_world visitor.old.process (I.left input.old) out.old err.old steps.old (I.faults input.old)) visitor.old.process.count
+        (world_in visitor.old.process.state visitor.old.process.calls (outside_of guest.old steps.old)) visitor.old.process.count
         → ComesFrom visit.pc visit.number seen start
-        (counting_world visitor.new.process (I.left input.new) out.new err.new steps.new (I.faults input.new)) visitor.new.process.count) }
+        (world_in visitor.new.process.state visitor.new.process.calls (outside_of guest.new steps.new)) visitor.new.process.count) }
     ensures ended { IfErr result (λ answer. (start : World) (seen : List (ℕ × model.State)) → IsOnWay visit.pc visitor.old.visits seen start
-        (counting_world visitor.old.process (I.left input.old) out.old err.old steps.old (I.faults input.old)) visitor.old.process.count
+        (world_in visitor.old.process.state visitor.old.process.calls (outside_of guest.old steps.old)) visitor.old.process.count
         → StopsShort limit visit start
-        (counting_world visitor.new.process (I.left input.new) out.new err.new steps.new (I.faults input.new)) visitor.new.process.count answer) }
+        (world_in visitor.new.process.state visitor.new.process.calls (outside_of guest.new steps.new)) visitor.new.process.count answer) }
     ensures last { IfOk result (λ _. visitor.new.visits + 1 ≡ visit.number) }
     ensures few { IfOk result (λ _. visitor.new.visits ≤ visitor.new.process.count) }
     ensures limit { visitor.new.process.count ≤ limit }
     ensures below { IfOk result (λ _. visitor.new.process.count < limit) }
-    ensures faults { BlamesOnly (device_of_result result) (faults (I.faults input.old) 0 0) (faults (I.faults input.new) 0 0) }
+    ensures faults { BlamesOnly (device_of_result result) guest.old.told.faults guest.new.told.faults }
 {
-    match visitor.come_on(visit.pc, visit.number, limit, input, out, err, steps) {
+    match visitor.come_on(visit.pc, visit.number, limit, guest, steps) {
         None => Ok(()),
         Some(ended) => Err(Answer::Ended(ended, Reached::Visits(visitor.visits))),
     }

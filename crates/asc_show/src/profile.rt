@@ -1,21 +1,20 @@
 //! How often a plain run meets the addresses of its memory.
-ghost use Rattle.std.specs.Prelude.{◌≡◌, ◌≤◌, ◌<◌, ◌+◌, ◌^◌, ℕ, [], Some, None, IfOk, IfErr, IsErrAnd, slice_index_or, vec_capacity, length};
-ghost use Rattle.asc_outside.specs.Lists.{given_number};
-ghost use Rattle.asc_outside.specs.Outside.{Blames};
+ghost use Rattle.std.specs.Prelude.{◌≡◌, ◌≤◌, ◌<◌, ◌+◌, ◌^◌, ℕ, [], Some, None, IfOk, IfErr, slice_index_or, vec_capacity, length};
 ghost use Rattle.asc_calls.specs.GuestCall.{Device};
-ghost use Rattle.asc_calls.specs.World.{world, faults, BlamesOnly};
+ghost use Rattle.asc_calls.specs.World.{BlamesOnly, outside_of, world_in};
 ghost use Rattle.asc_guess.specs.Choice.{CountsRise};
 ghost use Rattle.asc_words.specs.Line.{IsRunWithin};
 ghost use Rattle.asc_run.specs.Execution.{device_of};
 ghost use Rattle.asc_run.specs.Turn.{Turns, TurnFails, device_of_turn};
 ghost use Rattle.asc_run.specs.Walk.{Goes, HasNotBegun};
 ghost use Rattle.asc_show.specs.Profile.{EndsProfile, IsNoted, ShowsProfile, no_meetings};
-ghost use Rattle.asc_show.specs.Shown.{HasInputFailed, HasOutputFailed};
+ghost use Rattle.asc_show.specs.Shown.{device_of_result};
 
 use crate::answer::{Answer, Reached};
 use crate::meetings::Notes;
 use crate::profile_text::profile_text;
 use crate::request::Addresses;
+use asc_calls::Devices;
 use asc_guess::choose;
 use asc_outside::{CountSink, Sink, Source};
 use asc_run::{Ended, Process};
@@ -30,35 +29,25 @@ pub(crate) fn profile<I: Source, L: Ledger>(
     mut process: Process,
     line: &RunLine,
     addresses: Addresses,
-    input: &mut I,
+    guest: &mut Devices<I, CountSink, CountSink>,
     steps: &mut Steps<L>,
 ) -> Result<Vec<u8>, Answer>
     requires within { IsRunWithin line.now }
     requires start { HasNotBegun process.count process.calls }
     ensures shown { IfOk result (λ text. ShowsProfile line.now addresses
-        (world process.state process.calls (I.left input.old) (given_number 0) (given_number 0) steps.old (faults (I.faults input.old) 0 0))
-        (I.left input.new) steps.new text.items) }
+        (world_in process.state process.calls (outside_of guest.old steps.old))
+        guest.new.told.left steps.new text.items) }
     ensures ended { IfErr result (λ answer. EndsProfile line.now
-        (world process.state process.calls (I.left input.old) (given_number 0) (given_number 0) steps.old (faults (I.faults input.old) 0 0))
-        (I.left input.new) steps.new answer) }
-    ensures input { Blames (IsErrAnd result (λ answer. HasInputFailed answer)) (I.faults input.old) (I.faults input.new) }
-    ensures counted { IfErr result (λ answer. HasOutputFailed answer → ⊥) }
+        (world_in process.state process.calls (outside_of guest.old steps.old))
+        guest.new.told.left steps.new answer) }
+    ensures faults { BlamesOnly (device_of_result result) guest.old.told.faults guest.new.told.faults }
 {
     let shape = process.state.shape();
     let Ok(mut notes) = Notes::new(alloc, shape.base(), shape.size() as usize / 4, line.profile)
     else {
         return Err(Answer::Memory);
     };
-    let (mut out, mut err) = (CountSink::new(), CountSink::new());
-    let ended = run(
-        &mut process,
-        &mut notes,
-        line.limit,
-        input,
-        &mut out,
-        &mut err,
-        steps,
-    );
+    let ended = run(&mut process, &mut notes, line.limit, guest, steps);
     match ended {
         Ended::Exit(_) | Ended::Fault(_) | Ended::Limit => {}
         Ended::ReadFault | Ended::WriteFault | Ended::ErrFault => {
@@ -79,9 +68,7 @@ fn run<I: Source, O: Sink, E: Sink, L: Ledger>(
     process: &mut Process,
     notes: &mut Notes,
     limit: u64,
-    input: &mut I,
-    out: &mut O,
-    err: &mut E,
+    devices: &mut Devices<I, O, E>,
     steps: &mut Steps<L>,
 ) -> Ended
     requires limit { limit ≤ 2 ^ 40 }
@@ -90,24 +77,20 @@ fn run<I: Source, O: Sink, E: Sink, L: Ledger>(
     requires none_listed { notes.old.list.items ≡ [] }
     requires room { notes.old.profile ≤ vec_capacity notes.old.list }
     ensures goes { Goes limit (IsNoted notes.old.base notes.old.profile notes.new.table.items notes.new.list.items)
-        (world process.old.state process.old.calls (I.left input.old) (O.given out.old) (E.given err.old) steps.old
-        (faults (I.faults input.old) (O.faults out.old) (E.faults err.old)))
-        (world process.new.state process.new.calls (I.left input.new) (O.given out.new) (E.given err.new) steps.new
-        (faults (I.faults input.new) (O.faults out.new) (E.faults err.new)))
+        (world_in process.old.state process.old.calls (outside_of devices.old steps.old))
+        (world_in process.new.state process.new.calls (outside_of devices.new steps.new))
         process.new.count 0 result }
     ensures base { notes.new.base ≡ notes.old.base }
     ensures words { length notes.new.table.items ≡ length notes.old.table.items }
     ensures rise { CountsRise notes.new.list.items }
     ensures few { length notes.new.list.items ≤ notes.old.profile }
-    ensures faults { BlamesOnly (device_of result)
-        (faults (I.faults input.old) (O.faults out.old) (E.faults err.old))
-        (faults (I.faults input.new) (O.faults out.new) (E.faults err.new)) }
+    ensures faults { BlamesOnly (device_of result) devices.old.told.faults devices.new.told.faults }
 {
     let mut back = false;
     while process.count < limit {
         let pc = process.state.pc();
         notes.note(pc, process.count, back);
-        if let Some(ended) = turn(process, input, out, err, steps) {
+        if let Some(ended) = turn(process, devices, steps) {
             return ended;
         }
         back = process.state.pc() <= pc;
@@ -119,33 +102,24 @@ fn run<I: Source, O: Sink, E: Sink, L: Ledger>(
 #[inline]
 fn turn<I: Source, O: Sink, E: Sink, L: Ledger>(
     process: &mut Process,
-    input: &mut I,
-    out: &mut O,
-    err: &mut E,
+    devices: &mut Devices<I, O, E>,
     steps: &mut Steps<L>,
 ) -> Option<Ended>
     requires { process.old.count + 1 < 2 ^ 64 }
     ensures turn { device_of_turn result ≡ None → Turns
-        (world process.old.state process.old.calls (I.left input.old) (O.given out.old) (E.given err.old) steps.old
-        (faults (I.faults input.old) (O.faults out.old) (E.faults err.old)))
-        (world process.new.state process.new.calls (I.left input.new) (O.given out.new) (E.given err.new) steps.new
-        (faults (I.faults input.new) (O.faults out.new) (E.faults err.new)))
+        (world_in process.old.state process.old.calls (outside_of devices.old steps.old))
+        (world_in process.new.state process.new.calls (outside_of devices.new steps.new))
         process.old.count process.new.count result }
     ensures fails { (device : Device) → device_of_turn result ≡ Some device → TurnFails
-        (world process.old.state process.old.calls (I.left input.old) (O.given out.old) (E.given err.old) steps.old
-        (faults (I.faults input.old) (O.faults out.old) (E.faults err.old)))
-        (world process.new.state process.new.calls (I.left input.new) (O.given out.new) (E.given err.new) steps.new
-        (faults (I.faults input.new) (O.faults out.new) (E.faults err.new)))
-        device }
+        (world_in process.old.state process.old.calls (outside_of devices.old steps.old))
+        (world_in process.new.state process.new.calls (outside_of devices.new steps.new)) device }
     ensures count { (device : Device) → device_of_turn result ≡ Some device → process.new.count ≡ process.old.count }
-    ensures faults { BlamesOnly (device_of_turn result)
-        (faults (I.faults input.old) (O.faults out.old) (E.faults err.old))
-        (faults (I.faults input.new) (O.faults out.new) (E.faults err.new)) }
+    ensures faults { BlamesOnly (device_of_turn result) devices.old.told.faults devices.new.told.faults }
 {
     let count = process.count;
     let stopped = process.go_on(None, 1, steps);
     if process.count == count {
-        process.stop(stopped, input, out, err, steps)
+        process.stop(stopped, devices, steps)
     } else {
         None
     }

@@ -1,16 +1,16 @@
 //! The registers after so many steps.
-ghost use Rattle.std.specs.Prelude.{◌≡◌, ◌≤◌, ◌<◌, ◌+◌, ◌^◌, ℕ, All, IfErr, IfOk, IfSome, IsErrAnd, IsNone};
+ghost use Rattle.std.specs.Prelude.{◌≡◌, ◌≤◌, ◌<◌, ◌+◌, ◌^◌, ℕ, All, IfErr, IfOk, IfSome, IsNone};
 ghost use Rattle.asc_model.specs.Shape.{length_of};
-ghost use Rattle.asc_outside.specs.Outside.{Blames};
-ghost use Rattle.asc_calls.specs.World.{world, faults, BlamesOnly};
+ghost use Rattle.asc_calls.specs.World.{BlamesOnly, outside_of, world_in};
 ghost use Rattle.asc_run.specs.Turn.{device_of_turn};
 ghost use Rattle.asc_run.specs.Walk.{HasNotBegun};
 ghost use Rattle.asc_words.specs.Line.{IsRunWithin};
 ghost use Rattle.asc_show.specs.Registers.{ComesTo, EndsBeforeStep, EndsRegisters, ShowsRegisters, cells_from, pc_cells, registers_text};
-ghost use Rattle.asc_show.specs.Shown.{HasInputFailed, HasOutputFailed, counted_world};
+ghost use Rattle.asc_show.specs.Shown.{device_of_result};
 
 use crate::answer::{Answer, Reached};
 use crate::text::{put_cells, put_number};
+use asc_calls::Devices;
 use asc_outside::{CountSink, Sink, Source};
 use asc_run::{Ended, Process};
 use asc_shape::{State, Steps};
@@ -24,31 +24,20 @@ pub(crate) fn registers_after<I: Source, L: Ledger>(
     mut process: Process,
     line: &RunLine,
     count: u64,
-    input: &mut I,
+    guest: &mut Devices<I, CountSink, CountSink>,
     steps: &mut Steps<L>,
 ) -> Result<Vec<u8>, Answer>
     requires within { IsRunWithin line.now }
     requires start { HasNotBegun process.count process.calls }
     ensures shown { IfOk result (λ text. ShowsRegisters line.now count
-        (counted_world process.state process.calls (I.left input.old) steps.old (I.faults input.old))
-        (I.left input.new) steps.new text.items) }
+        (world_in process.state process.calls (outside_of guest.old steps.old))
+        guest.new.told.left steps.new text.items) }
     ensures ended { IfErr result (λ answer. EndsRegisters line.now count
-        (counted_world process.state process.calls (I.left input.old) steps.old (I.faults input.old))
-        (I.left input.new) steps.new answer) }
-    ensures input { Blames (IsErrAnd result HasInputFailed) (I.faults input.old) (I.faults input.new) }
-    ensures counted { IfErr result (λ answer. HasOutputFailed answer → ⊥) }
+        (world_in process.state process.calls (outside_of guest.old steps.old))
+        guest.new.told.left steps.new answer) }
+    ensures faults { BlamesOnly (device_of_result result) guest.old.told.faults guest.new.told.faults }
 {
-    let (mut out, mut err) = (CountSink::new(), CountSink::new());
-    let ended = come(
-        &mut process,
-        count,
-        line.limit,
-        input,
-        &mut out,
-        &mut err,
-        steps,
-    );
-    match ended {
+    match come(&mut process, count, line.limit, guest, steps) {
         Some(ended) => Err(Answer::Ended(ended, Reached::Steps(process.count))),
         None => registers_text(alloc, count, &process.state).map_err(|_| Answer::Memory),
     }
@@ -60,34 +49,26 @@ fn come<I: Source, O: Sink, E: Sink, L: Ledger>(
     process: &mut Process,
     count: u64,
     limit: u64,
-    input: &mut I,
-    out: &mut O,
-    err: &mut E,
+    devices: &mut Devices<I, O, E>,
     steps: &mut Steps<L>,
 ) -> Option<Ended>
     requires limit { limit ≤ 2 ^ 40 }
     requires start { HasNotBegun process.old.count process.old.calls }
     ensures there { IsNone result → ComesTo count
-        (world process.old.state process.old.calls (I.left input.old) (O.given out.old) (E.given err.old) steps.old
-        (faults (I.faults input.old) (O.faults out.old) (E.faults err.old)))
-        (world process.new.state process.new.calls (I.left input.new) (O.given out.new) (E.given err.new) steps.new
-        (faults (I.faults input.new) (O.faults out.new) (E.faults err.new))) }
+        (world_in process.old.state process.old.calls (outside_of devices.old steps.old))
+        (world_in process.new.state process.new.calls (outside_of devices.new steps.new)) }
     ensures within { IsNone result → count ≤ limit }
     ensures ended { IfSome result (λ ended. EndsBeforeStep limit count
-        (world process.old.state process.old.calls (I.left input.old) (O.given out.old) (E.given err.old) steps.old
-        (faults (I.faults input.old) (O.faults out.old) (E.faults err.old)))
-        (world process.new.state process.new.calls (I.left input.new) (O.given out.new) (E.given err.new) steps.new
-        (faults (I.faults input.new) (O.faults out.new) (E.faults err.new))) process.new.count ended) }
-    ensures faults { BlamesOnly (device_of_turn result)
-        (faults (I.faults input.old) (O.faults out.old) (E.faults err.old))
-        (faults (I.faults input.new) (O.faults out.new) (E.faults err.new)) }
+        (world_in process.old.state process.old.calls (outside_of devices.old steps.old))
+        (world_in process.new.state process.new.calls (outside_of devices.new steps.new)) process.new.count ended) }
+    ensures faults { BlamesOnly (device_of_turn result) devices.old.told.faults devices.new.told.faults }
 {
     let last = count.min(limit);
     while process.count < last {
         let landed = process.count;
         let stopped = process.go_on(None, last - landed, steps);
         if process.count == landed {
-            if let Some(ended) = process.stop(stopped, input, out, err, steps) {
+            if let Some(ended) = process.stop(stopped, devices, steps) {
                 return Some(ended);
             }
         }

@@ -1,15 +1,17 @@
 //! Where a run without workers is visited that seeks its address.
-ghost use Rattle.std.specs.Prelude.{◌≡◌, IfErr, IfOk, IsErrAnd};
-ghost use Rattle.asc_outside.specs.Outside.{Blames};
+ghost use Rattle.std.specs.Prelude.{◌≡◌, IfErr, IfOk};
+ghost use Rattle.asc_calls.specs.World.{BlamesOnly, outside_of};
 ghost use Rattle.asc_words.specs.Line.{IsRunWithin};
-ghost use Rattle.asc_show.specs.Shown.{HasInputFailed, HasOutputFailed, image_world};
+ghost use Rattle.asc_show.specs.Shown.{device_of_result, first_world};
 ghost use Rattle.asc_show.specs.Sought.{EndsSought, ShowsSought, last_address};
 
 use crate::answer::{Answer, Reached};
 use crate::sought_text::sought_text;
+use asc_calls::Devices;
 use asc_elf::Image;
+use asc_find::Helper;
 use asc_outside::{CountSink, Source};
-use asc_run::{Ended, Helper, Serial, Walk};
+use asc_run::{Ended, Serial, Walk};
 use asc_shape::Steps;
 use asc_top::{guessing_of, visited_settings};
 use asc_words::RunLine;
@@ -22,34 +24,31 @@ pub(crate) fn sought<I: Source, L: Ledger>(
     alloc: Global,
     image: &Image<'_>,
     line: &RunLine,
-    input: &mut I,
+    guest: &mut Devices<I, CountSink, CountSink>,
     steps: &mut Steps<L>,
 ) -> Result<Vec<u8>, Answer>
     requires within { IsRunWithin line.now }
     ensures shown { IfOk result (λ text. ShowsSought line.now
-        (image_world image.now (I.left input.old) steps.old (I.faults input.old))
-        (I.left input.new) steps.new text.items) }
+        (first_world image.now (outside_of guest.old steps.old)) guest.new.told.left steps.new text.items) }
     ensures ended { IfErr result (λ answer. EndsSought line.now
-        (image_world image.now (I.left input.old) steps.old (I.faults input.old))
-        (I.left input.new) steps.new answer) }
-    ensures input { Blames (IsErrAnd result HasInputFailed) (I.faults input.old) (I.faults input.new) }
-    ensures counted { IfErr result (λ answer. HasOutputFailed answer → ⊥) }
+        (first_world image.now (outside_of guest.old steps.old)) guest.new.told.left steps.new answer) }
+    ensures faults { BlamesOnly (device_of_result result) guest.old.told.faults guest.new.told.faults }
 {
     let mut walk = Walk::new(alloc, image, visited_settings(line))?;
     let mut helper = Serial::new(alloc, walk.shape(), guessing_of(line))?;
-    let (mut out, mut err) = (CountSink::new(), CountSink::new());
-    let ended = walk.go(&mut helper, input, &mut out, &mut err, steps);
+    let ended = walk.go(&mut helper, guest, steps);
+    let count = walk.count();
     let counts = walk.counts();
     match ended {
         Ended::Exit(_) | Ended::Fault(_) | Ended::Limit => {}
         Ended::ReadFault | Ended::WriteFault | Ended::ErrFault => {
-            return Err(Answer::Ended(ended, Reached::Steps(counts.count)));
+            return Err(Answer::Ended(ended, Reached::Steps(count)));
         }
     }
     if helper.refused() > 0 {
         return Err(Answer::Memory);
     }
-    match sought_text(alloc, ended, counts, last_address(&helper)) {
+    match sought_text(alloc, ended, count, counts, last_address(&helper)) {
         Ok(text) => Ok(text),
         Err(_) => Err(Answer::Memory),
     }

@@ -259,11 +259,11 @@ fn check<R: Abort, L: Ledger>(rt: &R, alloc: Global, row: &Row, blank: Blank) ->
     put_file(alloc, &mut files, "fault", &faulty)?;
     put_file(alloc, &mut files, "counts", &far)?;
     let mut out = ListSink::new(alloc, 1024, 7, Vec::new(alloc)).expect(rt, "memory");
-    let answer = show(
+    let (answer, _) = show(
         alloc,
         &words,
         &mut ListStore::new(files, Vec::new(alloc)),
-        &mut SureSource::new(Vec::new(alloc)),
+        SureSource::new(Vec::new(alloc)),
         &mut out,
         &mut Steps::<L>::new(blank),
     );

@@ -4,8 +4,9 @@ ghost use Rattle.hex.specs.Hex.{encode_lower};
 ghost use Rattle.asc_model.specs.Shape.{length_of};
 ghost use Rattle.asc_show.specs.Text.{cells_text, entry_text, line_text, names, place_text, why_text, word_of};
 
+use asc_model::Why;
 use asc_shape::Shape;
-use asc_traj::{Entry, Why, cells_of};
+use asc_traj::{Entry, cells_of};
 use itoa::Buffer;
 use std::alloc::{AllocError, Global};
 

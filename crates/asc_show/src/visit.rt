@@ -1,12 +1,13 @@
 //! A program that is run plainly to visits of an address.
 ghost use Rattle.std.specs.Prelude.{◌≡◌, ◌≤◌, ◌<◌, ◌+◌, ◌^◌, ℕ, List, true, false, Some, None, IsNone, IfSome, if◌then◌else◌};
 ghost use Rattle.asc_model.specs.State.{State};
-ghost use Rattle.asc_calls.specs.World.{World, world, faults, BlamesOnly};
+ghost use Rattle.asc_calls.specs.World.{World, BlamesOnly, outside_of, world_in};
 ghost use Rattle.asc_run.specs.Turn.{device_of_turn};
 ghost use Rattle.asc_run.specs.Visits.{is_at};
 ghost use Rattle.asc_show.specs.Visited.{Comes, EndsBefore};
 ghost use Rattle.asc_show.specs.Seen.{ComesFrom, IsOnWay};
 
+use asc_calls::Devices;
 use asc_outside::{Sink, Source};
 use asc_run::{Ended, Process};
 use asc_shape::Steps;
@@ -28,9 +29,7 @@ impl Visitor {
         pc: u32,
         visit: u64,
         limit: u64,
-        input: &mut I,
-        out: &mut O,
-        err: &mut E,
+        devices: &mut Devices<I, O, E>,
         steps: &mut Steps<L>,
     ) -> Option<Ended>
         requires limit { limit ≤ 2 ^ 40 }
@@ -40,23 +39,17 @@ impl Visitor {
         requires brk { self.old.process.calls.brk ≡ self.old.process.calls.low }
         requires going { self.old.process.calls.ended ≡ false }
         ensures there { IsNone result → Comes pc visit
-            (world self.old.process.state self.old.process.calls (I.left input.old) (O.given out.old) (E.given err.old) steps.old
-            (faults (I.faults input.old) (O.faults out.old) (E.faults err.old)))
-            (world self.new.process.state self.new.process.calls (I.left input.new) (O.given out.new) (E.given err.new) steps.new
-            (faults (I.faults input.new) (O.faults out.new) (E.faults err.new))) self.new.process.count }
+            (world_in self.old.process.state self.old.process.calls (outside_of devices.old steps.old))
+            (world_in self.new.process.state self.new.process.calls (outside_of devices.new steps.new)) self.new.process.count }
         ensures ended { IfSome result (λ ended. EndsBefore limit pc self.new.visits
-            (world self.old.process.state self.old.process.calls (I.left input.old) (O.given out.old) (E.given err.old) steps.old
-            (faults (I.faults input.old) (O.faults out.old) (E.faults err.old)))
-            (world self.new.process.state self.new.process.calls (I.left input.new) (O.given out.new) (E.given err.new) steps.new
-            (faults (I.faults input.new) (O.faults out.new) (E.faults err.new))) self.new.process.count ended) }
+            (world_in self.old.process.state self.old.process.calls (outside_of devices.old steps.old))
+            (world_in self.new.process.state self.new.process.calls (outside_of devices.new steps.new)) self.new.process.count ended) }
         ensures before { IfSome result (λ _. self.new.visits < visit) }
         ensures limit { self.new.process.count ≤ limit }
         ensures below { IsNone result → self.new.process.count < limit }
-        ensures faults { BlamesOnly (device_of_turn result)
-            (faults (I.faults input.old) (O.faults out.old) (E.faults err.old))
-            (faults (I.faults input.new) (O.faults out.new) (E.faults err.new)) }
+        ensures faults { BlamesOnly (device_of_turn result) devices.old.told.faults devices.new.told.faults }
     {
-        self.come_on(pc, visit, limit, input, out, err, steps)
+        self.come_on(pc, visit, limit, devices, steps)
     }
 
     /// Runs a program on until it stands at `pc` for the `visit`th time, as `come` does from its start. It goes on from a
@@ -66,9 +59,7 @@ impl Visitor {
         pc: u32,
         visit: u64,
         limit: u64,
-        input: &mut I,
-        out: &mut O,
-        err: &mut E,
+        devices: &mut Devices<I, O, E>,
         steps: &mut Steps<L>,
     ) -> Option<Ended>
         requires limit { limit ≤ 2 ^ 40 }
@@ -77,25 +68,19 @@ impl Visitor {
         requires before { self.old.visits < visit }
         // Wherever it began, and whatever was seen at earlier visits.
         ensures there { IsNone result → (start : World) (seen : List (ℕ × State)) → IsOnWay pc self.old.visits seen start
-            (world self.old.process.state self.old.process.calls (I.left input.old) (O.given out.old) (E.given err.old) steps.old
-            (faults (I.faults input.old) (O.faults out.old) (E.faults err.old))) self.old.process.count
+            (world_in self.old.process.state self.old.process.calls (outside_of devices.old steps.old)) self.old.process.count
             → ComesFrom pc visit seen start
-            (world self.new.process.state self.new.process.calls (I.left input.new) (O.given out.new) (E.given err.new) steps.new
-            (faults (I.faults input.new) (O.faults out.new) (E.faults err.new))) self.new.process.count }
+            (world_in self.new.process.state self.new.process.calls (outside_of devices.new steps.new)) self.new.process.count }
         ensures ended { IfSome result (λ ended. (start : World) (seen : List (ℕ × State)) → IsOnWay pc self.old.visits seen start
-            (world self.old.process.state self.old.process.calls (I.left input.old) (O.given out.old) (E.given err.old) steps.old
-            (faults (I.faults input.old) (O.faults out.old) (E.faults err.old))) self.old.process.count
+            (world_in self.old.process.state self.old.process.calls (outside_of devices.old steps.old)) self.old.process.count
             → EndsBefore limit pc self.new.visits start
-            (world self.new.process.state self.new.process.calls (I.left input.new) (O.given out.new) (E.given err.new) steps.new
-            (faults (I.faults input.new) (O.faults out.new) (E.faults err.new))) self.new.process.count ended) }
+            (world_in self.new.process.state self.new.process.calls (outside_of devices.new steps.new)) self.new.process.count ended) }
         ensures before { self.new.visits < visit }
         ensures last { IsNone result → self.new.visits + 1 ≡ visit }
         ensures few { IsNone result → self.new.visits ≤ self.new.process.count }
         ensures limit { self.new.process.count ≤ limit }
         ensures below { IsNone result → self.new.process.count < limit }
-        ensures faults { BlamesOnly (device_of_turn result)
-            (faults (I.faults input.old) (O.faults out.old) (E.faults err.old))
-            (faults (I.faults input.new) (O.faults out.new) (E.faults err.new)) }
+        ensures faults { BlamesOnly (device_of_turn result) devices.old.told.faults devices.new.told.faults }
     {
         loop {
             if self.process.count == limit {
@@ -107,7 +92,7 @@ impl Visitor {
             let landed = self.process.count;
             let stopped = self.process.go_on(Some(pc), limit - landed, steps);
             if self.process.count == landed {
-                if let Some(ended) = self.process.stop(stopped, input, out, err, steps) {
+                if let Some(ended) = self.process.stop(stopped, devices, steps) {
                     return Some(ended);
                 }
             }

@@ -15,7 +15,7 @@ use Rattle.asc_model.specs.State.{State, IsState}
 use Rattle.asc_model.specs.Machine.{Machine, Change, Pc, Register, Memory, reserve, release, load, is_reserved, view_of}
 use Rattle.asc_model.specs.Arithmetic.{◌+w◌, one_if}
 use Rattle.asc_model.specs.Effect.{Effect, Set, Load, Store, Jump, LoadReserved, StoreConditional, Modify, GuestCall, Breakpoint}
-use Rattle.asc_model.specs.Step.{Outcome, Goes, Fails, fault_outcome, is_aligned, atomic_outcome, loaded_word, effect_of, outcome_of}
+use Rattle.asc_model.specs.Step.{Outcome, Goes, Faults, fault_outcome, is_aligned, atomic_outcome, loaded_word, effect_of, outcome_of}
 use Rattle.asc_model.specs.Instruction.{decode}
 use Rattle.asc_model.proofs.Steps.{IsInstruction, IfInstruction, decode-IsInstruction, IsEffect, effect_of-IsEffect}
 use Rattle.asc_model.specs.Places.{places_from, reservation_places, cells, cells_of, cells_of_outcome, atomic_places, data_places}
@@ -87,8 +87,8 @@ finishes_goes f f1 g rd e list answer o r p a =
     }
 
 -- an effect that ends in a fault
-pub finishes_fails : (f : Face) (rd : ℕ) (e : Effect) (fault : Fault) (answer : Stepped) → outcome_of f.state.shape (view_of f.state) rd e ≡ Fails fault
-    → data_places f.state.shape e ≡ [] → answer ≡ answers.Fault fault → Finishes f f rd e answer
+pub finishes_fails : (f : Face) (rd : ℕ) (e : Effect) (fault : Fault) (answer : Stepped) → outcome_of f.state.shape (view_of f.state) rd e ≡ Faults fault
+    → data_places f.state.shape e ≡ [] → answer ≡ answers.Faulted fault → Finishes f f rd e answer
 finishes_fails f rd e fault answer o p a = record {
   answer = a ∙ ap answer_of (sym o);
   face =
@@ -105,8 +105,8 @@ finishes_calls f rd = record { answer = refl; face = sym (face_after_puts-nil (f
 abbrev pub fault_at : FaultKind → (pc value : ℕ) → Fault
 fault_at kind pc value = record { kind = kind; pc = pc; value = value }
 
-pub fault_outcome-at : (m : Machine) (kind : FaultKind) (pc value : ℕ) → pc ≡ m.pc → fault_outcome m kind value ≡ Fails (fault_at kind pc value)
-fault_outcome-at m kind pc value e = ap (λ x. Fails (fault_at kind x value)) (sym e)
+pub fault_outcome-at : (m : Machine) (kind : FaultKind) (pc value : ℕ) → pc ≡ m.pc → fault_outcome m kind value ≡ Faults (fault_at kind pc value)
+fault_outcome-at m kind pc value e = ap (λ x. Faults (fault_at kind x value)) (sym e)
 
 -- ---- each effect
 
@@ -131,7 +131,7 @@ module _ (f : Face) (pc rd n : ℕ) (signed : Bool) (address : ℕ) (at : AtInst
       (r ∙ ap (λ x. face_after_reads f (places_from x n)) e ∙ ap (face_after_reads f) (sym (cond-true _ (places_from (place_of f.state.shape address) n) [] h)))
       p a
 
-  pub fails_load : (answer : Stepped) → holds f.state.shape address n ≡ false → answer ≡ answers.Fault (fault_at LoadOutside pc address) → Finishes f f rd (Load n signed address) answer
+  pub fails_load : (answer : Stepped) → holds f.state.shape address n ≡ false → answer ≡ answers.Faulted (fault_at LoadOutside pc address) → Finishes f f rd (Load n signed address) answer
   fails_load answer h a =
       finishes_fails f rd (Load n signed address) (fault_at LoadOutside pc address) answer
       (cond-false _ _ _ h ∙ fault_outcome-at (view_of f.state) LoadOutside pc address at.pc) (cond-false _ _ _ h) a
@@ -144,7 +144,7 @@ module _ (f : Face) (pc rd n address value : ℕ) (at : AtInstruction f pc) wher
       finishes_goes f f g rd (Store n address value) (Pc (pc +w 4) ∷ Memory address (bytes_of n value) ∷ []) answer
       (cond-true _ _ _ h ∙ ap (λ x. Goes (Pc (x +w 4) ∷ Memory address (bytes_of n value) ∷ [])) (sym at.pc)) (sym (face_after_reads-nil f)) p a
 
-  pub fails_store : (answer : Stepped) → holds f.state.shape address n ≡ false → answer ≡ answers.Fault (fault_at StoreOutside pc address) → Finishes f f rd (Store n address value) answer
+  pub fails_store : (answer : Stepped) → holds f.state.shape address n ≡ false → answer ≡ answers.Faulted (fault_at StoreOutside pc address) → Finishes f f rd (Store n address value) answer
   fails_store answer h a =
       finishes_fails f rd (Store n address value) (fault_at StoreOutside pc address) answer
       (cond-false _ _ _ h ∙ fault_outcome-at (view_of f.state) StoreOutside pc address at.pc) refl a
@@ -156,7 +156,7 @@ module _ (f : Face) (pc rd target : ℕ) (at : AtInstruction f pc) where
       finishes_goes f f g rd (Jump target) (Pc target ∷ Register rd (pc +w 4) ∷ []) answer
       (cond-true _ _ _ h ∙ ap (λ x. Goes (Pc target ∷ Register rd (x +w 4) ∷ [])) (sym at.pc)) (sym (face_after_reads-nil f)) p a
 
-  pub fails_jump : (answer : Stepped) → is_aligned target ≡ false → answer ≡ answers.Fault (fault_at Misaligned pc target) → Finishes f f rd (Jump target) answer
+  pub fails_jump : (answer : Stepped) → is_aligned target ≡ false → answer ≡ answers.Faulted (fault_at Misaligned pc target) → Finishes f f rd (Jump target) answer
   fails_jump answer h a =
       finishes_fails f rd (Jump target) (fault_at Misaligned pc target) answer (cond-false _ _ _ h ∙ fault_outcome-at (view_of f.state) Misaligned pc target at.pc) refl a
 
@@ -190,7 +190,7 @@ atomic_holds shape outside address e = by_tests (is_aligned address) (holds shap
 pub fails_atomic : (f : Face) (pc rd : ℕ) (e : Effect) (outside kind : FaultKind) (address : ℕ) (list : List Change) (places : List ℕ) (answer : Stepped) → AtInstruction f pc
     → outcome_of f.state.shape (view_of f.state) rd e ≡ atomic_outcome f.state.shape (view_of f.state) outside address list
     → data_places f.state.shape e ≡ atomic_places f.state.shape address places → Some kind ≡ word_fault f.state.shape address AtomicMisaligned outside
-    → answer ≡ answers.Fault (fault_at kind pc address) → Finishes f f rd e answer
+    → answer ≡ answers.Faulted (fault_at kind pc address) → Finishes f f rd e answer
 fails_atomic f pc rd e outside kind address list places answer at o d k a =
     let both = atomic_fails (is_aligned address) (holds f.state.shape address 4) (view_of f.state) outside kind address (Goes list) places (sym k) in
     finishes_fails f rd e (fault_at kind pc address) answer (o ∙ both.0 ∙ fault_outcome-at (view_of f.state) kind pc address at.pc) (d ∙ both.1) a
@@ -279,7 +279,7 @@ finishes_store_conditional f f1 g pc rd address value reserved answer at k v r p
     r p a
 
 -- control goes to a debugger
-pub finishes_break : (f : Face) (pc rd : ℕ) (answer : Stepped) → AtInstruction f pc → answer ≡ answers.Fault (fault_at Break pc 0) → Finishes f f rd Breakpoint answer
+pub finishes_break : (f : Face) (pc rd : ℕ) (answer : Stepped) → AtInstruction f pc → answer ≡ answers.Faulted (fault_at Break pc 0) → Finishes f f rd Breakpoint answer
 finishes_break f pc rd answer at a = finishes_fails f rd Breakpoint (fault_at Break pc 0) answer (fault_outcome-at (view_of f.state) Break pc 0 at.pc) refl a
 
 -- ---- the instruction's places

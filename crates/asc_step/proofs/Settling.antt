@@ -17,7 +17,7 @@ use Rattle.asc_model.specs.Machine.{Machine, Change, Pc, Register, Memory, reser
 use Rattle.asc_model.specs.Arithmetic.{◌+w◌, signed, one_if}
 use Rattle.asc_model.specs.Effect.{Effect, Set, Load, Store, Jump, LoadReserved, StoreConditional, Modify, GuestCall, Breakpoint}
 use Rattle.asc_model.specs.Instruction.{decode, rd_of, rs1_of, rs2_of}
-use Rattle.asc_model.specs.Step.{Outcome, Goes, Calls, Fails, fault_outcome, is_aligned, atomic_outcome, loaded_word, effect_of, outcome_of, outcome_of_word, fetch, outcome}
+use Rattle.asc_model.specs.Step.{Outcome, Goes, Calls, Faults, fault_outcome, is_aligned, atomic_outcome, loaded_word, effect_of, outcome_of, outcome_of_word, fetch, outcome}
 use Rattle.asc_model.specs.Places.{places_from, register_places, data_places, operand_places, places_read, cells_of, cells_of_outcome, writes}
 use Rattle.asc_model.proofs.Changes.{holds-parts}
 use Rattle.asc_model.proofs.Numbers.{length-bytes_after}
@@ -42,7 +42,7 @@ abbrev WritesBoth : Shape → ℕ → Outcome → Type 0
 WritesBoth shape rd (Goes list) = (marks : Marks) → unwritten_count marks (map (λ cell. cell.0) (flat_map (cells_of shape) list)) ≡ 0
     → (unwritten_count marks (places_from 0 4) ≡ 0) × (unwritten_count marks (register_places rd) ≡ 0)
 WritesBoth shape rd Calls = Unit {0}
-WritesBoth shape rd (Fails fault) = Unit {0}
+WritesBoth shape rd (Faults fault) = Unit {0}
 
 unwritten-map : (marks : Marks) (a b : List (ℕ × ℕ)) → unwritten_count marks (map (λ cell. cell.0) (a ++ b)) ≡ unwritten_count marks (map (λ cell. cell.0) a) + unwritten_count marks (map (λ cell. cell.0) b)
 unwritten-map marks a b = ap (unwritten_count marks) (map-append (λ (cell : ℕ × ℕ). cell.0) a b) ∙ unwritten_count-append marks (map (λ cell. cell.0) a) (map (λ cell. cell.0) b)
@@ -107,7 +107,7 @@ decoded-both : (shape : Shape) (m : Machine) (version : Version) (word : ℕ) (i
 decoded-both shape m version word i e =
     outcome_of-both shape m (rd_of i) (effect_of m i) (decoded-StoresNone m version word i e)
 
-went≢ : (fault : Fault) → answers.Fault fault ≡ answers.Went → ⊥
+went≢ : (fault : Fault) → answers.Faulted fault ≡ answers.Went → ⊥
 went≢ fault e = absurd (cc)
 
 called≢ : answers.Call ≡ answers.Went → ⊥
@@ -117,7 +117,7 @@ went-both : (shape : Shape) (rd : ℕ) (o : Outcome) (marks : Marks) → answer_
     → (unwritten_count marks (places_from 0 4) ≡ 0) × (unwritten_count marks (register_places rd) ≡ 0)
 went-both shape rd (Goes list) marks e h none = h marks none
 went-both shape rd Calls marks e h none = absurd (called≢ e)
-went-both shape rd (Fails fault) marks e h none = absurd (went≢ fault e)
+went-both shape rd (Faults fault) marks e h none = absurd (went≢ fault e)
 
 -- ---- a step that goes on
 

@@ -9,7 +9,7 @@ use Rattle.asc_model.specs.Number.{word_at}
 use Rattle.asc_model.specs.State.{State, IsState}
 use Rattle.asc_model.specs.Machine.{Machine, view_of}
 use Rattle.asc_model.specs.Instruction.{decode}
-use Rattle.asc_model.specs.Step.{Outcome, Goes, Calls, Fails, fault_outcome, is_aligned, outcome_of_word, fetch, outcome, Next, next, next_of}
+use Rattle.asc_model.specs.Step.{Outcome, Goes, Calls, Faults, fault_outcome, is_aligned, outcome_of_word, fetch, outcome, Next, next, next_of}
 use Rattle.asc_model.specs.Places.{places_from, places_read, operand_places, cells_of_outcome, writes, bytes_after}
 use Rattle.asc_model.proofs.Views.{view_of-pc, view_of-fetch}
 use Rattle.asc_model.proofs.Steps.{next-goes, next-calls, next-fails, writes-calls, writes-fails}
@@ -30,7 +30,7 @@ fetch_fault shape pc = word_fault shape pc Misaligned FetchOutside
 stepped_of-next_of : (shape : Shape) (m : Machine) (o : Outcome) → stepped_of (next_of shape m o) ≡ answer_of o
 stepped_of-next_of shape m (Goes list) = refl
 stepped_of-next_of shape m Calls = refl
-stepped_of-next_of shape m (Fails fault) = refl
+stepped_of-next_of shape m (Faults fault) = refl
 
 -- the answer of a step
 pub stepped_of-next : (s : State) → stepped_of (next s) ≡ answer_of (outcome s.shape (view_of s))
@@ -42,7 +42,7 @@ after_outcome : (s : State) (o : Outcome) → IsState s → outcome s.shape (vie
 after_outcome s (Goes list) good e = ap (λ (n : Next). state_after_step n s) (next-goes s list good e)
 after_outcome s Calls good e =
     ap (λ (n : Next). state_after_step n s) (next-calls s e) ∙ ap (λ list. record s { bytes = bytes_after s.bytes list }) (sym (writes-calls s e))
-after_outcome s (Fails fault) good e =
+after_outcome s (Faults fault) good e =
     ap (λ (n : Next). state_after_step n s) (next-fails s fault e) ∙ ap (λ list. record s { bytes = bytes_after s.bytes list }) (sym (writes-fails s fault e))
 
 -- what a step writes makes the state after it
@@ -114,14 +114,14 @@ places_read-unfetched s kind e = unfetched_places (is_aligned (view_of s).pc) (h
 
 -- the word cannot be fetched
 pub step_unfetched : (f g : Face) (answer : Stepped) (shape : Shape) (pc : ℕ) (kind : FaultKind) → IsState f.state → FitPlaces (length f.state.bytes) f.marks → shape ≡ f.state.shape → pc ≡ word_at f.state.bytes 0
-    → Some kind ≡ fetch_fault shape pc → answer ≡ answers.Fault (record { kind = kind; pc = pc; value = pc }) → g ≡ face_after_reads f (places_from 0 4) → Attempts f g answer
+    → Some kind ≡ fetch_fault shape pc → answer ≡ answers.Faulted (record { kind = kind; pc = pc; value = pc }) → g ≡ face_after_reads f (places_from 0 4) → Attempts f g answer
 step_unfetched f g answer shape pc kind good fit same p k a e =
     let at : pc ≡ (view_of f.state).pc = p ∙ sym (view_of-pc f.state) in
     let failed : fetch_fault f.state.shape (view_of f.state).pc ≡ Some kind =
     ap (fetch_fault f.state.shape) (sym at) ∙ ap (λ (x : Shape). fetch_fault x pc) (sym same) ∙ sym k in
     conclude f g answer (places_from 0 4) (fault_outcome (view_of f.state) kind (view_of f.state).pc) good fit
     (outcome-unfetched f.state.shape (view_of f.state) kind failed) (places_read-unfetched f.state kind failed)
-    (a ∙ ap (λ x. answers.Fault (record { kind = kind; pc = x; value = x })) at)
+    (a ∙ ap (λ x. answers.Faulted (record { kind = kind; pc = x; value = x })) at)
     (e ∙ sym (face_after_puts-nil (face_after_reads f (places_from 0 4))))
 
 -- what is known once the word is fetched: the face before it, and the instruction
@@ -208,12 +208,12 @@ module _ (f f1 f2 : Face) (pc word : ℕ) (instruction : Option Instr) (h : IsFe
 
 -- a step whose word is no instruction
 pub step_illegal : (f f1 f2 : Face) (pc word : ℕ) → IsFetched f f1 f2 pc word None → (answer : Stepped)
-    → answer ≡ answers.Fault (record { kind = Illegal; pc = pc; value = word }) → Attempts f f2 answer
+    → answer ≡ answers.Faulted (record { kind = Illegal; pc = pc; value = word }) → Attempts f f2 answer
 step_illegal f f1 f2 pc word h answer a =
     let same = sym (fetched_state f f1 f2 pc word None h) in
     let pcs : pc ≡ (view_of f2.state).pc = is_pc f f1 f2 pc word None h ∙ ap (λ (s : State). (view_of s).pc) same in
     let words : word ≡ fetch f2.state.shape (view_of f2.state) = fetched_word f f1 f2 pc word None h ∙ ap (λ (s : State). fetch s.shape (view_of s)) same in
     step_fetched f f1 f2 pc word None h f2 answer
-    (a ∙ ap (λ x. answers.Fault (record { kind = Illegal; pc = x; value = word })) pcs
-    ∙ ap (λ x. answers.Fault (record { kind = Illegal; pc = (view_of f2.state).pc; value = x })) words)
+    (a ∙ ap (λ x. answers.Faulted (record { kind = Illegal; pc = x; value = word })) pcs
+    ∙ ap (λ x. answers.Faulted (record { kind = Illegal; pc = (view_of f2.state).pc; value = x })) words)
     (sym (face_after_puts-nil (face_after_reads f2 []) ∙ face_after_reads-nil f2))

@@ -12,7 +12,7 @@ use crate::Stepped;
 use crate::effect::{Operands, effect_of};
 use crate::finish::finish;
 use crate::places::register;
-use asc_isa::{Instr, Op};
+use asc_model::{Instr, Op};
 use asc_shape::{Shape, Words};
 
 /// An instruction's operation, registers and immediate. What its format lacks is 0.

@@ -4,15 +4,16 @@ ghost use Rattle.asc_model.specs.Shape.{holds};
 ghost use Rattle.asc_model.specs.Step.{is_aligned};
 ghost use Rattle.asc_step.specs.Execute.{word_fault};
 
-use crate::{Fault, FaultKind, Stepped};
+use crate::Stepped;
+use asc_model::{Fault, FaultKind};
 use asc_shape::Shape;
 
 /// A fault of the instruction at this pc.
 #[inline(always)]
 pub(crate) fn fault(kind: FaultKind, pc: u32, value: u32) -> Stepped
-    ensures { result ≡ Stepped.Fault (record { kind = kind; pc = pc; value = value }) }
+    ensures { result ≡ Stepped.Faulted (record { kind = kind; pc = pc; value = value }) }
 {
-    Stepped::Fault(Fault { kind, pc, value })
+    Stepped::Faulted(Fault { kind, pc, value })
 }
 
 /// Whether an address is a multiple of 4.

@@ -11,13 +11,14 @@ ghost use Rattle.asc_model.specs.declared.fault.FaultKind.TheVariants.{AtomicMis
 ghost use Rattle.asc_step.specs.Effect.{bytes_in, changed, model_effect};
 ghost use Rattle.asc_step.specs.Execute.{AtInstruction, Finishes, IsOfVersion, Puts, PutsSettled, word_fault};
 
+use crate::Stepped;
 use crate::arithmetic::one_if;
 use crate::effect::{Amo, Effect, Size, changed, loaded_word};
 use crate::faults::{fault, holds, is_aligned, word_fault};
 use crate::places::{
     is_reserved, put_number, read_number, read_word, release, reserve, set_pc, set_register,
 };
-use crate::{FaultKind, Stepped};
+use asc_model::FaultKind;
 use asc_shape::{Shape, Words};
 
 /// Carries out the effect of the instruction at this pc. The pc and the destination are written where `SETTLED` says so.

@@ -13,7 +13,6 @@ mod stepped;
 mod stepping;
 mod version;
 
-pub use asc_model::{Fault, FaultKind};
 pub use many::{step_down, step_many, step_until};
 pub use stepped::Stepped;
 pub use stepping::{step, step_anew, step_settled, try_step};

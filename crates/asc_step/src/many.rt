@@ -2,9 +2,8 @@
 ghost use Rattle.std.specs.Prelude.{◌≡◌, ◌≢◌, ◌⊎◌, ◌+◌, ◌≤◌, ◌<◌, true, false};
 ghost use Rattle.asc_model.specs.Machine.{view_of};
 ghost use Rattle.asc_model.specs.Plain.{plain};
-ghost use Rattle.asc_model.specs.Step.{At, next};
+ghost use Rattle.asc_model.specs.Step.{Went, next};
 ghost use Rattle.asc_step.specs.Step.{Climbs, Lowers, PassesBy, stepped_of};
-ghost use Rattle.asc_step.specs.declared.stepped.Stepped.TheVariants.{Went};
 
 use crate::Stepped;
 use crate::stepping::step_of;
@@ -26,12 +25,12 @@ struct Down;
 /// It is never taken into its caller, so that all that a step needs stays in the processor's registers.
 #[inline(never)]
 pub fn step_many<L: Ledger>(state: &mut State, most: u64, steps: &mut Steps<L>) -> (u64, Stepped)
-    ensures goes { plain result.0 state.old ≡ At state.new }
+    ensures goes { plain result.0 state.old ≡ Went state.new }
     ensures counter { steps.new ≡ steps.old + result.0 }
     ensures most { result.0 ≤ most }
-    ensures all { result.1 ≡ Went → result.0 ≡ most }
-    ensures fewer { result.1 ≢ Went → result.0 < most }
-    ensures ends { result.1 ≢ Went → result.1 ≡ stepped_of (next state.new) }
+    ensures all { result.1 ≡ Stepped.Went → result.0 ≡ most }
+    ensures fewer { result.1 ≢ Stepped.Went → result.0 < most }
+    ensures ends { result.1 ≢ Stepped.Went → result.1 ≡ stepped_of (next state.new) }
 {
     let shape = state.shape();
     let mut count = 0;
@@ -53,13 +52,13 @@ pub fn step_until<L: Ledger>(
     most: u64,
     steps: &mut Steps<L>,
 ) -> (u64, Stepped)
-    ensures goes { plain result.0 state.old ≡ At state.new }
+    ensures goes { plain result.0 state.old ≡ Went state.new }
     ensures passes { PassesBy state.old pc result.0 }
     ensures counter { steps.new ≡ steps.old + result.0 }
     ensures most { result.0 ≤ most }
-    ensures all { result.1 ≡ Went → (result.0 ≡ most) ⊎ ((0 < result.0) × ((view_of state.new).pc ≡ pc)) }
-    ensures fewer { result.1 ≢ Went → result.0 < most }
-    ensures ends { result.1 ≢ Went → result.1 ≡ stepped_of (next state.new) }
+    ensures all { result.1 ≡ Stepped.Went → (result.0 ≡ most) ⊎ ((0 < result.0) × ((view_of state.new).pc ≡ pc)) }
+    ensures fewer { result.1 ≢ Stepped.Went → result.0 < most }
+    ensures ends { result.1 ≢ Stepped.Went → result.1 ≡ stepped_of (next state.new) }
 {
     let shape = state.shape();
     let mut done = 0;
@@ -83,16 +82,16 @@ pub fn step_down<L: Ledger>(
     most: u64,
     steps: &mut Steps<L>,
 ) -> (u64, bool, Stepped)
-    ensures goes { plain result.0 state.old ≡ At state.new }
+    ensures goes { plain result.0 state.old ≡ Went state.new }
     ensures climbs { Climbs state.old result.0 }
     ensures down { result.1 ≡ true → Lowers state.old result.0 }
-    ensures last { result.1 ≡ true → result.2 ≡ Went }
+    ensures last { result.1 ≡ true → result.2 ≡ Stepped.Went }
     ensures up { result.1 ≡ false → Climbs state.old (result.0 + 1) }
     ensures counter { steps.new ≡ steps.old + result.0 }
     ensures most { result.0 ≤ most }
-    ensures all { result.2 ≡ Went → (result.0 ≡ most) ⊎ (result.1 ≡ true) }
-    ensures fewer { result.2 ≢ Went → result.0 < most }
-    ensures ends { result.2 ≢ Went → result.2 ≡ stepped_of (next state.new) }
+    ensures all { result.2 ≡ Stepped.Went → (result.0 ≡ most) ⊎ (result.1 ≡ true) }
+    ensures fewer { result.2 ≢ Stepped.Went → result.0 < most }
+    ensures ends { result.2 ≢ Stepped.Went → result.2 ≡ stepped_of (next state.new) }
 {
     let shape = state.shape();
     let mut done = 0;

@@ -13,12 +13,13 @@ ghost use Rattle.asc_shape.specs.Face.{room_of};
 ghost use Rattle.asc_step.specs.Execute.{AtInstruction, IsOfVersion, RunsSettled, answer_of, face_after_outcome};
 ghost use Rattle.asc_step.specs.Step.{Attempts};
 
+use crate::Stepped;
 use crate::execute::execute;
 use crate::faults::{fault, word_fault};
 use crate::places::read_word;
 use crate::version::has_atomics;
-use crate::{FaultKind, Stepped};
-use asc_isa::{Instr, Op, decode, operation};
+use asc_isa::{decode, operation};
+use asc_model::{FaultKind, Instr, Op};
 use asc_shape::{Shape, Words};
 
 /// A match with an arm for each of these operations, all of which do the same.

@@ -1,5 +1,3 @@
-use crate::Fault;
-
 /// What a step came to.
 #[derive(Clone, Copy, Debug, PartialEq, Eq)]
 pub enum Stepped {
@@ -8,5 +6,7 @@ pub enum Stepped {
     /// The program calls its environment. The state is as it was, with the pc at the call.
     Call,
     /// The program faults. The state is as it was.
-    Fault(Fault),
+    Faulted(Fault),
 }
+
+use asc_model::Fault;

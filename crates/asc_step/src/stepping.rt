@@ -11,13 +11,14 @@ ghost use Rattle.asc_step.specs.Execute.{AtInstruction, RunsSettled, answer_of, 
 ghost use Rattle.asc_step.specs.Step.{Attempts, counted_steps};
 ghost use Rattle.asc_step.specs.declared.stepped.Stepped.TheVariants.{Went};
 
+use crate::Stepped;
 use crate::execute::execute;
 use crate::faults::{fault, word_fault};
 use crate::places::read_word;
 use crate::specialized::{execute_likely, step_specialized};
 use crate::version::has_atomics;
-use crate::{FaultKind, Stepped};
 use asc_isa::{decode, decode_likely};
+use asc_model::FaultKind;
 use asc_shape::{Shape, Steps, Words};
 use std::sync::ledger::Ledger;
 

@@ -2,8 +2,6 @@
 ghost use Rattle.std.specs.Prelude.{◌≡◌};
 ghost use Rattle.asc_isa.specs.Decode.{version_of};
 
-use asc_shape::Version;
-
 /// Whether a version of the machine has RV32A.
 #[inline(always)]
 pub(crate) fn has_atomics(version: Version) -> bool
@@ -14,3 +12,5 @@ pub(crate) fn has_atomics(version: Version) -> bool
         Version::Two => true,
     }
 }
+
+use asc_model::Version;

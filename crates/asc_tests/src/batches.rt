@@ -1,9 +1,9 @@
 //! Batches: one image over several inputs.
 use crate::images::wrap;
-use crate::outside::{Devices, QUIET, SOUND, Want, check, run_gated};
+use crate::outside::{Outside, QUIET, SOUND, Want, check, run_gated};
 use crate::sought::COUNTS;
 use asc_outside::Open;
-use asc_top::{Answer, Bad};
+use asc_words::{Answer, Bad};
 use std::alloc::{AllocError, Global};
 use std::process::Abort;
 use std::sync::Wait;
@@ -97,7 +97,7 @@ struct Row {
     line: &'static str,
     program: &'static [u32],
     inputs: &'static [&'static str],
-    devices: Devices,
+    devices: Outside,
     want: Want,
 }
 
@@ -217,7 +217,7 @@ static ROWS: [Row; 16] = [
         line: "asc batch image 0 1",
         program: ECHO,
         inputs: &["ab", "cd"],
-        devices: Devices {
+        devices: Outside {
             most: 1,
             fails: [1, 0, 0, 0, 0],
             ..SOUND
@@ -246,7 +246,7 @@ static ROWS: [Row; 16] = [
         line: "asc batch image 0 1 2",
         program: ECHO,
         inputs: &["ab", "cd", "ef"],
-        devices: Devices {
+        devices: Outside {
             most: 1,
             fails: [0, 0, 3, 0, 0],
             ..SOUND
@@ -263,7 +263,7 @@ static ROWS: [Row; 16] = [
         line: "asc batch image 0 1 2",
         program: ECHO,
         inputs: &["ab", "cd", "ef"],
-        devices: Devices {
+        devices: Outside {
             most: 1,
             fails: [0, 0, 4, 0, 0],
             ..SOUND
@@ -280,7 +280,7 @@ static ROWS: [Row; 16] = [
         line: "asc batch image 0 1 2",
         program: COMPLAIN,
         inputs: &["ab", "cd", "ef"],
-        devices: Devices {
+        devices: Outside {
             most: 1,
             fails: [0, 0, 0, 3, 0],
             ..SOUND
@@ -297,7 +297,7 @@ static ROWS: [Row; 16] = [
         line: "asc batch image 0 1 2",
         program: COMPLAIN,
         inputs: &["ab", "cd", "ef"],
-        devices: Devices {
+        devices: Outside {
             most: 1,
             fails: [0, 0, 0, 4, 0],
             ..SOUND
@@ -314,7 +314,7 @@ static ROWS: [Row; 16] = [
         line: "asc batch image 0 1 2",
         program: ECHO,
         inputs: &["ab", "cd", "ef"],
-        devices: Devices {
+        devices: Outside {
             most: 1,
             fails: [0, 0, 0, 0, 29],
             ..SOUND
@@ -331,7 +331,7 @@ static ROWS: [Row; 16] = [
         line: "asc batch image 0 1 2",
         program: ECHO,
         inputs: &["ab", "cd", "ef"],
-        devices: Devices {
+        devices: Outside {
             most: 1,
             fails: [0, 0, 0, 0, 30],
             ..SOUND
@@ -372,7 +372,7 @@ fn check_batch<R: Abort + Threads + Wait + Sync + Copy + Drop + Send>(
 ) -> Result<(), AllocError> {
     let files = files_of(alloc, row.program, row.inputs)?;
     let got = run_gated(rt, alloc, line, files, &row.devices, &Open)?;
-    let put = (got.out.bytes(), got.err.bytes(), got.report.bytes());
+    let put = (got.out(), got.err(), got.report.bytes());
     let want = &row.want;
     let wanted = (
         want.out.as_bytes(),
@@ -439,7 +439,7 @@ fn inputs(rt: HostRuntime) -> Result<(), Fail> {
     let line = "asc batch image 0 1 2 3";
     let got = run_gated(&rt, alloc, line, files, &SOUND, &Open)?;
     assert_eq!(rt; (got.answer, got.asked(&rt)), (Answer::InputTooLong(2), 4));
-    let put = (got.out.bytes(), got.report.bytes());
+    let put = (got.out(), got.report.bytes());
     assert_eq!(rt; put, ("".as_bytes(), "asc: input 2 too long\n".as_bytes()));
     Ok(())
 }

@@ -1,11 +1,11 @@
 //! Generated images: what `asc make` puts, and what `asc trial` tells of their runs.
-use crate::outside::{Devices, QUIET, SOUND, Want, check, run_line};
+use crate::outside::{Outside, QUIET, SOUND, Want, check, run_line};
 use asc_make::image;
-use asc_top::{Answer, Bad};
+use asc_words::{Answer, Bad};
 use std::test::Fail;
 
 /// Room for an image, and for the text of a trial.
-const ROOMY: Devices = Devices { room: 180, ..SOUND };
+const ROOMY: Outside = Outside { room: 180, ..SOUND };
 
 /// What comes where a file is never asked for.
 const DONE: Want = Want {
@@ -131,11 +131,11 @@ static TRIALS: [(&str, [u64; 5], Want); 19] = [
 fn trials(rt: HostRuntime) -> Result<(), Fail> {
     let alloc = rt.alloc();
     for (line, fails, want) in &TRIALS {
-        let devices = Devices {
+        let outside = Outside {
             fails: *fails,
             ..ROOMY
         };
-        check(&rt, alloc, line, Vec::new(alloc), &devices, want)?;
+        check(&rt, alloc, line, Vec::new(alloc), &outside, want)?;
     }
     Ok(())
 }
@@ -153,8 +153,8 @@ fn images(rt: HostRuntime) -> Result<(), Fail> {
     for (line, n) in &MADE {
         let got = run_line(&rt, alloc, line, Vec::new(alloc), &ROOMY)?;
         assert_eq!(rt; got.answer, Answer::Done(0), "at {line}");
-        assert_eq!(rt; got.out.bytes().len(), 180, "at {line}");
-        assert_eq!(rt; got.out.bytes(), image(alloc, *n)?.as_slice(), "at {line}");
+        assert_eq!(rt; got.out().len(), 180, "at {line}");
+        assert_eq!(rt; got.out(), image(alloc, *n)?.as_slice(), "at {line}");
     }
     Ok(())
 }

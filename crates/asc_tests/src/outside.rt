@@ -1,9 +1,11 @@
 //! The program over an outside in memory, and what must come of it.
 ghost use Rattle.std.specs.Prelude.{◌≡◌, ◌<◌};
 
+use asc_calls::Devices;
 use asc_outside::{Gate, ListSink, ListSource, ListStore, Open};
 use asc_shape::Steps;
-use asc_top::{Answer, top};
+use asc_top::top;
+use asc_words::Answer;
 use std::alloc::{AllocError, Global};
 use std::marker::Brand;
 use std::process::Abort;
@@ -13,7 +15,7 @@ use std::thread::Threads;
 
 /// What the input gives, how the devices move it, and which of their calls fail.
 #[derive(Clone, Copy)]
-pub(crate) struct Devices {
+pub(crate) struct Outside {
     pub(crate) input: &'static str,
     /// The most bytes that the input, out, err and the report move in one call.
     pub(crate) most: usize,
@@ -23,8 +25,8 @@ pub(crate) struct Devices {
     pub(crate) fails: [u64; 5],
 }
 
-/// Devices that never fail, and no input.
-pub(crate) const SOUND: Devices = Devices {
+/// Nothing fails, and there is no input.
+pub(crate) const SOUND: Outside = Outside {
     input: "",
     most: 3,
     room: 64,
@@ -51,17 +53,29 @@ pub(crate) const QUIET: Want = Want {
     report: "",
 };
 
+/// The devices of the guest.
+type Guest = Devices<ListSource, ListSink, ListSink>;
+
 /// What came of them.
 #[derive(Drop)]
 pub(crate) struct Got {
     pub(crate) answer: Answer,
     store: ListStore,
-    pub(crate) out: ListSink,
-    pub(crate) err: ListSink,
+    guest: Guest,
     pub(crate) report: ListSink,
 }
 
 impl Got {
+    /// What out was given.
+    pub(crate) fn out(&self) -> &[u8] {
+        self.guest.out().bytes()
+    }
+
+    /// What err was given.
+    pub(crate) fn err(&self) -> &[u8] {
+        self.guest.err().bytes()
+    }
+
     /// How often the store was asked for a file.
     pub(crate) fn asked<R: Abort>(&self, rt: &R) -> usize {
         self.store.asked().expect(rt, "memory for the names").len()
@@ -74,9 +88,9 @@ pub(crate) fn run_line<R: Abort + Threads + Wait + Sync + Copy + Drop + Send>(
     alloc: Global,
     line: &str,
     file: Vec<u8>,
-    devices: &Devices,
+    outside: &Outside,
 ) -> Result<Got, AllocError> {
-    run_gated(rt, alloc, line, only_image(alloc, file)?, devices, &Open)
+    run_gated(rt, alloc, line, only_image(alloc, file)?, outside, &Open)
 }
 
 /// The files of a store that has one, `image`.
@@ -95,14 +109,14 @@ pub(crate) fn run_gated<R: Abort + Threads + Wait + Sync + Copy + Drop + Send, G
     alloc: Global,
     line: &str,
     files: Vec<(String, Vec<u8>)>,
-    devices: &Devices,
+    outside: &Outside,
     gate: &G,
 ) -> Result<Got, AllocError> {
     let mut words = Vec::new(alloc);
     for word in line.split(' ') {
         words.push(String::from_str(alloc, word)?)?;
     }
-    run_over::<Brand, _, _>(rt, alloc, &words, files, devices, gate, Blank::new(1))
+    run_over::<Brand, _, _>(rt, alloc, &words, files, outside, gate, Blank::new(1))
 }
 
 /// Runs the words of a command line in the same way, and compares what came of them with what must.
@@ -111,11 +125,11 @@ pub(crate) fn check<R: Abort + Threads + Wait + Sync + Copy + Drop + Send>(
     alloc: Global,
     line: &str,
     file: Vec<u8>,
-    devices: &Devices,
+    outside: &Outside,
     want: &Want,
 ) -> Result<(), AllocError> {
-    let got = run_line(rt, alloc, line, file, devices)?;
-    let put = (got.out.bytes(), got.err.bytes(), got.report.bytes());
+    let got = run_line(rt, alloc, line, file, outside)?;
+    let put = (got.out(), got.err(), got.report.bytes());
     let wanted = (
         want.out.as_bytes(),
         want.err.as_bytes(),
@@ -150,11 +164,11 @@ pub(crate) fn check_guessed<R: Abort + Threads + Wait + Sync + Copy + Drop + Sen
     line: &str,
     address: &str,
     file: &[u8],
-    devices: &Devices,
+    outside: &Outside,
     want: &Want,
 ) -> Result<(), AllocError> {
-    check(rt, alloc, line, file.to_vec(alloc)?, devices, want)?;
-    let is_sound = devices.fails[4] == 0;
+    check(rt, alloc, line, file.to_vec(alloc)?, outside, want)?;
+    let is_sound = outside.fails[4] == 0;
     for guessing in GUESSING {
         let mut words = String::from_str(alloc, line)?;
         if !guessing.contains("--seek") {
@@ -162,9 +176,9 @@ pub(crate) fn check_guessed<R: Abort + Threads + Wait + Sync + Copy + Drop + Sen
         }
         words.push_str(guessing)?;
         if !words.contains("--report") {
-            check(rt, alloc, &words, file.to_vec(alloc)?, devices, want)?;
+            check(rt, alloc, &words, file.to_vec(alloc)?, outside, want)?;
         } else if is_sound {
-            check_reported(rt, alloc, &words, file.to_vec(alloc)?, devices, want)?;
+            check_reported(rt, alloc, &words, file.to_vec(alloc)?, outside, want)?;
         }
     }
     Ok(())
@@ -176,11 +190,11 @@ fn check_reported<R: Abort + Threads + Wait + Sync + Copy + Drop + Send>(
     alloc: Global,
     line: &str,
     file: Vec<u8>,
-    devices: &Devices,
+    outside: &Outside,
     want: &Want,
 ) -> Result<(), AllocError> {
-    let got = run_line(rt, alloc, line, file, devices)?;
-    let put = (got.out.bytes(), got.err.bytes());
+    let got = run_line(rt, alloc, line, file, outside)?;
+    let put = (got.out(), got.err());
     let wanted = (want.out.as_bytes(), want.err.as_bytes());
     assert_eq!(rt; (got.answer, put), (want.answer, wanted), "at {line}");
     assert!(rt;
@@ -211,8 +225,8 @@ fn check_same<R: Abort + Threads + Wait + Sync + Copy + Drop + Send>(
     other: &Got,
 ) -> Result<(), AllocError> {
     let got = run_line(rt, alloc, line, file, &SOUND)?;
-    let put = (got.out.bytes(), got.err.bytes(), got.report.bytes());
-    let others = (other.out.bytes(), other.err.bytes(), other.report.bytes());
+    let put = (got.out(), got.err(), got.report.bytes());
+    let others = (other.out(), other.err(), other.report.bytes());
     assert_eq!(rt; (got.answer, put), (other.answer, others), "at {line}");
     Ok(())
 }
@@ -222,7 +236,7 @@ fn run_over<L: Ledger, R: Abort + Threads + Wait + Sync + Copy + Drop + Send, G:
     alloc: Global,
     words: &[String],
     files: Vec<(String, Vec<u8>)>,
-    devices: &Devices,
+    outside: &Outside,
     gate: &G,
     blank: Blank,
 ) -> Result<Got, AllocError>
@@ -230,22 +244,16 @@ fn run_over<L: Ledger, R: Abort + Threads + Wait + Sync + Copy + Drop + Send, G:
     requires parts { blank.parts ≡ L.parts }
     requires some { 0 < L.parts }
 {
-    let most = devices.most.max(1);
-    let [store_fails, input_fails, out_fails, err_fails, report_fails] = devices.fails;
+    let most = outside.most.max(1);
+    let [store_fails, _, _, _, report_fails] = outside.fails;
     let mut store = ListStore::new(files, vec![in alloc; store_fails; 1]?);
-    let bytes = devices.input.as_bytes().to_vec(alloc)?;
-    let mut input = ListSource::new(bytes, most, vec![in alloc; input_fails; 1]?);
-    let mut out = sink(rt, alloc, devices.room, most, out_fails)?;
-    let mut err = sink(rt, alloc, devices.room, most, err_fails)?;
     let mut report = sink(rt, alloc, 4096, most, report_fails)?;
-    let answer = top(
+    let (answer, guest) = top(
         rt,
         alloc,
         words,
         &mut store,
-        &mut input,
-        &mut out,
-        &mut err,
+        guest_of(rt, alloc, outside)?,
         &mut report,
         gate,
         &mut Steps::<L>::new(blank),
@@ -253,10 +261,20 @@ fn run_over<L: Ledger, R: Abort + Threads + Wait + Sync + Copy + Drop + Send, G:
     Ok(Got {
         answer,
         store,
-        out,
-        err,
+        guest,
         report,
     })
+}
+
+/// The devices of the guest.
+fn guest_of<R: Abort>(rt: &R, alloc: Global, outside: &Outside) -> Result<Guest, AllocError> {
+    let most = outside.most.max(1);
+    let [_, input_fails, out_fails, err_fails, _] = outside.fails;
+    let bytes = outside.input.as_bytes().to_vec(alloc)?;
+    let input = ListSource::new(bytes, most, vec![in alloc; input_fails; 1]?);
+    let out = sink(rt, alloc, outside.room, most, out_fails)?;
+    let err = sink(rt, alloc, outside.room, most, err_fails)?;
+    Ok(Devices::new(input, out, err))
 }
 
 fn sink<R: Abort>(

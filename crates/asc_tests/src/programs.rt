@@ -2,12 +2,13 @@
 ghost use Rattle.std.specs.Prelude.{◌≡◌, ◌<◌};
 
 use crate::images::wrap;
+use asc_calls::Devices;
 use asc_elf::read;
-use asc_find::Nothing;
+use asc_find::{Bare, Nothing};
+use asc_model::{Fault, FaultKind, Version};
 use asc_outside::{CountSink, SureSource};
-use asc_run::{Bare, Ended, Settings, Walk};
-use asc_shape::{Steps, Version};
-use asc_step::{Fault, FaultKind};
+use asc_run::{Ended, Settings, Walk};
+use asc_shape::Steps;
 use std::alloc::Global;
 use std::marker::Brand;
 use std::process::Abort;
@@ -28,14 +29,13 @@ fn run<L: Ledger, R: Abort>(
 {
     let image = read(file, 65_536, version).expect(rt, "an image");
     let mut walk = Walk::new(alloc, &image, Settings::default()).expect(rt, "memory");
+    let input = SureSource::new(Vec::new(alloc));
     let ended = walk.go(
         &mut Bare::new(Nothing::new()),
-        &mut SureSource::new(Vec::new(alloc)),
-        &mut CountSink::new(),
-        &mut CountSink::new(),
+        &mut Devices::new(input, CountSink::new(), CountSink::new()),
         &mut Steps::<L>::new(blank),
     );
-    (ended, walk.counts().count)
+    (ended, walk.count())
 }
 
 fn fault(kind: FaultKind, pc: u32, value: u32) -> Ended {

@@ -1,12 +1,12 @@
 //! Saved entries: files that saves leave, runs that load one, and files that are refused.
 use crate::images::{CODE, FIRST, wrap};
-use crate::outside::{Devices, Got, SOUND, run_gated};
+use crate::outside::{Got, Outside, SOUND, run_gated};
 use crate::sought;
 use crate::whole_runs::COUNTS;
 use asc_elf::ElfFault;
 use asc_model::SaveFault;
 use asc_outside::Open;
-use asc_top::{Answer, SavedFault};
+use asc_words::{Answer, SavedFault};
 use std::alloc::{AllocError, Global};
 use std::process::Abort;
 use std::sync::Wait;
@@ -241,7 +241,7 @@ static SAVES: [Save; 6] = [
 ];
 
 /// Room for the file, which is put 200 bytes at a time.
-const ROOMY: Devices = Devices {
+const ROOMY: Outside = Outside {
     most: 200,
     room: 1200,
     ..SOUND
@@ -254,12 +254,12 @@ fn run_saved<R: Abort + Threads + Wait + Sync + Copy + Drop + Send>(
     line: &str,
     image: Vec<u8>,
     saved: Vec<u8>,
-    devices: &Devices,
+    outside: &Outside,
 ) -> Result<Got, AllocError> {
     let mut files = Vec::new(alloc);
     files.push((String::from_str(alloc, "image")?, image))?;
     files.push((String::from_str(alloc, "saved")?, saved))?;
-    run_gated(rt, alloc, line, files, devices, &Open)
+    run_gated(rt, alloc, line, files, outside, &Open)
 }
 
 /// Runs such a line, and compares its answer, how often the store was asked, and the report with what must come.
@@ -269,10 +269,10 @@ fn check_saved<R: Abort + Threads + Wait + Sync + Copy + Drop + Send>(
     line: &str,
     image: Vec<u8>,
     saved: Vec<u8>,
-    devices: &Devices,
+    outside: &Outside,
     want: (Answer, usize, &str),
 ) -> Result<(), AllocError> {
-    let got = run_saved(rt, alloc, line, image, saved, devices)?;
+    let got = run_saved(rt, alloc, line, image, saved, outside)?;
     assert_eq!(rt; (got.answer, got.asked(rt)), (want.0, want.1), "at {line}");
     assert_eq!(rt; got.report.bytes(), want.2.as_bytes(), "at {line}");
     Ok(())
@@ -284,17 +284,17 @@ fn left_by<R: Abort + Threads + Wait + Sync + Copy + Drop + Send>(
     alloc: Global,
     line: &str,
     program: &[u32],
-    devices: &Devices,
+    outside: &Outside,
     want: (usize, [usize; 4]),
 ) -> Result<Vec<u8>, AllocError> {
     let image = wrap(alloc, program)?;
-    let got = run_saved(rt, alloc, line, image, Vec::new(alloc), devices)?;
+    let got = run_saved(rt, alloc, line, image, Vec::new(alloc), outside)?;
     assert_eq!(rt;
         (got.answer, got.asked(rt)),
         (Answer::Done(0), 1),
         "at {line}"
     );
-    let file = got.out.bytes();
+    let file = got.out();
     assert_eq!(rt; (file.len(), steps(file)), want, "at {line}");
     file.to_vec(alloc)
 }
@@ -427,7 +427,7 @@ static SOUGHT: [(&str, (usize, usize, [usize; 4]), &str, Answer, &str); 5] = [
 ];
 
 /// Room for a file of as many entries as are kept.
-const VAST: Devices = Devices {
+const VAST: Outside = Outside {
     most: 5000,
     room: 160_000,
     ..SOUND
@@ -450,14 +450,14 @@ fn sought_entries(rt: HostRuntime) -> Result<(), Fail> {
 fn saves(rt: HostRuntime) -> Result<(), Fail> {
     let alloc = rt.alloc();
     for save in &SAVES {
-        let devices = Devices {
+        let outside = Outside {
             room: 200,
             fails: [0, 0, save.out_fails, 0, 0],
             ..SOUND
         };
         let image = wrap(alloc, save.words)?;
-        let got = run_saved(&rt, alloc, save.line, image, Vec::new(alloc), &devices)?;
-        let put = (got.out.bytes(), got.report.bytes());
+        let got = run_saved(&rt, alloc, save.line, image, Vec::new(alloc), &outside)?;
+        let put = (got.out(), got.report.bytes());
         assert_eq!(rt;
             (got.answer, put),
             (save.answer, (save.out, save.report.as_bytes()))
@@ -472,7 +472,7 @@ fn saves(rt: HostRuntime) -> Result<(), Fail> {
 #[test]
 fn refused_before_and_behind(rt: HostRuntime) -> Result<(), Fail> {
     let alloc = rt.alloc();
-    let failing = Devices {
+    let failing = Outside {
         fails: [2, 0, 0, 0, 0],
         ..SOUND
     };
@@ -498,8 +498,8 @@ fn refused_before_and_behind(rt: HostRuntime) -> Result<(), Fail> {
             (long, 2, "asc: saved fault 11\n"),
         ),
     ];
-    for (length, bytes, devices, want) in rows {
-        check_refused(&rt, alloc, length, bytes, devices, want)?;
+    for (length, bytes, outside, want) in rows {
+        check_refused(&rt, alloc, length, bytes, outside, want)?;
     }
     Ok(())
 }
@@ -510,7 +510,7 @@ fn check_refused<R: Abort + Threads + Wait + Sync + Copy + Drop + Send>(
     alloc: Global,
     length: usize,
     bytes: usize,
-    devices: &Devices,
+    outside: &Outside,
     want: (Answer, usize, &str),
 ) -> Result<(), AllocError> {
     let mut image = FIRST.to_vec(alloc)?;
@@ -522,7 +522,7 @@ fn check_refused<R: Abort + Threads + Wait + Sync + Copy + Drop + Send>(
         "asc run image --load saved",
         image,
         saved,
-        devices,
+        outside,
         want,
     )
 }

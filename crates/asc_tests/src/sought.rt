@@ -1,8 +1,8 @@
 //! Runs whose address is sought. Their numbers come from another implementation of the definitions, `model.py` of this crate.
 use crate::images::wrap;
-use crate::outside::{Devices, QUIET, SOUND, Want, check, check_rounds};
-use asc_step::{Fault, FaultKind};
-use asc_top::Answer;
+use crate::outside::{Outside, QUIET, SOUND, Want, check, check_rounds};
+use asc_model::{Fault, FaultKind};
+use asc_words::Answer;
 use std::test::Fail;
 
 /// It counts x5 from 0 to 131,072 in a loop of two instructions from 0x10008 on. It does 262,149 steps.
@@ -544,7 +544,7 @@ static SERVED: [(&str, &[u32], &str, [u64; 5], Want); 11] = [
 fn sought_over_devices(rt: HostRuntime) -> Result<(), Fail> {
     let alloc = rt.alloc();
     for &(option, program, input, fails, want) in &SERVED {
-        let devices = Devices {
+        let outside = Outside {
             input,
             fails,
             ..SOUND
@@ -552,7 +552,7 @@ fn sought_over_devices(rt: HostRuntime) -> Result<(), Fail> {
         for rounds in ["", " --workers 2 --rounds"] {
             let line = format!(in alloc; "asc run image --seek --report{option}{rounds}")?;
             let file = wrap(alloc, program)?;
-            check(&rt, alloc, line.as_str(), file, &devices, &want)?;
+            check(&rt, alloc, line.as_str(), file, &outside, &want)?;
         }
     }
     Ok(())

@@ -1,8 +1,8 @@
 //! A trace of a state whose bytes are all 0xFF.
 use asc_depvec::Tracer;
+use asc_model::{Fault, FaultKind, Why};
 use asc_shape::{Guess, Shape, Snapshot, State};
-use asc_step::{Fault, FaultKind};
-use asc_traj::{Never, Stop, Traced, Why, trace};
+use asc_traj::{Never, Stop, Traced, trace};
 
 /// Its pc is no multiple of 4. So no step goes on, and nothing is touched.
 #[test]
@@ -36,5 +36,5 @@ fn all_ones(rt: HostRuntime) {
             why: Why::Fault(fault)
         }
     );
-    assert_eq!(rt; tracer.mark(), 0);
+    assert_eq!(rt; tracer.touched_count(), 0);
 }

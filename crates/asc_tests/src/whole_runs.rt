@@ -1,15 +1,15 @@
 //! Whole runs: words, an image and devices, and the answer, what is put to out, to err and to the report.
 use crate::images::wrap;
-use crate::outside::{Devices, QUIET, SOUND, Want, check, check_guessed, check_rounds};
-use asc_step::{Fault, FaultKind};
-use asc_top::{Answer, Bad};
+use crate::outside::{Outside, QUIET, SOUND, Want, check, check_guessed, check_rounds};
+use asc_model::{Fault, FaultKind};
+use asc_words::{Answer, Bad};
 use std::test::Fail;
 
 /// A run, and what must come of it.
 struct Row {
     line: &'static str,
     program: &'static [u32],
-    devices: Devices,
+    devices: Outside,
     want: Want,
 }
 
@@ -60,7 +60,7 @@ const REPORT_FAULT: Want = Want {
     ..QUIET
 };
 
-const BYTEWISE: Devices = Devices { most: 1, ..SOUND };
+const BYTEWISE: Outside = Outside { most: 1, ..SOUND };
 
 /// LUI x10,0x20; LW x6,-3(x10), and then no instruction.
 const LOADS: &[u32] = &[0x0002_0537, 0xFFD5_2303];
@@ -141,7 +141,7 @@ static ROWS: [Row; 34] = [
     // the report fails at its first call, and at its second, when three bytes are put
     Row {
         line: "asc run image --steps 2",
-        devices: Devices {
+        devices: Outside {
             fails: [0, 0, 0, 0, 1],
             ..SOUND
         },
@@ -150,7 +150,7 @@ static ROWS: [Row; 34] = [
     },
     Row {
         line: "asc run image --steps 2",
-        devices: Devices {
+        devices: Outside {
             fails: [0, 0, 0, 0, 2],
             ..SOUND
         },
@@ -161,7 +161,7 @@ static ROWS: [Row; 34] = [
         ..EXIT_SEVEN
     },
     Row {
-        devices: Devices {
+        devices: Outside {
             fails: [0, 0, 0, 0, 1],
             ..SOUND
         },
@@ -331,7 +331,7 @@ static ROWS: [Row; 34] = [
     },
     Row {
         program: SAYS_HI,
-        devices: Devices {
+        devices: Outside {
             room: 3,
             ..BYTEWISE
         },
@@ -343,7 +343,7 @@ static ROWS: [Row; 34] = [
     },
     Row {
         program: SAYS_HI,
-        devices: Devices {
+        devices: Outside {
             room: 2,
             ..BYTEWISE
         },
@@ -355,7 +355,7 @@ static ROWS: [Row; 34] = [
     },
     Row {
         program: SAYS_HI,
-        devices: Devices {
+        devices: Outside {
             fails: [0, 0, 2, 0, 0],
             ..BYTEWISE
         },
@@ -368,7 +368,7 @@ static ROWS: [Row; 34] = [
     Row {
         line: "asc run image --steps 9",
         program: COMPLAINS,
-        devices: Devices {
+        devices: Outside {
             room: 3,
             ..BYTEWISE
         },
@@ -409,7 +409,7 @@ static ROWS: [Row; 34] = [
     },
     Row {
         program: COMPLAINS,
-        devices: Devices {
+        devices: Outside {
             fails: [0, 0, 0, 1, 0],
             ..BYTEWISE
         },
@@ -418,7 +418,7 @@ static ROWS: [Row; 34] = [
     },
     Row {
         program: COMPLAINS,
-        devices: Devices {
+        devices: Outside {
             fails: [0, 0, 0, 3, 0],
             ..BYTEWISE
         },
@@ -431,7 +431,7 @@ static ROWS: [Row; 34] = [
     // The report fails in place of the answer that blames err.
     Row {
         program: COMPLAINS,
-        devices: Devices {
+        devices: Outside {
             fails: [0, 0, 0, 3, 6],
             ..BYTEWISE
         },
@@ -691,7 +691,7 @@ static NUMBERED: [Row; 36] = [
     // The report fails at its first call, and behind the answer's line, when three bytes are put at a time.
     Row {
         line: "asc run image --steps 2 --report",
-        devices: Devices {
+        devices: Outside {
             fails: [0, 0, 0, 0, 1],
             ..SOUND
         },
@@ -700,7 +700,7 @@ static NUMBERED: [Row; 36] = [
     },
     Row {
         line: "asc run image --steps 2 --report",
-        devices: Devices {
+        devices: Outside {
             fails: [0, 0, 0, 0, 8],
             ..SOUND
         },
@@ -711,7 +711,7 @@ static NUMBERED: [Row; 36] = [
         ..COUNTING
     },
     Row {
-        devices: Devices {
+        devices: Outside {
             fails: [0, 0, 0, 0, 1],
             ..SOUND
         },
@@ -742,7 +742,7 @@ static NUMBERED: [Row; 36] = [
     },
     Row {
         program: SAYS_HI,
-        devices: Devices {
+        devices: Outside {
             fails: [0, 0, 1, 0, 0],
             ..SOUND
         },
@@ -751,7 +751,7 @@ static NUMBERED: [Row; 36] = [
     },
     Row {
         program: COMPLAINS,
-        devices: Devices {
+        devices: Outside {
             fails: [0, 0, 0, 1, 0],
             ..SOUND
         },
@@ -765,7 +765,7 @@ static NUMBERED: [Row; 36] = [
         ..COUNTING
     },
     Row {
-        devices: Devices {
+        devices: Outside {
             fails: [1, 0, 0, 0, 0],
             ..SOUND
         },
@@ -982,7 +982,7 @@ static ECHOES: [(&str, [u64; 5], Answer, &str, &str); 25] = [
 fn echo_failing_once(rt: HostRuntime) -> Result<(), Fail> {
     let alloc = rt.alloc();
     for (line, fails, answer, out, report) in &ECHOES {
-        let devices = Devices {
+        let outside = Outside {
             input: "abcdefg",
             fails: *fails,
             ..SOUND
@@ -996,9 +996,9 @@ fn echo_failing_once(rt: HostRuntime) -> Result<(), Fail> {
         };
         let file = wrap(alloc, ECHO)?;
         if line.contains("--report") {
-            check(&rt, alloc, line, file, &devices, &want)?;
+            check(&rt, alloc, line, file, &outside, &want)?;
         } else {
-            check_guessed(&rt, alloc, line, " --pc 10000", &file, &devices, &want)?;
+            check_guessed(&rt, alloc, line, " --pc 10000", &file, &outside, &want)?;
         }
     }
     Ok(())

@@ -3,7 +3,7 @@ use crate::images::wrap;
 use crate::outside::{QUIET, SOUND, Want, check, only_image, run_gated};
 use crate::whole_runs::COUNTS;
 use asc_outside::{Hold, HoldGate, Point};
-use asc_top::Answer;
+use asc_words::Answer;
 use std::alloc::{AllocError, Global};
 use std::process::Abort;
 use std::sync::Wait;

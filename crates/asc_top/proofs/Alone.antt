@@ -5,12 +5,12 @@ use Rattle.asc_model.specs.Entry.{Entry}
 use Rattle.asc_calls.specs.World.{Outside}
 use Rattle.asc_shard.specs.Content.{content_of}
 use Rattle.asc_shard.specs.Shard.{run_capacity}
-use Rattle.asc_run.specs.Helped.{Aid}
+use Rattle.asc_find.specs.Finder.{Aid}
 use Rattle.asc_run.specs.SerialRun.{IsSerialRun, serial_of}
-use Rattle.asc_run.specs.Visits.{is_mark}
+use Rattle.asc_run.specs.Visits.{visit_rule}
 use Rattle.asc_run.specs.Walk.{Walk}
 use Rattle.asc_words.specs.declared.line.RunLine.{RunLine}
-use Rattle.asc_words.specs.declared.answer.Outcome.{Outcome}
+use Rattle.asc_words.specs.declared.answer.Conclusion.{Conclusion}
 use Rattle.asc_top.specs.Program.{Files}
 use Rattle.asc_top.specs.Numbers.{counts_of, course_of_image, guessing_of, keeps_entries, numbers_of, recognised_by, settings_of}
 use Rattle.asc_top.specs.Ran.{AreOpened, IsNew, Ran, Walked}
@@ -22,23 +22,23 @@ use Rattle.asc_top.proofs.Serials.{no_kinds, unloaded, serial_of_machine, serial
 pub keeps_none : (line : RunLine) → line.load ≡ None → line.report ≡ false → keeps_entries line ≡ false
 keeps_none line unnamed unasked = λ i. is_some (unnamed i) || (unasked i && (line.last || line.stride))
 
-module _ (line : RunLine) (files : Files) (was : Walk) (entries : List Entry) (opened : AreOpened line files was entries) (now : Walk) (old new : Outside) (first last : Aid) (outcome : Outcome)
-    (w : Walked line.report was now old new first last None outcome) (fresh : IsNew first) (alone : line.workers ≡ 0) where
+module _ (line : RunLine) (files : Files) (was : Walk) (entries : List Entry) (opened : AreOpened line files was entries) (now : Walk) (old new : Outside) (first last : Aid) (conclusion : Conclusion)
+    (w : Walked line.report was now old new first last None conclusion) (fresh : IsNew first) (alone : line.workers ≡ 0) where
   -- with a helper that gives no jump
-  pub ran_idle : keeps_entries line ≡ false → last.tally.hits ≡ 0 → last.tally.given ≡ 0 → last.plan.made ≡ 0 → Ran old new line files outcome
+  pub ran_idle : keeps_entries line ≡ false → last.jumps.hits ≡ 0 → last.jumps.given ≡ 0 → last.plan.made ≡ 0 → Ran old new line files conclusion
   ran_idle none no_hit no_step no_guess =
       let empty : content_of run_capacity [] ≡ content_of run_capacity entries = ap (content_of run_capacity) (sym (opened.none (unloaded line none))) in
-      ran line files was entries opened now old new first last None outcome w fresh (no_workers-told line _ alone)
+      ran line files was entries opened now old new first last None conclusion w fresh (no_workers-told line _ alone)
       (λ _ same asked left count says refused. subst
-      (λ (content : List Entry). IsSerialRun line.limit (is_mark (recognised_by line) (course_of_image opened.own.image left)) (course_of_image opened.own.image left) opened.own.image.start.shape (guessing_of line) content
+      (λ (content : List Entry). IsSerialRun line.limit (visit_rule (recognised_by line) (course_of_image opened.own.image left)) (course_of_image opened.own.image left) opened.own.image.start.shape (guessing_of line) content
       (numbers_of (counts_of w.counts last.plan.made last.plan.refused))) empty
-      (serial_of_none line opened.own.image (settings_of line).recognised line.report was now opened.own.walk_is old new first last None outcome w fresh (no_kinds line none asked) no_hit no_guess same left count says).run)
-      (λ _ _ _. plain_of_none line opened.own.image (settings_of line).recognised line.report was now opened.own.walk_is old new first last None outcome w fresh no_step)
+      (serial_of_none line opened.own.image (settings_of line).recognised line.report was now opened.own.walk_is old new first last None conclusion w fresh (no_kinds line none asked) no_hit no_guess same left count says).run)
+      (λ _ _ _. plain_of_none line opened.own.image (settings_of line).recognised line.report was now opened.own.walk_is old new first last None conclusion w fresh no_step)
 
   -- with the machine of a serial run
-  pub ran_serial : keeps_entries line ≡ true → first.machine ≡ Some (serial_of opened.own.image.start.shape (guessing_of line) (content_of run_capacity entries)) → Ran old new line files outcome
+  pub ran_serial : keeps_entries line ≡ true → first.machine ≡ Some (serial_of opened.own.image.start.shape (guessing_of line) (content_of run_capacity entries)) → Ran old new line files conclusion
   ran_serial keeps machine =
-      ran line files was entries opened now old new first last None outcome w fresh (no_workers-told line _ alone)
+      ran line files was entries opened now old new first last None conclusion w fresh (no_workers-told line _ alone)
       (λ _ same asked left count says refused.
-      (serial_of_machine line opened.own.image (settings_of line).recognised line.report was now opened.own.walk_is old new first last None outcome w fresh (content_of run_capacity entries) machine same left count says refused).run)
+      (serial_of_machine line opened.own.image (settings_of line).recognised line.report was now opened.own.walk_is old new first last None conclusion w fresh (content_of run_capacity entries) machine same left count says refused).run)
       (λ _ unnamed unasked. let none = keeps_none line unnamed unasked in absurd (cc (keeps, none)))

@@ -8,10 +8,10 @@ use Rattle.asc_outside.proofs.Streams.{Takes-nil, given_after-nil}
 use Rattle.asc_elf.specs.declared.fault.ElfFault.{ElfFault}
 use Rattle.asc_elf.specs.Image as loader
 use Rattle.asc_calls.specs.GuestCall.{Device, Out, Err as Errors, Input}
-use Rattle.asc_calls.specs.World.{BlamesOnly, Faults, Outside}
+use Rattle.asc_calls.specs.World.{BlamesOnly, DeviceFaults, Outside}
 use Rattle.asc_words.specs.Batch.{BatchLine}
 use Rattle.asc_words.specs.Line.{file_limit}
-use Rattle.asc_words.specs.Answer.{outcome_of}
+use Rattle.asc_words.specs.Answer.{conclusion_of}
 use Rattle.asc_words.specs.Report.{answer_text, report_text}
 use Rattle.asc_words.specs.declared.line.RunLine.{RunLine}
 use Rattle.asc_words.specs.declared.line.Line.TheVariants as lines
@@ -19,10 +19,10 @@ use Rattle.asc_words.specs.declared.answer.Answer.{Answer}
 use Rattle.asc_words.specs.declared.answer.Answer.TheVariants as answers
 use Rattle.asc_words.specs.declared.answer.BatchRun.{BatchRun}
 use Rattle.asc_top.specs.Program.{Gives, IsStopped, ProgramResult, image_alone, load_of, refusal}
-use Rattle.asc_top.specs.Kinds.{BadFile, BadWords, Completes, IsRefusal, device_of_answer, device_of_kind, kind_of}
+use Rattle.asc_top.specs.Endings.{BadFile, BadWords, Completes, IsRefusal, device_of_answer, device_of_ending, ending_of}
 use Rattle.asc_top.specs.Batch.{AreBatchFiles, AreInputs, BatchFiles, MakesRuns, batch_meaning, first_long, input_names, result_of_batch, result_of_inputs}
 use Rattle.asc_top.specs.BatchAnswer.{AsksForBatch, AsksSoOften, CutsRun, IsBatchAnswer, IsBatchFor, IsBatchReported, StopsBehind, batch_texts}
-use Rattle.asc_top.specs.Answered.{Devices, Headline, IsHeld, devices}
+use Rattle.asc_top.specs.Answered.{Surroundings, Headline, IsHeld, around}
 use Rattle.asc_top.specs.BatchRead.{ReadsBatch, RefusesBatch}
 use Rattle.asc_top.specs.Reported.{IsReported, Report, report_with}
 use Rattle.asc_top.specs.Runner.{BreaksRuns, EndsRuns, ReportsAll, StopsWithin}
@@ -84,7 +84,7 @@ one_files held line may told is has =
     λ i. record { image = image i; inputs = inputs i }
 
 -- what was done by files that the store may hold is what the told ones mean
-pub headline_by : (line : BatchLine) (old new : Devices) (files : BatchFiles) (answered : Answer) (executed : ℕ) → AreBatchFiles (MayHold old.files) line files
+pub headline_by : (line : BatchLine) (old new : Surroundings) (files : BatchFiles) (answered : Answer) (executed : ℕ) → AreBatchFiles (MayHold old.files) line files
     → Gives old.guest new.guest executed answered (batch_meaning line files) → Headline (Ok (lines.Batch line)) old new answered
 headline_by line old new files answered executed held gives = λ completes. λ told is.
     (executed, subst (λ (f : BatchFiles). Gives old.guest new.guest executed answered (batch_meaning line f)) (one_files old.files line files told held is) gives)
@@ -108,7 +108,7 @@ module _ (left : Option (List ℕ)) (input_faults : ℕ) where
       err = makes.does.err;
     };
     steps = makes.steps;
-    faults = ap (λ (f : Faults). record f { input = input_faults }) makes.faults;
+    faults = ap (λ (f : DeviceFaults). record f { input = input_faults }) makes.faults;
   }
 
   stop_beside : (line : RunLine) (content input : List ℕ) (device : Device) (old new : Outside) (remains : Option (List ℕ))
@@ -139,20 +139,20 @@ module _ (left : Option (List ℕ)) (input_faults : ℕ) where
   blame_beside : (device : Device) (old new : Outside) → old.faults.input ≡ 0 → new.faults.input ≡ 0 → BlamesOnly (Some device) old.faults new.faults
       → BlamesOnly (Some device) (beside_input old).faults (beside_input new).faults
   blame_beside Input old new none still is =
-      let rose : new.faults.input ≡ one_more old.faults.input = ap (λ (f : Faults). f.input) is in
+      let rose : new.faults.input ≡ one_more old.faults.input = ap (λ (f : DeviceFaults). f.input) is in
       absurd (let no : ⊥ = omega (arith, rose ∙ ap one_more none, still) in no)
-  blame_beside Out old new none still is = ap (λ (f : Faults). record f { input = input_faults }) is
-  blame_beside Errors old new none still is = ap (λ (f : Faults). record f { input = input_faults }) is
+  blame_beside Out old new none still is = ap (λ (f : DeviceFaults). record f { input = input_faults }) is
+  blame_beside Errors old new none still is = ap (λ (f : DeviceFaults). record f { input = input_faults }) is
 
 -- ---- answers
 
-no_text : report_text (outcome_of (answers.Done 0)) ≡ []
+no_text : report_text (conclusion_of (answers.Done 0)) ≡ []
 unfolding report_text answer_text
 no_text = refl
 
 -- the answer's line is put behind those of the runs
 pub reported_last : (told : List BatchRun) (answered shown : Answer) (before after : Report) → (answered ≡ answers.ReportFault → ⊥)
-    → IsReported (report_with (given_after before.given (batch_texts told)) before.faults) after (outcome_of answered) shown
+    → IsReported (report_with (given_after before.given (batch_texts told)) before.faults) after (conclusion_of answered) shown
     → IsBatchReported told answered before after shown
 reported_last told answers.ReportFault shown before after other is = absurd (other refl)
 reported_last told (answers.Exit code) shown before after other is = is
@@ -190,23 +190,23 @@ asks_all line answers.ErrFault device number is all = all
 
 -- a refusal blames no device
 no_device_refused : (answered : Answer) → IsRefusal answered → device_of_answer answered ≡ None
-no_device_refused answered (inl is) = ap device_of_kind is
-no_device_refused answered (inr (inl is)) = ap device_of_kind is
-no_device_refused answered (inr (inr is)) = ap device_of_kind is
+no_device_refused answered (inl is) = ap device_of_ending is
+no_device_refused answered (inr (inl is)) = ap device_of_ending is
+no_device_refused answered (inr (inr is)) = ap device_of_ending is
 
-no_device_bad : (answered : Answer) → kind_of answered ≡ BadFile → device_of_answer answered ≡ None
-no_device_bad answered is = ap device_of_kind is
+no_device_bad : (answered : Answer) → ending_of answered ≡ BadFile → device_of_answer answered ≡ None
+no_device_bad answered is = ap device_of_ending is
 
 -- a batch of which all files were read
 module _ (line : BatchLine) (read : BatchFiles) (files : Option (List File)) (asked : Option (List (List ℕ))) (store_faults : ℕ)
     (files_after : Option (List File)) (asked_after : Option (List (List ℕ))) (store_faults_after : ℕ)
     (r : ReadsBatch line read files asked store_faults files_after asked_after store_faults_after) (left : Option (List ℕ)) (input_faults : ℕ) (old new : Outside)
     (no_input : old.faults.input ≡ 0) (no_input_after : new.faults.input ≡ 0) (report reported : Report) where
-  abbrev pub before : Devices
-  before = devices files asked store_faults (beside_input left input_faults old)
+  abbrev pub before : Surroundings
+  before = around files asked store_faults (beside_input left input_faults old)
 
-  abbrev pub after : Devices
-  after = devices files_after asked_after store_faults_after (beside_input left input_faults new)
+  abbrev pub after : Surroundings
+  after = around files_after asked_after store_faults_after (beside_input left input_faults new)
 
   names : (answered : Answer) → AsksSoOften line answered (1 + length line.inputs) → AsksForBatch line answered asked asked_after
   names answered number = record {
@@ -264,9 +264,9 @@ module _ (line : BatchLine) (read : BatchFiles) (files : Option (List File)) (as
       let between = beside_input left input_faults s.between in
       let makes = make_beside left input_faults line.run r.image s.ran told old s.between s.made in
       let device = s.stops.answer in
-      let none : s.between.faults.input ≡ 0 = ap (λ (f : Faults). f.input) s.made.faults ∙ no_input in
+      let none : s.between.faults.input ≡ 0 = ap (λ (f : DeviceFaults). f.input) s.made.faults ∙ no_input in
       let blames : BlamesOnly (Some s.stops.device) before.guest.faults after.guest.faults =
-      subst (λ (f : Faults). BlamesOnly (Some s.stops.device) f after.guest.faults) makes.faults
+      subst (λ (f : DeviceFaults). BlamesOnly (Some s.stops.device) f after.guest.faults) makes.faults
       (blame_beside left input_faults s.stops.device s.between new none no_input_after s.stops.faults) in
       record {
         headline = λ completes. let no : device_of_answer answered ≡ None = (completed answered completes).1 in absurd (cc (no, device));
@@ -294,7 +294,7 @@ module _ (line : BatchLine) (read : BatchFiles) (files : Option (List File)) (as
           },
         );
         refused = λ is. let no = no_device_refused answered is in absurd (cc (no, device));
-        usage = λ is. let no : device_of_answer answered ≡ None = ap device_of_kind is in cc (no, device);
+        usage = λ is. let no : device_of_answer answered ≡ None = ap device_of_ending is in cc (no, device);
         left = refl;
         input = refl;
         store_fault = record { rose = λ is. let no : device_of_answer answered ≡ None = ap device_of_answer is in absurd (cc (no, device)); stays = λ _. r.no_fault };
@@ -304,14 +304,14 @@ module _ (line : BatchLine) (read : BatchFiles) (files : Option (List File)) (as
       }
 
   pub answer_of_stop : (told : List BatchRun) (answered shown : Answer) (between : Report) → StopsWithin line.run r.image read.inputs told old new answered → ReportsAll told report between
-      → IsReported between reported (outcome_of answered) shown → IsBatchAnswer line before after report reported shown
+      → IsReported between reported (conclusion_of answered) shown → IsBatchAnswer line before after report reported shown
   answer_of_stop told answered shown between s all is = record {
     told = told;
     answered = answered;
     is = answer_stopped told answered s;
     reported = reported_last told answered shown report reported
         (λ fault. let no : device_of_answer answered ≡ None = ap device_of_answer fault in let device = s.stops.answer in cc (no, device))
-        (subst (λ (x : Report). IsReported x reported (outcome_of answered) shown) all is);
+        (subst (λ (x : Report). IsReported x reported (conclusion_of answered) shown) all is);
   }
 
   -- the report failed behind a run
@@ -360,7 +360,7 @@ module _ (line : BatchLine) (read : BatchFiles) (files : Option (List File)) (as
       unrefused (inr (inr is)) = cc
 
   -- memory was wanting for the runs
-  pub answer_of_no_memory : (shown : Answer) → new ≡ old → IsReported report reported (outcome_of answers.Memory) shown → IsBatchAnswer line before after report reported shown
+  pub answer_of_no_memory : (shown : Answer) → new ≡ old → IsReported report reported (conclusion_of answers.Memory) shown → IsBatchAnswer line before after report reported shown
   answer_of_no_memory shown same is = record {
     told = [];
     answered = answers.Memory;
@@ -377,41 +377,41 @@ module _ (line : BatchLine) (read : BatchFiles) (files : Option (List File)) (as
       files = r.stay;
       names = names answers.Memory tt;
     };
-    reported = subst (λ (g : Given). IsReported (report_with g report.faults) reported (outcome_of answers.Memory) shown) (sym (given_after-nil report.given)) is;
+    reported = subst (λ (g : Given). IsReported (report_with g report.faults) reported (conclusion_of answers.Memory) shown) (sym (given_after-nil report.given)) is;
   }
 
 -- a batch whose files were refused, or not read
 module _ (line : BatchLine) (answered : Answer) (files : Option (List File)) (asked : Option (List (List ℕ))) (store_faults : ℕ)
     (files_after : Option (List File)) (asked_after : Option (List (List ℕ))) (store_faults_after : ℕ)
     (r : RefusesBatch line answered files asked store_faults files_after asked_after store_faults_after) (guest : Outside) (report reported : Report) (shown : Answer) where
-  abbrev before2 : Devices
-  before2 = devices files asked store_faults guest
+  abbrev before2 : Surroundings
+  before2 = around files asked store_faults guest
 
-  abbrev after2 : Devices
-  after2 = devices files_after asked_after store_faults_after guest
+  abbrev after2 : Surroundings
+  after2 = around files_after asked_after store_faults_after guest
 
   -- what is left to be known of the answer
   record Refusing : Type 0 where
     refusal_is : IsRefusal answered
-    usage : kind_of answered ≢ BadWords
+    usage : ending_of answered ≢ BadWords
     headline : Headline (Ok (lines.Batch line)) before2 after2 answered
-    bad : kind_of answered ≡ BadFile → (read : BatchFiles) × AreBatchFiles (MayHold files) line read × (batch_meaning line read ≡ refusal answered)
+    bad : ending_of answered ≡ BadFile → (read : BatchFiles) × AreBatchFiles (MayHold files) line read × (batch_meaning line read ≡ refusal answered)
 
   refusing : Refusing
   refusing = by r.cause
     where
-      by : ((answered ≡ answers.StoreFault) ⊎ (answered ≡ answers.Memory)) ⊎ ((read : BatchFiles) × AreBatchFiles (MayHold files) line read × (kind_of answered ≡ BadFile) × (batch_meaning line read ≡ refusal answered)) → Refusing
+      by : ((answered ≡ answers.StoreFault) ⊎ (answered ≡ answers.Memory)) ⊎ ((read : BatchFiles) × AreBatchFiles (MayHold files) line read × (ending_of answered ≡ BadFile) × (batch_meaning line read ≡ refusal answered)) → Refusing
       by (inl (inl is)) = record {
-        refusal_is = inr (inr (ap kind_of is));
-        usage = λ kind. let other = ap kind_of is in cc (kind, other);
-        headline = λ completes. absurd (uncompleted answered (ap kind_of is) completes);
-        bad = λ kind. let other = ap kind_of is in absurd (cc (kind, other));
+        refusal_is = inr (inr (ap ending_of is));
+        usage = λ kind. let other = ap ending_of is in cc (kind, other);
+        headline = λ completes. absurd (uncompleted answered (ap ending_of is) completes);
+        bad = λ kind. let other = ap ending_of is in absurd (cc (kind, other));
       }
       by (inl (inr is)) = record {
-        refusal_is = inr (inr (ap kind_of is));
-        usage = λ kind. let other = ap kind_of is in cc (kind, other);
-        headline = λ completes. absurd (uncompleted answered (ap kind_of is) completes);
-        bad = λ kind. let other = ap kind_of is in absurd (cc (kind, other));
+        refusal_is = inr (inr (ap ending_of is));
+        usage = λ kind. let other = ap ending_of is in cc (kind, other);
+        headline = λ completes. absurd (uncompleted answered (ap ending_of is) completes);
+        bad = λ kind. let other = ap ending_of is in absurd (cc (kind, other));
       }
       by (inr (read, held, kind, means)) = record {
         refusal_is = inl kind;
@@ -420,7 +420,7 @@ module _ (line : BatchLine) (answered : Answer) (files : Option (List File)) (as
         bad = λ _. (read, held, means);
       }
 
-  pub answer_of_refused_batch : IsReported report reported (outcome_of answered) shown → IsBatchAnswer line before2 after2 report reported shown
+  pub answer_of_refused_batch : IsReported report reported (conclusion_of answered) shown → IsBatchAnswer line before2 after2 report reported shown
   answer_of_refused_batch is =
       let f = refusing in
       let none = no_device_refused answered f.refusal_is in
@@ -441,7 +441,7 @@ module _ (line : BatchLine) (answered : Answer) (files : Option (List File)) (as
           names = r.names;
         };
         reported = reported_last [] answered shown report reported (λ fault. refused_report (subst IsRefusal fault f.refusal_is))
-            (subst (λ (g : Given). IsReported (report_with g report.faults) reported (outcome_of answered) shown) (sym (given_after-nil report.given)) is);
+            (subst (λ (g : Given). IsReported (report_with g report.faults) reported (conclusion_of answered) shown) (sym (given_after-nil report.given)) is);
       }
     where
       refused_report : IsRefusal answers.ReportFault → ⊥
@@ -460,7 +460,7 @@ module _ (line : BatchLine) (read : BatchFiles) (files : Option (List File)) (as
     (no_input : old.faults.input ≡ 0) (no_input_after : new.faults.input ≡ 0) (report between : Report) (answered : Answer)
     (breaks : Breaks line.run r.image read.inputs old new report between answered) where
   abbrev Answers3 : (reported : Report) → (shown : Answer) → Type 0
-  Answers3 reported shown = IsBatchAnswer line (devices files asked store_faults (beside_input left input_faults old)) (devices files_after asked_after store_faults_after (beside_input left input_faults new)) report reported shown
+  Answers3 reported shown = IsBatchAnswer line (around files asked store_faults (beside_input left input_faults old)) (around files_after asked_after store_faults_after (beside_input left input_faults new)) report reported shown
 
   -- where the report failed
   pub answer_of_failed_report : answered ≡ answers.ReportFault → Answers3 between answered
@@ -476,7 +476,7 @@ module _ (line : BatchLine) (read : BatchFiles) (files : Option (List File)) (as
       by (inr b) = by_how b.told b.how
 
   -- where it did not, and the answer's line was put
-  pub answer_of_break : (answered ≡ answers.ReportFault → ⊥) → (reported : Report) (shown : Answer) → IsReported between reported (outcome_of answered) shown → Answers3 reported shown
+  pub answer_of_break : (answered ≡ answers.ReportFault → ⊥) → (reported : Report) (shown : Answer) → IsReported between reported (conclusion_of answered) shown → Answers3 reported shown
   answer_of_break other reported shown is = by breaks
     where
       by_how : (told : List BatchRun) → ((StopsWithin line.run r.image read.inputs told old new answered × ReportsAll told report between)
@@ -487,5 +487,5 @@ module _ (line : BatchLine) (read : BatchFiles) (files : Option (List File)) (as
       by : Breaks line.run r.image read.inputs old new report between answered → Answers3 reported shown
       by (inl (memory, same, untouched)) =
           answer_of_no_memory line read files asked store_faults files_after asked_after store_faults_after r left input_faults old new no_input no_input_after report reported shown same
-          (subst (λ (a : Answer). IsReported report reported (outcome_of a) shown) memory (subst (λ (b : Report). IsReported b reported (outcome_of answered) shown) untouched is))
+          (subst (λ (a : Answer). IsReported report reported (conclusion_of a) shown) memory (subst (λ (b : Report). IsReported b reported (conclusion_of answered) shown) untouched is))
       by (inr b) = by_how b.told b.how

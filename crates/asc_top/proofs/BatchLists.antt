@@ -8,7 +8,7 @@ use Rattle.asc_calls.specs.World.{DoesIo, Outside}
 use Rattle.asc_run.proofs.Growth.{then_io-nothing}
 use Rattle.asc_run.proofs.Reach.{DoesIo-nothing, DoesIo-then_io}
 use Rattle.asc_run.specs.SerialRun.{IsSerialRun}
-use Rattle.asc_run.specs.Visits.{is_mark}
+use Rattle.asc_run.specs.Visits.{visit_rule}
 use Rattle.asc_words.specs.Report.{batch_text}
 use Rattle.asc_words.specs.declared.line.RunLine.{RunLine}
 use Rattle.asc_words.specs.declared.answer.BatchRun.{BatchRun}
@@ -72,7 +72,7 @@ module _ (line : RunLine) (image : loader.Image) where
 
   -- one run from a content on
   abbrev IsSerialOne : List Entry → (input : List ℕ) → Counts → Type 0
-  IsSerialOne content input counts = IsSerialRun line.limit (is_mark (recognised_by line) (course_of_image image input)) (course_of_image image input) image.start.shape (guessing_of line) content (numbers_of counts)
+  IsSerialOne content input counts = IsSerialRun line.limit (visit_rule (recognised_by line) (course_of_image image input)) (course_of_image image input) image.start.shape (guessing_of line) content (numbers_of counts)
 
   -- what holds of the content that a run leaves
   leaves-more : (content : List Entry) (input : List ℕ) (counts : Option Counts) (A B : List Entry → Type 0) → ((c : List Entry) → A c → B c)

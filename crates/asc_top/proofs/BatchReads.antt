@@ -11,7 +11,7 @@ use Rattle.asc_words.specs.Line.{file_limit}
 use Rattle.asc_words.specs.declared.answer.Answer.{Answer}
 use Rattle.asc_words.specs.declared.answer.Answer.TheVariants as answers
 use Rattle.asc_top.specs.Program.{load_of, refusal}
-use Rattle.asc_top.specs.Kinds.{BadFile, kind_of}
+use Rattle.asc_top.specs.Endings.{BadFile, ending_of}
 use Rattle.asc_top.specs.Ran.{IsRead, IsRefused, IsTooLong}
 use Rattle.asc_top.specs.Batch.{AreBatchFiles, AreInputs, BatchFiles, batch_meaning, first_long, input_names, result_of_inputs}
 use Rattle.asc_top.specs.BatchAnswer.{AsksForBatch, AsksForEach, AsksSoOften}
@@ -232,7 +232,7 @@ module _ (line : BatchLine) (files files_after : Option (List File)) (asked aske
     where
       unread : AsksSoOften line answered 1
           → ((answered ≡ answers.StoreFault) ⊎ (answered ≡ answers.Memory))
-          ⊎ ((read : BatchFiles) × AreBatchFiles (MayHold files) line read × (kind_of answered ≡ BadFile) × (batch_meaning line read ≡ refusal answered)) → Refuses answered
+          ⊎ ((read : BatchFiles) × AreBatchFiles (MayHold files) line read × (ending_of answered ≡ BadFile) × (batch_meaning line read ≡ refusal answered)) → Refuses answered
       unread often cause = record {
         stay = r.stay;
         names = one_asked answered r.names often;
@@ -245,7 +245,7 @@ module _ (line : BatchLine) (files files_after : Option (List File)) (asked aske
       by (inl (inr is)) = unread (subst (λ (a : Answer). AsksSoOften line a 1) (sym is) tt) (inl (inr is))
       by (inr (content, may, (is, over))) =
           unread (subst (λ (a : Answer). AsksSoOften line a 1) (sym is) refl)
-          (inr (image_only content, only_held content may (names-long line content over), ap kind_of is, meaning-long-image line (image_only content) over ∙ ap (λ (a : Answer). refusal a) (sym is)))
+          (inr (image_only content, only_held content may (names-long line content over), ap ending_of is, meaning-long-image line (image_only content) over ∙ ap (λ (a : Answer). refusal a) (sym is)))
 
   -- what was read is no image
   pub refuses_image : (content : List ℕ) (fault : ElfFault) → IsRead line.run.image content files asked faults files_after asked_after faults_after → load_of line.run content ≡ Err fault
@@ -271,7 +271,7 @@ module _ (line : BatchLine) (files files_after : Option (List File)) (asked aske
       where
         unread : AsksSoOften line answered (length (line.run.image ∷ f.front))
             → ((answered ≡ answers.StoreFault) ⊎ (answered ≡ answers.Memory))
-            ⊎ ((files_read : BatchFiles) × AreBatchFiles (MayHold files) line files_read × (kind_of answered ≡ BadFile) × (batch_meaning line files_read ≡ refusal answered)) → Refuses answered
+            ⊎ ((files_read : BatchFiles) × AreBatchFiles (MayHold files) line files_read × (ending_of answered ≡ BadFile) × (batch_meaning line files_read ≡ refusal answered)) → Refuses answered
         unread often cause = record {
           stay = f.stay ∙ read.stay;
           names = record {
@@ -297,7 +297,7 @@ module _ (line : BatchLine) (files files_after : Option (List File)) (asked aske
         by (inr l) =
             let often : length (line.run.image ∷ f.front) ≡ l.number + 2 = omega (arith, l.last) in
             unread (subst (λ (a : Answer). AsksSoOften line a (length (line.run.image ∷ f.front))) (sym l.answer) often)
-            (inr (record { image = content; inputs = l.inputs }, all_held l.inputs l.held, ap kind_of l.answer, long l))
+            (inr (record { image = content; inputs = l.inputs }, all_held l.inputs l.held, ap ending_of l.answer, long l))
 
 -- ---- how many inputs were read
 

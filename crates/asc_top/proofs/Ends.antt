@@ -10,7 +10,7 @@ use Rattle.asc_words.specs.declared.answer.WorkerCounts.{WorkerCounts}
 use Rattle.asc_words.specs.declared.line.RunLine.{RunLine}
 use Rattle.asc_top.specs.Program.{answer_at}
 use Rattle.asc_top.specs.Numbers.{reported_at, AreWorkerNumbers, WorkersAreTold, guessing_of}
-use Rattle.asc_top.specs.Kinds.{Kind, Finished, Stopped, IsRefusal, kind_of, device_of_answer}
+use Rattle.asc_top.specs.Endings.{Ending, Finished, Stopped, IsRefusal, ending_of, device_of_answer}
 
 -- the device that a run's answer names
 pub device_of_answer-answer_at : (how : Ended) (count : ℕ) → device_of_answer (answer_at how count) ≡ device_of how
@@ -22,12 +22,12 @@ device_of_answer-answer_at ends.WriteFault count = refl
 device_of_answer-answer_at ends.ErrFault count = refl
 
 -- the guest was run
-abbrev DidRun : Kind → Type 0
+abbrev DidRun : Ending → Type 0
 DidRun Finished = Unit {0}
 DidRun (Stopped device) = Unit {0}
 DidRun _ = ⊥
 
-DidRun-answer_at : (how : Ended) (count : ℕ) → DidRun (kind_of (answer_at how count))
+DidRun-answer_at : (how : Ended) (count : ℕ) → DidRun (ending_of (answer_at how count))
 DidRun-answer_at (ends.Exit c) count = tt
 DidRun-answer_at (ends.Fault f) count = tt
 DidRun-answer_at ends.Limit count = tt
@@ -35,7 +35,7 @@ DidRun-answer_at ends.ReadFault count = tt
 DidRun-answer_at ends.WriteFault count = tt
 DidRun-answer_at ends.ErrFault count = tt
 
-not_refused : (answered : Answer) → DidRun (kind_of answered) → IsRefusal answered → ⊥
+not_refused : (answered : Answer) → DidRun (ending_of answered) → IsRefusal answered → ⊥
 not_refused answered ran (inl is) = subst DidRun is ran
 not_refused answered ran (inr (inl is)) = subst DidRun is ran
 not_refused answered ran (inr (inr is)) = subst DidRun is ran
@@ -48,7 +48,7 @@ run-not_refused how count = not_refused (answer_at how count) (DidRun-answer_at 
 none_told : (A : Type 0) → Option A
 none_told A = None
 
-told_numbers : {A : Type 0} (k : Kind) (told : A) → IsSome (Some told) ↔ (IsTrue true × (k ≡ k))
+told_numbers : {A : Type 0} (k : Ending) (told : A) → IsSome (Some told) ↔ (IsTrue true × (k ≡ k))
 told_numbers k told = ((λ _. (refl, refl)), (λ _. refl))
 
 no_numbers : (A P : Type 0) → (P → ⊥) → IsSome (none_told A) ↔ P
@@ -56,7 +56,7 @@ unfolding none_told
 no_numbers A P never = ((λ told. let no : false ≡ true = told in absurd (cc)), (λ p. absurd (never p)))
 
 pub counts-told : (A : Type 0) (is_asked : Bool) (how : Ended) (count : ℕ) (counts : A)
-    → IsSome (reported_at is_asked how counts) ↔ (IsTrue is_asked × (kind_of (answer_at how count) ≡ Finished))
+    → IsSome (reported_at is_asked how counts) ↔ (IsTrue is_asked × (ending_of (answer_at how count) ≡ Finished))
 unfolding none_told
 counts-told A true (ends.Exit c) count counts = told_numbers Finished counts
 counts-told A true (ends.Fault f) count counts = told_numbers Finished counts

@@ -19,3 +19,4 @@ pub mod BatchAnswers
 pub mod BatchReads
 pub mod Shown
 pub mod BatchLoops
+pub mod Lent

@@ -6,16 +6,17 @@ use Rattle.std.specs.Prelude.{if◌then◌else◌}
 use Rattle.asc_model.specs.Shape.{Shape}
 use Rattle.asc_model.specs.State.{State}
 use Rattle.asc_model.specs.Machine.{view_of, Register}
-use Rattle.asc_model.specs.Step.{Next, At, Call, Bad, next}
+use Rattle.asc_model.specs.Step.{Next, Went, Call, Faulted, next}
 use Rattle.asc_shape.specs.State.{memory_at, state_after}
 use Rattle.asc_shape.proofs.States.{shape-state_after}
-use Rattle.asc_calls.specs.GuestCall.{CallResult, Went, Exit, Out, Err, Request, Read, Write, End, Break, Unknown, early_answer, io_of, guest_call, result_of, result_of_read, result_of_write, answered_early_or, request_of, state_after_answer}
+use Rattle.asc_calls.specs.GuestCall.{CallResult, Exit, Out, Err, Request, Read, Write, End, Break, Unknown, early_answer, io_of, guest_call, result_of, result_of_read, result_of_write, answered_early_or, request_of, state_after_answer}
+use Rattle.asc_calls.specs.GuestCall as called
 use Rattle.asc_run.specs.Execution.{Position, Progress, On, Off, exec, first_position, next_progress, progress, progress_after_call, progress_after_step, run_of}
 use Rattle.asc_run.proofs.Shapes.{next-shape}
 
 -- a call keeps the shape, and puts at most so many bytes to out
 abbrev pub IsSmall : (shape : Shape) → (most : ℕ) → CallResult → Type 0
-IsSmall shape most (Went after brk io) = (after.shape ≡ shape) × (length io.out ≤ most)
+IsSmall shape most (called.Went after brk io) = (after.shape ≡ shape) × (length io.out ≤ most)
 IsSmall shape most (Exit code) = Unit {0}
 
 shape-answered : (s : State) (answer : ℕ) → (state_after_answer s answer).shape ≡ s.shape
@@ -60,7 +61,7 @@ module _ (low high : ℕ) (shape : Shape) where
   after_call : (n : ℕ) (p : Position) (result : CallResult) → IsSmall p.state.shape (p.state.shape.base + p.state.shape.size) result → HasPut shape (most_of n) (On p)
       → HasPut shape (most_of (suc n)) (progress_after_call n p result)
   unfolding most_of
-  after_call n p (Went after brk io) small put =
+  after_call n p (called.Went after brk io) small put =
       let same : p.state.shape.base + p.state.shape.size ≡ shape.base + shape.size = ap (λ (t : Shape). t.base + t.size) put.0 in
       (small.0 ∙ put.0, omega (arith, put.1, small.1, same, length-append p.io.out io.out))
   after_call n p (Exit code) small put = omega (arith, put.1)
@@ -68,9 +69,9 @@ module _ (low high : ℕ) (shape : Shape) where
   after_step : (n : ℕ) (p : Position) (to : Next) → next p.state ≡ to → HasPut shape (most_of n) (On p)
       → HasPut shape (most_of (suc n)) (progress_after_step low high n p to)
   unfolding most_of
-  after_step n p (At state) is put = (next-shape p.state state is ∙ put.0, omega (arith, put.1))
+  after_step n p (Went state) is put = (next-shape p.state state is ∙ put.0, omega (arith, put.1))
   after_step n p Call is put = after_call n p _ (small_call low high p.state p.brk p.left) put
-  after_step n p (Bad fault) is put = omega (arith, put.1)
+  after_step n p (Faulted fault) is put = omega (arith, put.1)
 
   after_more : (n : ℕ) (so_far : Progress) → HasPut shape (most_of n) so_far → HasPut shape (most_of (suc n)) (next_progress low high n so_far)
   unfolding most_of

@@ -13,14 +13,14 @@ use Rattle.asc_words.specs.declared.line.RunLine.{RunLine}
 use Rattle.asc_words.specs.declared.line.Line.TheVariants as lines
 use Rattle.asc_words.specs.declared.answer.Answer.{Answer}
 use Rattle.asc_words.specs.declared.answer.Answer.TheVariants as answers
-use Rattle.asc_words.specs.declared.answer.Outcome.{Outcome}
-use Rattle.asc_words.specs.Answer.{outcome_of}
+use Rattle.asc_words.specs.declared.answer.Conclusion.{Conclusion}
+use Rattle.asc_words.specs.Answer.{conclusion_of}
 use Rattle.asc_words.specs.Line.{file_limit}
 use Rattle.asc_top.specs.Program.{Files, entries_for, image_alone, load_of}
 use Rattle.asc_top.specs.Numbers.{settings_of}
 use Rattle.asc_top.specs.Ran.{AreOpened, IsNoEntries, IsNoRun, IsRead, IsRefused, IsTooLong, IsWalkOf, Opens, Ran}
-use Rattle.asc_top.specs.Kinds.{Unread, device_of_answer, kind_of}
-use Rattle.asc_top.specs.Answered.{AreFilesOf, AsksBehind, AsksForFiles, AsksForSecond, Devices, HasSecond, IsAnswerFor, devices, second_name}
+use Rattle.asc_top.specs.Endings.{Unread, device_of_answer, ending_of}
+use Rattle.asc_top.specs.Answered.{AreFilesOf, AsksBehind, AsksForFiles, AsksForSecond, Surroundings, HasSecond, IsAnswerFor, around, second_name}
 use Rattle.asc_top.proofs.Causes.{image-is, too_long-never}
 use Rattle.asc_top.proofs.Refused.{means_long, ran_image, ran_saved}
 use Rattle.asc_top.proofs.Refusals.{IsUnrun, answer_of_refusal}
@@ -83,15 +83,15 @@ behind_run line answers.ReportFault before after short image asks = asks
 
 -- ---- files that are refused
 
-module _ (line : RunLine) (old : Devices) (files : Option (List File)) (after : Option (List (List ℕ))) (faults : ℕ) (stay : files ≡ old.files) where
-  abbrev new : Devices
+module _ (line : RunLine) (old : Surroundings) (files : Option (List File)) (after : Option (List (List ℕ))) (faults : ℕ) (stay : files ≡ old.files) where
+  abbrev new : Surroundings
   new = record old { files = files; asked = after; store_faults = faults }
 
   abbrev Answers : Answer → Type 0
-  Answers answered = IsAnswerFor (Ok (lines.Run line)) old new (outcome_of answered)
+  Answers answered = IsAnswerFor (Ok (lines.Run line)) old new (conclusion_of answered)
 
   -- a file was not read
-  unread : (answered : Answer) → kind_of answered ≡ Unread → Blames (answered ≡ answers.StoreFault) old.store_faults faults → AsksForFiles (Ok (lines.Run line)) answered old.asked after → Answers answered
+  unread : (answered : Answer) → ending_of answered ≡ Unread → Blames (answered ≡ answers.StoreFault) old.store_faults faults → AsksForFiles (Ok (lines.Run line)) answered old.asked after → Answers answered
   unread answered kind blames names = answer_of_refusal (Ok (lines.Run line)) old new answered (record {
     unrun = subst IsUnrun (sym kind) tt;
     line = lines.Run line;
@@ -99,9 +99,9 @@ module _ (line : RunLine) (old : Devices) (files : Option (List File)) (after : 
     faults = refl;
     headline = λ completes. absurd (uncompleted answered kind completes);
     untold = λ completes. absurd (uncompleted answered kind completes);
-    image = λ fault is. let other = ap kind_of is in absurd (cc (kind, other));
-    too_long = λ is. let other = ap kind_of is in absurd (cc (kind, other));
-    saved = λ fault is. let other = ap kind_of is in absurd (cc (kind, other));
+    image = λ fault is. let other = ap ending_of is in absurd (cc (kind, other));
+    too_long = λ is. let other = ap ending_of is in absurd (cc (kind, other));
+    saved = λ fault is. let other = ap ending_of is in absurd (cc (kind, other));
     store_fault = blames;
     workers = tt;
     refused = refl;
@@ -120,7 +120,7 @@ module _ (line : RunLine) (old : Devices) (files : Option (List File)) (after : 
         line = lines.Run line;
         is = refl;
         faults = refl;
-        headline = λ _. λ told left is_held is_left. gives_told old new line read told left (outcome_of answers.TooLong) held means is_held is_left;
+        headline = λ _. λ told left is_held is_left. gives_told old new line read told left (conclusion_of answers.TooLong) held means is_held is_left;
         untold = λ _. (read, held, means);
         image = λ fault is. absurd (cc);
         too_long = λ _. (read, held, over);
@@ -136,7 +136,7 @@ module _ (line : RunLine) (old : Devices) (files : Option (List File)) (after : 
   no_image : (content : List ℕ) (fault : ElfFault) → MayHold old.files line.image content → length content ≤ file_limit → load_of line content ≡ Err fault → faults ≡ old.store_faults → AsksFor line.image old.asked after
       → Answers (answers.Image fault)
   no_image content fault may within loads faults_stay names =
-      answer_of_run line (image_alone content) old new (outcome_of (answers.Image fault)) (are_files old.files line content None None may (second-unloaded line content fault within loads) tt) within
+      answer_of_run line (image_alone content) old new (conclusion_of (answers.Image fault)) (are_files old.files line content None None may (second-unloaded line content fault within loads) tt) within
       (ran_image line (image_alone content) fault old.guest within loads) stay (inl (after, names, refl)) faults_stay
 
   -- no image was read
@@ -144,8 +144,8 @@ module _ (line : RunLine) (old : Devices) (files : Option (List File)) (after : 
   answer_of_no_run answered r = by r.cause
     where
       by : ((answered ≡ answers.StoreFault) ⊎ (answered ≡ answers.Memory)) ⊎ ((content : List ℕ) × MayHold old.files line.image content × IsNoRun line content answered) → Answers answered
-      by (inl (inl is)) = unread answered (ap kind_of is) r.store_fault (inl (after, r.names, behind_store_fault line answered after after is (inl refl)))
-      by (inl (inr is)) = unread answered (ap kind_of is) r.store_fault (inl (after, r.names, behind_memory line answered after after is (inl refl)))
+      by (inl (inl is)) = unread answered (ap ending_of is) r.store_fault (inl (after, r.names, behind_store_fault line answered after after is (inl refl)))
+      by (inl (inr is)) = unread answered (ap ending_of is) r.store_fault (inl (after, r.names, behind_memory line answered after after is (inl refl)))
       by (inr (content, may, inl (is, over))) =
           subst (λ (a : Answer). Answers a) (sym is) (long content may over (r.store_fault.stays (λ failed. cc (is, failed))) r.names)
       by (inr (content, may, inr (within, (fault, is, loads)))) =
@@ -155,7 +155,7 @@ module _ (line : RunLine) (old : Devices) (files : Option (List File)) (after : 
 module _ (line : RunLine) (content name : List ℕ) (walk : Walk) (own : IsWalkOf line (settings_of line) content walk) (files between_files last_files : Option (List File)) (asked between last : Option (List (List ℕ)))
     (faults between_faults last_faults : ℕ) (read : IsRead line.image content files asked faults between_files between between_faults) (load : line.load ≡ Some name) where
   abbrev Answers2 : Outside → Answer → Type 0
-  Answers2 guest answered = IsAnswerFor (Ok (lines.Run line)) (devices files asked faults guest) (devices last_files last last_faults guest) (outcome_of answered)
+  Answers2 guest answered = IsAnswerFor (Ok (lines.Run line)) (around files asked faults guest) (around last_files last last_faults guest) (conclusion_of answered)
 
   pub answer_of_no_entries : (guest : Outside) (answered : Answer) → IsRefused name (IsNoEntries own.image.start.shape) answered between_files between between_faults last_files last last_faults → Answers2 guest answered
   answer_of_no_entries guest answered r = by r.cause
@@ -173,14 +173,14 @@ module _ (line : RunLine) (content name : List ℕ) (walk : Walk) (own : IsWalkO
       names behind = inl (between, read.names, behind)
 
       by : ((answered ≡ answers.StoreFault) ⊎ (answered ≡ answers.Memory)) ⊎ ((saved : List ℕ) × MayHold between_files name saved × IsNoEntries own.image.start.shape saved answered) → Answers2 guest answered
-      by (inl (inl is)) = unread line (devices files asked faults guest) last_files last last_faults stay answered (ap kind_of is) blames (names (behind_store_fault line answered between last is (inr asks)))
-      by (inl (inr is)) = unread line (devices files asked faults guest) last_files last last_faults stay answered (ap kind_of is) blames (names (behind_memory line answered between last is (inr asks)))
+      by (inl (inl is)) = unread line (around files asked faults guest) last_files last last_faults stay answered (ap ending_of is) blames (names (behind_store_fault line answered between last is (inr asks)))
+      by (inl (inr is)) = unread line (around files asked faults guest) last_files last last_faults stay answered (ap ending_of is) blames (names (behind_memory line answered between last is (inr asks)))
       by (inr (saved, may, (fault, is, refused))) =
           let pair : Files = record { image = content; saved = Some saved } in
           let held = are_files files line content (Some name) (Some saved) read.held (second-loaded line content own.image read.within own.loads ∙ load)
           (subst (λ (f : Option (List File)). MayHold f name saved) read.stay may) in
-          answer_of_run line pair (devices files asked faults guest) (devices last_files last last_faults guest) (outcome_of answered) held read.within
-          (subst (λ (a : Answer). Ran guest guest line pair (outcome_of a)) (sym is) (ran_saved line pair own.image fault guest read.within own.loads own.good refused))
+          answer_of_run line pair (around files asked faults guest) (around last_files last last_faults guest) (conclusion_of answered) held read.within
+          (subst (λ (a : Answer). Ran guest guest line pair (conclusion_of a)) (sym is) (ran_saved line pair own.image fault guest read.within own.loads own.good refused))
           stay (names (subst (λ (a : Answer). AsksBehind line a between last) (sym is) asks)) (blames.stays (λ failed. cc (is, failed)))
 
   -- or its entries were taken
@@ -212,23 +212,23 @@ opens_one line content walk own files last_files asked last faults last_faults r
 }
 
 -- a run of what was opened is answered neither that its image is too long nor that it is none
-module _ (line : RunLine) (walk : Walk) (entries : List Entry) (read : Files) (are : AreOpened line read walk entries) (old new : Outside) (outcome : Outcome) (r : Ran old new line read outcome) where
-  not_long : outcome.answer ≡ answers.TooLong → ⊥
-  not_long is = too_long-never line read are.within old new outcome (r.means (λ memory. cc (is, memory)) (ap (λ (a : Answer). device_of_answer a) is)) is
+module _ (line : RunLine) (walk : Walk) (entries : List Entry) (read : Files) (are : AreOpened line read walk entries) (old new : Outside) (conclusion : Conclusion) (r : Ran old new line read conclusion) where
+  not_long : conclusion.answer ≡ answers.TooLong → ⊥
+  not_long is = too_long-never line read are.within old new conclusion (r.means (λ memory. cc (is, memory)) (ap (λ (a : Answer). device_of_answer a) is)) is
 
-  not_image : (fault : ElfFault) → outcome.answer ≡ answers.Image fault → ⊥
+  not_image : (fault : ElfFault) → conclusion.answer ≡ answers.Image fault → ⊥
   not_image fault is =
-      let none = image-is line read are.within old new outcome (r.means (λ memory. cc (is, memory)) (ap (λ (a : Answer). device_of_answer a) is)) fault is in
+      let none = image-is line read are.within old new conclusion (r.means (λ memory. cc (is, memory)) (ap (λ (a : Answer). device_of_answer a) is)) fault is in
       let loads = are.own.loads in
       let fails = none.loads in
       cc (loads, fails)
 
 -- a run of what was opened
-pub answer_of_opened : (line : RunLine) (walk : Walk) (entries : List Entry) (old new : Devices) (outcome : Outcome) → (o : Opens line walk entries old.files old.asked old.store_faults new.files new.asked new.store_faults)
-    → Ran old.guest new.guest line o.read outcome → IsAnswerFor (Ok (lines.Run line)) old new outcome
-answer_of_opened line walk entries old new outcome o r =
-    let behind = behind_run line outcome.answer o.between new.asked (not_long line walk entries o.read o.are old.guest new.guest outcome r) (not_image line walk entries o.read o.are old.guest new.guest outcome r) o.second in
-    answer_of_run line o.read old new outcome o.held o.are.within r o.stay (inl (o.between, o.first, behind)) o.no_fault
+pub answer_of_opened : (line : RunLine) (walk : Walk) (entries : List Entry) (old new : Surroundings) (conclusion : Conclusion) → (o : Opens line walk entries old.files old.asked old.store_faults new.files new.asked new.store_faults)
+    → Ran old.guest new.guest line o.read conclusion → IsAnswerFor (Ok (lines.Run line)) old new conclusion
+answer_of_opened line walk entries old new conclusion o r =
+    let behind = behind_run line conclusion.answer o.between new.asked (not_long line walk entries o.read o.are old.guest new.guest conclusion r) (not_image line walk entries o.read o.are old.guest new.guest conclusion r) o.second in
+    answer_of_run line o.read old new conclusion o.held o.are.within r o.stay (inl (o.between, o.first, behind)) o.no_fault
 
 -- a file is too long
 pub is_longer : (name : List ℕ) (answered : Answer) (files last_files : Option (List File)) (asked last : Option (List (List ℕ))) (faults last_faults : ℕ) → MayHoldLonger files name file_limit → last_files ≡ files

@@ -7,19 +7,19 @@ use Rattle.asc_words.specs.declared.line.Line.{Line}
 use Rattle.asc_words.specs.declared.answer.Answer.{Answer}
 use Rattle.asc_words.specs.declared.answer.Answer.TheVariants as answers
 use Rattle.asc_words.specs.declared.answer.SavedFault.{SavedFault}
-use Rattle.asc_words.specs.Answer.{outcome_of}
+use Rattle.asc_words.specs.Answer.{conclusion_of}
 use Rattle.asc_words.specs.Line.{file_limit}
 use Rattle.asc_top.specs.Program.{IsNoImage, IsNoSaved}
-use Rattle.asc_top.specs.Kinds.{Kind, BadFile, BadWords, Finished, Stopped, Unread, Unreported, Written, Completes, device_of_answer, device_of_kind, kind_of}
-use Rattle.asc_top.specs.Answered.{Asked, AsksForFiles, Devices, DoneUntold, HasFile, HasImage, HasWorkersOf, Headline, IsAnswerFor, IsUntouched}
+use Rattle.asc_top.specs.Endings.{Ending, BadFile, BadWords, Finished, Stopped, Unread, Unreported, Written, Completes, device_of_answer, device_of_ending, ending_of}
+use Rattle.asc_top.specs.Answered.{Asked, AsksForFiles, Surroundings, DoneUntold, HasFile, HasImage, HasWorkersOf, Headline, IsAnswerFor, IsUntouched}
 
 -- a file is none that is run, or it was not read
-abbrev pub IsUnrun : Kind → Type 0
+abbrev pub IsUnrun : Ending → Type 0
 IsUnrun BadFile = Unit {0}
 IsUnrun Unread = Unit {0}
 IsUnrun _ = ⊥
 
-no_device : (kind : Kind) → IsUnrun kind → device_of_kind kind ≡ None
+no_device : (kind : Ending) → IsUnrun kind → device_of_ending kind ≡ None
 no_device BadFile unrun = refl
 no_device Unread unrun = refl
 no_device Finished unrun = absurd unrun
@@ -29,30 +29,30 @@ no_device BadWords unrun = absurd unrun
 no_device Unreported unrun = absurd unrun
 
 -- what is to be known of such an answer
-pub record Refuses (asked : Asked) (old new : Devices) (answered : Answer) : Type 0 where
-  pub unrun : IsUnrun (kind_of answered)
+pub record Refuses (asked : Asked) (old new : Surroundings) (answered : Answer) : Type 0 where
+  pub unrun : IsUnrun (ending_of answered)
   pub line : Line
   pub is : asked ≡ Ok line
   pub faults : new.guest.faults ≡ old.guest.faults
   pub headline : Headline asked old new answered
-  pub untold : Completes answered → DoneUntold asked old new (outcome_of answered)
+  pub untold : Completes answered → DoneUntold asked old new (conclusion_of answered)
   pub image : (fault : ElfFault) → answered ≡ answers.Image fault → HasImage asked old (λ told. IsNoImage fault)
   pub too_long : answered ≡ answers.TooLong → HasFile asked old (λ line files. file_limit < length files.image)
   pub saved : (fault : SavedFault) → answered ≡ answers.Saved fault → HasFile asked old (IsNoSaved fault)
   pub store_fault : Blames (answered ≡ answers.StoreFault) old.store_faults new.store_faults
-  pub workers : HasWorkersOf asked (outcome_of answered)
+  pub workers : HasWorkersOf asked (conclusion_of answered)
   pub refused : IsUntouched asked answered old.guest new.guest
   pub files : new.files ≡ old.files
   pub names : AsksForFiles asked answered old.asked new.asked
 
-module _ (asked : Asked) (old new : Devices) (answered : Answer) (r : Refuses asked old new answered) where
-  known : (other : Answer) → answered ≡ other → IsUnrun (kind_of other)
-  known other is = subst (λ a. IsUnrun (kind_of a)) is r.unrun
+module _ (asked : Asked) (old new : Surroundings) (answered : Answer) (r : Refuses asked old new answered) where
+  known : (other : Answer) → answered ≡ other → IsUnrun (ending_of other)
+  known other is = subst (λ a. IsUnrun (ending_of a)) is r.unrun
 
   none : device_of_answer answered ≡ None
-  none = no_device (kind_of answered) r.unrun
+  none = no_device (ending_of answered) r.unrun
 
-  pub answer_of_refusal : IsAnswerFor asked old new (outcome_of answered)
+  pub answer_of_refusal : IsAnswerFor asked old new (conclusion_of answered)
   answer_of_refusal = record {
     headline = r.headline;
     untold = r.untold;

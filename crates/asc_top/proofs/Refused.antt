@@ -9,12 +9,12 @@ use Rattle.asc_words.specs.declared.line.RunLine.{RunLine}
 use Rattle.asc_words.specs.declared.answer.Answer.{Answer}
 use Rattle.asc_words.specs.declared.answer.Answer.TheVariants as answers
 use Rattle.asc_words.specs.declared.answer.SavedFault.{SavedFault}
-use Rattle.asc_words.specs.Answer.{outcome_of}
+use Rattle.asc_words.specs.Answer.{conclusion_of}
 use Rattle.asc_words.specs.Line.{file_limit}
 use Rattle.asc_top.specs.Program.{Files, Gives, ProgramResult, first_entries, image_alone, load_of, meaning, refusal, result_of_entries, result_of_load}
 use Rattle.asc_top.specs.Numbers.{Means}
 use Rattle.asc_top.specs.Ran.{HasNoWalk, Ran}
-use Rattle.asc_top.specs.Kinds.{Finished, device_of_answer, kind_of}
+use Rattle.asc_top.specs.Endings.{Finished, device_of_answer, ending_of}
 use Rattle.asc_top.proofs.Causes.{meaning-within, meaning-long}
 
 -- an input that agrees with what is told
@@ -26,7 +26,7 @@ some_left None = ([], tt)
 pub gives_refusal : (answered : Answer) (o : Outside) → Gives o o 0 answered (refusal answered)
 gives_refusal answered o = record { answer = refl; does = DoesIo-nothing o; most = omega arith; steps = omega arith }
 
-means_refusal : (line : RunLine) (files : Files) (answered : Answer) (o : Outside) → ((left : List ℕ) → meaning line files left ≡ refusal answered) → Means o o (outcome_of answered) line files
+means_refusal : (line : RunLine) (files : Files) (answered : Answer) (o : Outside) → ((left : List ℕ) → meaning line files left ≡ refusal answered) → Means o o (conclusion_of answered) line files
 means_refusal line files answered o refused =
     let input = some_left o.left in
     let is = refused input.0 in
@@ -39,13 +39,13 @@ means_refusal line files answered o refused =
     }
 
 -- a file that is too long
-pub means_long : (line : RunLine) (o : Outside) (files : Files) → file_limit < length files.image → Means o o (outcome_of answers.TooLong) line files
+pub means_long : (line : RunLine) (o : Outside) (files : Files) → file_limit < length files.image → Means o o (conclusion_of answers.TooLong) line files
 means_long line o files long = means_refusal line files answers.TooLong o (λ left. meaning-long line files left long)
 
 -- an answer that comes without a run
-ran_not : (line : RunLine) (files : Files) (answered : Answer) (o : Outside) → device_of_answer answered ≡ None → (kind_of answered ≡ Finished → ⊥)
-    → (answered ≢ answers.Memory → Means o o (outcome_of answered) line files) → ((image : loader.Image) → load_of line files.image ≡ Ok image → IsShape image.start.shape)
-    → Ran o o line files (outcome_of answered)
+ran_not : (line : RunLine) (files : Files) (answered : Answer) (o : Outside) → device_of_answer answered ≡ None → (ending_of answered ≡ Finished → ⊥)
+    → (answered ≢ answers.Memory → Means o o (conclusion_of answered) line files) → ((image : loader.Image) → load_of line files.image ≡ Ok image → IsShape image.start.shape)
+    → Ran o o line files (conclusion_of answered)
 ran_not line files answered o none unfinished means shape = record {
   means = λ other _. means other;
   stopped = λ device failed. absurd (cc (none, failed));
@@ -59,7 +59,7 @@ ran_not line files answered o none unfinished means shape = record {
 
 -- a file that is no image
 pub ran_image : (line : RunLine) (files : Files) (fault : ElfFault) (o : Outside) → length files.image ≤ file_limit → load_of line files.image ≡ Err fault
-    → Ran o o line files (outcome_of (answers.Image fault))
+    → Ran o o line files (conclusion_of (answers.Image fault))
 ran_image line files fault o within loads =
     ran_not line files (answers.Image fault) o refl (λ is. cc)
     (λ _. means_refusal line files (answers.Image fault) o (λ left. meaning-within line files left within ∙ ap (λ i. result_of_load line files.saved i left) loads))
@@ -67,7 +67,7 @@ ran_image line files fault o within loads =
 
 -- a file of saved entries that is refused
 pub ran_saved : (line : RunLine) (files : Files) (image : loader.Image) (fault : SavedFault) (o : Outside) → length files.image ≤ file_limit → load_of line files.image ≡ Ok image
-    → IsShape image.start.shape → first_entries image files.saved ≡ Err fault → Ran o o line files (outcome_of (answers.Saved fault))
+    → IsShape image.start.shape → first_entries image files.saved ≡ Err fault → Ran o o line files (conclusion_of (answers.Saved fault))
 ran_saved line files image fault o within loads good refused =
     ran_not line files (answers.Saved fault) o refl (λ is. cc)
     (λ _. means_refusal line files (answers.Saved fault) o
@@ -76,14 +76,14 @@ ran_saved line files image fault o within loads good refused =
 
 -- memory was wanting before they were run
 pub ran_memory : (line : RunLine) (files : Files) (image : loader.Image) (o : Outside) → load_of line files.image ≡ Ok image → IsShape image.start.shape
-    → Ran o o line files (outcome_of answers.Memory)
+    → Ran o o line files (conclusion_of answers.Memory)
 ran_memory line files image o loads good =
     ran_not line files answers.Memory o refl (λ is. cc) (λ other. absurd (other refl))
     (λ other loaded. let same : image ≡ other = cc (loads, loaded) in subst (λ (i : loader.Image). IsShape i.start.shape) same good)
 
 -- there is no walk of a file
-pub ran_no_walk : (line : RunLine) (content : List ℕ) (answered : Answer) (o : Outside) → length content ≤ file_limit → HasNoWalk line content answered → Ran o o line (image_alone content) (outcome_of answered)
+pub ran_no_walk : (line : RunLine) (content : List ℕ) (answered : Answer) (o : Outside) → length content ≤ file_limit → HasNoWalk line content answered → Ran o o line (image_alone content) (conclusion_of answered)
 ran_no_walk line content answered o within (inl (fault, is, loads)) =
-    subst (λ (a : Answer). Ran o o line (image_alone content) (outcome_of a)) (sym is) (ran_image line (image_alone content) fault o within loads)
+    subst (λ (a : Answer). Ran o o line (image_alone content) (conclusion_of a)) (sym is) (ran_image line (image_alone content) fault o within loads)
 ran_no_walk line content answered o within (inr (image, is, loads, good)) =
-    subst (λ (a : Answer). Ran o o line (image_alone content) (outcome_of a)) (sym is) (ran_memory line (image_alone content) image o loads good)
+    subst (λ (a : Answer). Ran o o line (image_alone content) (conclusion_of a)) (sym is) (ran_memory line (image_alone content) image o loads good)

@@ -13,14 +13,14 @@ use Rattle.asc_words.specs.declared.line.RunLine.{RunLine}
 use Rattle.asc_words.specs.declared.line.Line.TheVariants as lines
 use Rattle.asc_words.specs.declared.answer.Answer.{Answer}
 use Rattle.asc_words.specs.declared.answer.Answer.TheVariants as answers
-use Rattle.asc_words.specs.Answer.{outcome_of}
+use Rattle.asc_words.specs.Answer.{conclusion_of}
 use Rattle.asc_words.specs.Line.{file_limit}
 use Rattle.asc_top.specs.Program.{load_of, refusal, run_of_image, Gives}
 use Rattle.asc_top.specs.Numbers.{Saves, SavesLoaded, entries_of_save}
 use Rattle.asc_top.specs.Ran.{IsNoRun, IsRefused}
 use Rattle.asc_top.specs.Saves.{EndsSave, RunsToSave}
-use Rattle.asc_top.specs.Kinds.{Completes, IsRefusal, Unread, kind_of}
-use Rattle.asc_top.specs.Answered.{Devices, IsAnswerFor, IsHeld, IsUntouched, RisesWithin, devices}
+use Rattle.asc_top.specs.Endings.{Completes, IsRefusal, Unread, ending_of}
+use Rattle.asc_top.specs.Answered.{Surroundings, IsAnswerFor, IsHeld, IsUntouched, RisesWithin, around}
 use Rattle.asc_top.proofs.Refused.{gives_refusal}
 use Rattle.asc_top.proofs.Refusals.{IsUnrun, answer_of_refusal}
 use Rattle.asc_top.proofs.Runs.{completed, one_content, uncompleted}
@@ -46,22 +46,22 @@ unfolding exec
 most_executed line image before after l = omega (arith, l.run.serial.executed)
 
 -- the told file is the one that may be held
-saves_told : (old new : Devices) (line : RunLine) (content told : List ℕ) (answered : Answer) → MayHold old.files line.image content → Saves line content old.guest new.guest answered
+saves_told : (old new : Surroundings) (line : RunLine) (content told : List ℕ) (answered : Answer) → MayHold old.files line.image content → Saves line content old.guest new.guest answered
     → IsHeld old.files line.image told → Saves line told old.guest new.guest answered
 saves_told old new line content told answered may saves is =
     subst (λ (c : List ℕ). Saves line c old.guest new.guest answered) (one_content old.files line.image content told may is) saves
 
 -- ---- files that are refused
 
-module _ (line : RunLine) (old : Devices) (files : Option (List File)) (after : Option (List (List ℕ))) (store_faults : ℕ) (stay : files ≡ old.files) (names : AsksFor line.image old.asked after) where
-  abbrev new : Devices
+module _ (line : RunLine) (old : Surroundings) (files : Option (List File)) (after : Option (List (List ℕ))) (store_faults : ℕ) (stay : files ≡ old.files) (names : AsksFor line.image old.asked after) where
+  abbrev new : Surroundings
   new = record old { files = files; asked = after; store_faults = store_faults }
 
   abbrev Answers : Answer → Type 0
-  Answers answered = IsAnswerFor (Ok (lines.Save line)) old new (outcome_of answered)
+  Answers answered = IsAnswerFor (Ok (lines.Save line)) old new (conclusion_of answered)
 
   -- the file was not read
-  unread : (answered : Answer) → kind_of answered ≡ Unread → IsUntouched (Ok (lines.Save line)) answered old.guest old.guest → Blames (answered ≡ answers.StoreFault) old.store_faults store_faults → Answers answered
+  unread : (answered : Answer) → ending_of answered ≡ Unread → IsUntouched (Ok (lines.Save line)) answered old.guest old.guest → Blames (answered ≡ answers.StoreFault) old.store_faults store_faults → Answers answered
   unread answered kind untouched blames = answer_of_refusal (Ok (lines.Save line)) old new answered (record {
     unrun = subst IsUnrun (sym kind) tt;
     line = lines.Save line;
@@ -69,9 +69,9 @@ module _ (line : RunLine) (old : Devices) (files : Option (List File)) (after : 
     faults = refl;
     headline = λ completes. absurd (uncompleted answered kind completes);
     untold = λ completes. absurd (uncompleted answered kind completes);
-    image = λ fault is. let other = ap kind_of is in absurd (cc (kind, other));
-    too_long = λ is. let other = ap kind_of is in absurd (cc (kind, other));
-    saved = λ fault is. let other = ap kind_of is in absurd (cc (kind, other));
+    image = λ fault is. let other = ap ending_of is in absurd (cc (kind, other));
+    too_long = λ is. let other = ap ending_of is in absurd (cc (kind, other));
+    saved = λ fault is. let other = ap ending_of is in absurd (cc (kind, other));
     store_fault = blames;
     workers = refl;
     refused = untouched;
@@ -123,14 +123,14 @@ module _ (line : RunLine) (old : Devices) (files : Option (List File)) (after : 
       one_fault : (a b : ElfFault) → answers.Image a ≡ answers.Image b → a ≡ b
       one_fault a b is = cc
 
-abbrev AnswersRead : (line : RunLine) (old : Devices) (files : Option (List File)) (after : Option (List (List ℕ))) (store_faults : ℕ) → Answer → Type 0
+abbrev AnswersRead : (line : RunLine) (old : Surroundings) (files : Option (List File)) (after : Option (List (List ℕ))) (store_faults : ℕ) → Answer → Type 0
 AnswersRead line old files after store_faults answered =
-    IsAnswerFor (Ok (lines.Save line)) old (record old { files = files; asked = after; store_faults = store_faults }) (outcome_of answered)
+    IsAnswerFor (Ok (lines.Save line)) old (record old { files = files; asked = after; store_faults = store_faults }) (conclusion_of answered)
 
 -- no image was read
-pub answer_of_no_save : (line : RunLine) (old : Devices) (files : Option (List File)) (after : Option (List (List ℕ))) (store_faults : ℕ) (answered : Answer)
+pub answer_of_no_save : (line : RunLine) (old : Surroundings) (files : Option (List File)) (after : Option (List (List ℕ))) (store_faults : ℕ) (answered : Answer)
     → IsRefused line.image (IsNoRun line) answered old.files old.asked old.store_faults files after store_faults
-    → IsAnswerFor (Ok (lines.Save line)) old (record old { files = files; asked = after; store_faults = store_faults }) (outcome_of answered)
+    → IsAnswerFor (Ok (lines.Save line)) old (record old { files = files; asked = after; store_faults = store_faults }) (conclusion_of answered)
 answer_of_no_save line old files after store_faults answered r = by r.cause
   where
     by : ((answered ≡ answers.StoreFault) ⊎ (answered ≡ answers.Memory)) ⊎ ((content : List ℕ) × MayHold old.files line.image content × IsNoRun line content answered) → AnswersRead line old files after store_faults answered
@@ -154,14 +154,14 @@ module _ (line : RunLine) (content : List ℕ) (image : loader.Image) (files las
   abbrev last : Outside
   last = outside left later err after (faults input_faults later_faults err_faults)
 
-  abbrev old : Devices
-  old = devices files asked store_faults first
+  abbrev old : Surroundings
+  old = around files asked store_faults first
 
-  abbrev now : Devices
-  now = devices last_files last_asked last_store_faults last
+  abbrev now : Surroundings
+  now = around last_files last_asked last_store_faults last
 
   abbrev Answers3 : Answer → Type 0
-  Answers3 answered = IsAnswerFor (Ok (lines.Save line)) old now (outcome_of answered)
+  Answers3 answered = IsAnswerFor (Ok (lines.Save line)) old now (conclusion_of answered)
 
   -- memory was wanting
   wanting : RisesWithin line.limit before after → later ≡ out → later_faults ≡ out_faults → Answers3 answers.Memory

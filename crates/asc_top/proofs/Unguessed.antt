@@ -4,16 +4,15 @@ use Rattle.std.specs.Prelude.{fold}
 use Rattle.std.specs.List.{flat_map}
 use Rattle.asc_model.specs.State.{State}
 use Rattle.asc_find.specs.declared.guessing.Guessing.{Guessing}
-use Rattle.asc_find.specs.Finder.{Tally, hits_of}
-use Rattle.asc_find.specs.Serial.{Serial, serial_reply}
+use Rattle.asc_find.specs.Finder.{Jumps, hits_of}
+use Rattle.asc_find.specs.Serial.{Serial, serial_reply, Task, add_guess, after_tasks, kinds_of, made_at, tasks_of, visited}
 use Rattle.asc_guess.specs.Choice.{chosen_address}
 use Rattle.asc_run.specs.declared.walk.Ended.{Ended}
 use Rattle.asc_run.specs.declared.recognised.Recognised.{Recognised}
 use Rattle.asc_run.specs.declared.recognised.Recognised.TheVariants as recognised
 use Rattle.asc_run.specs.Execution.{Position, Progress, On, Off}
 use Rattle.asc_seek.specs.Seek.{watched_in}
-use Rattle.asc_run.specs.Visits.{AreVisits, Course, Visit, goes_on_at, is_mark, profile_of, tally_of, seek_at}
-use Rattle.asc_run.specs.Serial.{Task, add_guess, after_tasks, kinds_of, made_at, tasks_of, visited}
+use Rattle.asc_run.specs.Visits.{AreVisits, Course, Visit, goes_on_at, visit_rule, profile_of, jumps_of, seek_at}
 use Rattle.asc_run.specs.Helped.{IsSerial, SerialAt}
 
 -- none of these visits was given a jump
@@ -21,12 +20,12 @@ abbrev pub NoneGiven : List Visit → Type 0
 NoneGiven [] = Unit {0}
 NoneGiven (v ∷ before) = (v.reply ≡ None) × NoneGiven before
 
--- a tally that rises by no jump
-pub none_given : (visits : List Visit) (t : Tally) → (tally_of visits t).hits ≡ 0 → NoneGiven visits
+-- a jumps that rises by no jump
+pub none_given : (visits : List Visit) (t : Jumps) → (jumps_of visits t).hits ≡ 0 → NoneGiven visits
 none_given [] t none = tt
 none_given (v ∷ before) t none = go v.reply refl none (none_given before t)
   where
-    go : (reply : Option ℕ) → v.reply ≡ reply → (tally_of (v ∷ before) t).hits ≡ 0 → ((tally_of before t).hits ≡ 0 → NoneGiven before) → NoneGiven (v ∷ before)
+    go : (reply : Option ℕ) → v.reply ≡ reply → (jumps_of (v ∷ before) t).hits ≡ 0 → ((jumps_of before t).hits ≡ 0 → NoneGiven before) → NoneGiven (v ∷ before)
     go None is no_hit earlier = (is, earlier (omega (arith, no_hit)))
     go (Some n) is no_hit earlier =
         let one : hits_of v.reply ≡ 1 = ap hits_of is in
@@ -82,22 +81,22 @@ and_false : (b : Bool) → (b && false) ≡ false
 and_false true = refl
 and_false false = refl
 
--- where a run has ended there is no mark
-off_unmarked : (r : Recognised) (run : Course) (visits : List Visit) (count n : ℕ) (ended : Ended) (last : Position) → run count ≡ Off n ended last → is_mark r run visits count ≡ false
-off_unmarked recognised.Nowhere run visits count n ended last is = refl
-off_unmarked (recognised.At address) run visits count n ended last is = ap (λ (p : Progress). goes_on_at (Some address) p) is
-off_unmarked (recognised.Chosen profile least) run visits count n ended last is =
+-- where a run has ended there is no visit
+off_unvisited : (r : Recognised) (run : Course) (visits : List Visit) (count n : ℕ) (ended : Ended) (last : Position) → run count ≡ Off n ended last → visit_rule r run visits count ≡ false
+off_unvisited recognised.Nowhere run visits count n ended last is = refl
+off_unvisited (recognised.At address) run visits count n ended last is = ap (λ (p : Progress). goes_on_at (Some address) p) is
+off_unvisited (recognised.Chosen profile least) run visits count n ended last is =
     ap (λ (p : Progress). nat_le profile count && goes_on_at (chosen_address (profile_of run profile) least) p) is ∙ and_false (nat_le profile count)
-off_unmarked (recognised.Sought seeking) run visits count n ended last is =
+off_unvisited (recognised.Sought seeking) run visits count n ended last is =
     ap (λ (p : Progress). goes_on_at (watched_in (seek_at seeking run visits count).phase) p) is
 
 module _ (limit : ℕ) (run : Course) (address : Recognised) (first : Serial) (idle : IsIdle first) where
-  pub idles : (visits : List Visit) (to : ℕ) → AreVisits limit run (is_mark address run) visits to → NoneGiven visits → Idles limit run first visits
+  pub idles : (visits : List Visit) (to : ℕ) → AreVisits limit run (visit_rule address run) visits to → NoneGiven visits → Idles limit run first visits
   idles [] to are none = record { now = first; serial = (refl, refl); idle = idle }
   idles (v ∷ before) to are none = at (run v.at) refl are.1.0 (idles before v.at are.0 none.1)
     where
-      at : (stands : Progress) → run v.at ≡ stands → is_mark address run before v.at ≡ true → Idles limit run first before → Idles limit run first (v ∷ before)
-      at (On p) is marked earlier =
+      at : (stands : Progress) → run v.at ≡ stands → visit_rule address run before v.at ≡ true → Idles limit run first before → Idles limit run first (v ∷ before)
+      at (On p) is ruled earlier =
           let number = length before + 1 in
           let now = visited number p.state earlier.now in
           let idle_now = idle_visited number p.state earlier.now earlier.idle in
@@ -107,4 +106,4 @@ module _ (limit : ℕ) (run : Course) (address : Recognised) (first : Serial) (i
             serial = (earlier.now, 0, earlier.serial, (subst (λ (s : Progress). SerialAt limit number v s earlier.now now) (sym is) here, omega (arith, none_made number earlier.now earlier.idle)));
             idle = idle_now;
           }
-      at (Off count ended last) is marked earlier = let no : false ≡ true = sym (off_unmarked address run before v.at count ended last is) ∙ marked in absurd (cc)
+      at (Off count ended last) is ruled earlier = let no : false ≡ true = sym (off_unvisited address run before v.at count ended last is) ∙ ruled in absurd (cc)

@@ -13,8 +13,9 @@ use Rattle.asc_shard.specs.Shard.{run_capacity}
 use Rattle.asc_run.specs.declared.recognised.Recognised.{Recognised}
 use Rattle.asc_run.specs.declared.recognised.Recognised.TheVariants.{Nowhere}
 use Rattle.asc_run.specs.Execution.{Run, device_of}
-use Rattle.asc_run.specs.Helped.{Aid, HasVisits}
-use Rattle.asc_run.specs.Visits.{is_mark}
+use Rattle.asc_run.specs.Helped.{HasVisits}
+use Rattle.asc_find.specs.Finder.{Aid}
+use Rattle.asc_run.specs.Visits.{visit_rule}
 use Rattle.asc_run.specs.SerialRun.{IsSerialRun}
 use Rattle.asc_run.specs.Walk.{Walk, GoesHelped, new_walk, world_of}
 use Rattle.asc_run.proofs.Turn.{Agrees-before}
@@ -22,7 +23,7 @@ use Rattle.asc_words.specs.declared.line.RunLine.{RunLine}
 use Rattle.asc_words.specs.declared.answer.Counts.{Counts}
 use Rattle.asc_words.specs.declared.answer.SavedFault.{SavedFault}
 use Rattle.asc_words.specs.declared.answer.WorkerCounts.{WorkerCounts}
-use Rattle.asc_words.specs.declared.answer.Outcome.{Outcome}
+use Rattle.asc_words.specs.declared.answer.Conclusion.{Conclusion}
 use Rattle.asc_top.specs.Program.{Files, load_of, answer_at, ProgramResult, result_of_entries, result_of_run, result_of_load, run_of_image, meaning, Gives, IsStopped}
 use Rattle.asc_top.specs.Numbers.{AreNumbers, AreNumbersOf, AreTold, Means, counts_of, course_of_image, guessing_of, has_workers, numbers_of, recognised_by, reported_at, settings_of, taken_of, WorkersAreTold}
 use Rattle.asc_top.specs.Ran.{AreOpened, IsNew, Ran, Walked}
@@ -63,34 +64,34 @@ rest_of w known = rest_from w w.calls.ended w.left refl refl known
 
 -- a walk of a line's image, with its saved entries
 module _ (line : RunLine) (files : Files) (was : Walk) (entries : List Entry) (opened : AreOpened line files was entries) (now : Walk) (old new : Outside) (first last : Aid)
-    (workers : Option WorkerCounts) (outcome : Outcome) (w : Walked line.report was now old new first last workers outcome) (fresh : IsNew first) where
+    (workers : Option WorkerCounts) (conclusion : Conclusion) (w : Walked line.report was now old new first last workers conclusion) (fresh : IsNew first) where
   abbrev pub image : loader.Image
   image = opened.own.image
 
   abbrev pub recognised : Recognised
   recognised = (settings_of line).recognised
 
-  abbrev pub goes : GoesHelped line.limit (is_mark recognised) (world_of (new_walk image (settings_of line)) old) (world_of now new) first last now.count now.tally.given w.ended
-  goes = goes_so line image recognised line.report was now opened.own.walk_is old new first last workers outcome w fresh
+  abbrev pub goes : GoesHelped line.limit (visit_rule recognised) (world_of (new_walk image (settings_of line)) old) (world_of now new) first last now.count now.jumps.given w.ended
+  goes = goes_so line image recognised line.report was now opened.own.walk_is old new first last workers conclusion w fresh
 
   abbrev told : Counts
   told = counts_of w.counts last.plan.made last.plan.refused
 
-  abbrev own : Outcome
+  abbrev own : Conclusion
   own = record { answer = answer_at w.ended now.count; counts = reported_at line.report w.ended told; workers = workers }
 
   abbrev pub SaysVisits : (left : List ℕ) → Type 0
-  SaysVisits left = HasVisits line.limit (is_mark recognised) image.start goes.visits first last line.limit (course_of_image image left)
+  SaysVisits left = HasVisits line.limit (visit_rule recognised) image.start goes.visits first last line.limit (course_of_image image left)
 
   -- where the numbers are asked for, and there are no workers, they are a serial run's
   abbrev pub AreSerial : Type 0
   AreSerial = line.workers ≡ 0 → recognised ≡ recognised_by line → line.report ≡ true → (left : List ℕ) → (run_of_image line image left).count ≡ now.count
       → SaysVisits left → last.plan.refused ≡ 0
-      → IsSerialRun line.limit (is_mark (recognised_by line) (course_of_image image left)) (course_of_image image left) image.start.shape (guessing_of line) (content_of run_capacity entries) (numbers_of told)
+      → IsSerialRun line.limit (visit_rule (recognised_by line) (course_of_image image left)) (course_of_image image left) image.start.shape (guessing_of line) (content_of run_capacity entries) (numbers_of told)
 
   -- where they are not, and there are neither workers nor saved entries, it was run plainly
   abbrev pub IsPlain : Type 0
-  IsPlain = line.workers ≡ 0 → line.load ≡ None → line.report ≡ false → now.tally.given ≡ 0
+  IsPlain = line.workers ≡ 0 → line.load ≡ None → line.report ≡ false → now.jumps.given ≡ 0
 
   same_address : line.report ≡ true → recognised ≡ recognised_by line
   same_address asked = ap (λ (b : Bool). if b || has_workers line || is_some line.load then recognised_by line else Nowhere) asked
@@ -107,8 +108,8 @@ module _ (line : RunLine) (files : Files) (was : Walk) (entries : List Entry) (o
       let are : AreNumbersOf line image entries left told = record {
         of = record {
           total = w.executed ∙ sym count_is;
-          visits = seen line image recognised line.report was now opened.own.walk_is old new first last workers outcome w fresh same left says;
-          few = few line image recognised line.report was now opened.own.walk_is old new first last workers outcome w fresh;
+          visits = seen line image recognised line.report was now opened.own.walk_is old new first last workers conclusion w fresh same left says;
+          few = few line image recognised line.report was now opened.own.walk_is old new first last workers conclusion w fresh;
         };
         serial = λ alone refused. serial alone same asked left count_is says refused;
       } in
@@ -124,22 +125,22 @@ module _ (line : RunLine) (files : Files) (was : Walk) (entries : List Entry) (o
       let run_is : run_of_image line image left ≡ run = f.run r.rest r.may in
       let count_is : (run_of_image line image left).count ≡ now.count = ap (λ (x : Run). x.count) run_is in
       let means_so : meaning line files left ≡ result_of_run run = means_run left run run_is in
-      let gives : Gives old new told.executed own.answer (result_of_run run) =
+      let gives : Gives old new told.run.executed own.answer (result_of_run run) =
       record { answer = refl; does = f.does; most = omega (arith, w.executed); steps = omega (arith, w.executed, w.skipped, f.steps) } in
-      let shown : (report : Bool) → line.report ≡ report → AreTold line files.saved (Ok image) left told.executed now.count (if report then Some told else None) =
-      λ report. elim report as (λ b. line.report ≡ b → AreTold line files.saved (Ok image) left told.executed now.count (if b then Some told else None)) [
+      let shown : (report : Bool) → line.report ≡ report → AreTold line files.saved (Ok image) left told.run.executed now.count (if report then Some told else None) =
+      λ report. elim report as (λ b. line.report ≡ b → AreTold line files.saved (Ok image) left told.run.executed now.count (if b then Some told else None)) [
         | true ↦ λ asked. (refl, numbers serial left count_is (f.says r.rest r.may) asked)
         | false ↦ λ unasked. λ alone unloaded. omega (arith, w.executed, w.skipped, plain alone unloaded unasked)
       ] in
-      let own_told : AreTold line files.saved (Ok image) left told.executed now.count own.counts =
-      subst (λ (c : Option Counts). AreTold line files.saved (Ok image) left told.executed now.count c) (sym (all_told line.report w.ended told going)) (shown line.report refl) in
+      let own_told : AreTold line files.saved (Ok image) left told.run.executed now.count own.counts =
+      subst (λ (c : Option Counts). AreTold line files.saved (Ok image) left told.run.executed now.count c) (sym (all_told line.report w.ended told going)) (shown line.report refl) in
       record {
         left = left;
         agrees = Agrees-before old.left new.left f.io.taken r.rest f.does.taken r.agrees;
-        executed = told.executed;
-        gives = subst (λ (x : ProgramResult). Gives old new told.executed own.answer x) (sym means_so) gives;
-        told = subst (λ (x : ProgramResult). AreTold line files.saved (load_of line files.image) left told.executed x.count own.counts) (sym means_so)
-            (subst (λ l. AreTold line files.saved l left told.executed now.count own.counts) (sym opened.own.loads) own_told);
+        executed = told.run.executed;
+        gives = subst (λ (x : ProgramResult). Gives old new told.run.executed own.answer x) (sym means_so) gives;
+        told = subst (λ (x : ProgramResult). AreTold line files.saved (load_of line files.image) left told.run.executed x.count own.counts) (sym means_so)
+            (subst (λ l. AreTold line files.saved l left told.run.executed now.count own.counts) (sym opened.own.loads) own_told);
       }
 
   -- a device's failure stopped it
@@ -164,21 +165,21 @@ module _ (line : RunLine) (files : Files) (was : Walk) (entries : List Entry) (o
         run = s.run r.rest r.may;
         call = s.call r.rest r.may;
         begins = s.begins r.rest r.may;
-        executed = told.executed;
+        executed = told.run.executed;
         most = omega (arith, w.executed);
         steps = omega (arith, w.executed, w.skipped, s.steps);
       }
 
-  pub ran : WorkersAreTold line own.counts workers → AreSerial → IsPlain → Ran old new line files outcome
+  pub ran : WorkersAreTold line own.counts workers → AreSerial → IsPlain → Ran old new line files conclusion
   ran beside serial plain =
       let device = device_of_answer-answer_at w.ended now.count in
       let limit : was.settings.limit ≡ line.limit = ap (λ (v : Walk). v.settings.limit) opened.own.walk_is in
-      subst (λ (o : Outcome). Ran old new line files o) (sym w.outcome_is) (record {
+      subst (λ (o : Conclusion). Ran old new line files o) (sym w.conclusion_is) (record {
         means = λ _ none. means serial plain (sym device ∙ none);
         stopped = λ which failed. stopped which (sym device ∙ failed);
         refused = λ refused. absurd (run-not_refused w.ended now.count refused);
         counts = counts-told Counts line.report w.ended now.count told;
-        limit = told_have (λ c. c.executed + c.skipped ≤ line.limit) line.report w.ended told (omega (arith, w.executed, w.limit, limit));
+        limit = told_have (λ c. c.run.executed + c.run.skipped ≤ line.limit) line.report w.ended told (omega (arith, w.executed, w.limit, limit));
         workers = beside;
         shape = λ other loaded. let same : image ≡ other = cc (opened.own.loads, loaded) in subst (λ (i : loader.Image). IsShape i.start.shape) same opened.own.good;
         faults = subst (λ d. BlamesOnly d old.faults new.faults) (sym device) w.faults;

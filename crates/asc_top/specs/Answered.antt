@@ -17,28 +17,28 @@ use Rattle.asc_words.specs.declared.line.Line.{Line}
 use Rattle.asc_words.specs.declared.line.Line.TheVariants as lines
 use Rattle.asc_words.specs.declared.answer.Answer.{Answer}
 use Rattle.asc_words.specs.declared.answer.Answer.TheVariants as answers
-use Rattle.asc_words.specs.declared.answer.Outcome.{Outcome}
+use Rattle.asc_words.specs.declared.answer.Conclusion.{Conclusion}
 use Rattle.asc_words.specs.declared.answer.SavedFault.{SavedFault}
-use Rattle.asc_words.specs.declared.answer.TrialOutcome.{TrialOutcome}
+use Rattle.asc_words.specs.declared.answer.TrialRun.{TrialRun}
 use Rattle.asc_words.specs.declared.answer.Bad.{Bad}
 use Rattle.asc_words.specs.Line.{file_limit}
 use Rattle.asc_top.specs.Program.{Files, meaning, Gives, GivesPart, Runs, IsNoImage, IsNoSaved, IsStopped, image_alone, load_of, make_result, trial_run}
 use Rattle.asc_top.specs.Numbers.{Means, Saves, SavesPart, Tries, TriesPart, WorkersAreTold}
 use Rattle.asc_top.specs.Batch.{AreBatchFiles, BatchFiles, batch_meaning}
-use Rattle.asc_top.specs.Kinds.{Finished, kind_of, Completes, IsRefusal, device_of_answer}
+use Rattle.asc_top.specs.Endings.{Finished, ending_of, Completes, IsRefusal, device_of_answer}
 
 -- ---- what is told
 
 -- What is told of all that the program meets but its report: the store's files, the names that it was asked for and how
 -- often it has failed, and the guest's devices with the counter of steps.
-pub record Devices : Type 0 where
+pub record Surroundings : Type 0 where
   pub files : Option (List File)
   pub asked : Option (List (List ℕ))
   pub store_faults : ℕ
   pub guest : Outside
 
-abbrev pub devices : Option (List File) → Option (List (List ℕ)) → (store_faults : ℕ) → Outside → Devices
-devices files asked store_faults guest = record {
+abbrev pub around : Option (List File) → Option (List (List ℕ)) → (store_faults : ℕ) → Outside → Surroundings
+around files asked store_faults guest = record {
   files = files;
   asked = asked;
   store_faults = store_faults;
@@ -76,7 +76,7 @@ Asked = Result Line Bad
 -- What is done where no device fails and no memory is wanting. A run whose files and input are told gives what the files
 -- mean. A save whose image is told gives the file of the entries that its run leaves. A make gives its image, and a trial
 -- its text. A batch whose files are told gives what they mean. Wrong words are answered, and nothing is done.
-abbrev pub Done : Asked → (old new : Devices) → Answer → Type 0
+abbrev pub Done : Asked → (old new : Surroundings) → Answer → Type 0
 Done (Ok (lines.Run line)) old new answered =
     (files : Files) (left : List ℕ) → AreFilesOf (IsHeld old.files) line files → old.guest.left ≡ Some left
     → (executed : ℕ) × Gives old.guest new.guest executed answered (meaning line files left)
@@ -91,7 +91,7 @@ Done (Err bad) old new answered = (answered ≡ answers.Usage bad) × (new.guest
 
 -- The headline. Where no device failed and no memory was wanting, the answer, what was taken and put, and the rise of
 -- the counter are the definition's. What is told of a run's numbers is said by `untold`, which holds of told runs too.
-abbrev pub Headline : Asked → (old new : Devices) → Answer → Type 0
+abbrev pub Headline : Asked → (old new : Surroundings) → Answer → Type 0
 Headline asked old new answered = Completes answered → Done asked old new answered
 
 -- ---- what holds of an answer
@@ -100,17 +100,17 @@ Headline asked old new answered = Completes answered → Done asked old new answ
 -- store was asked for a file.
 
 -- the same where a file or input is not told: it gives what some files mean that the store may hold
-abbrev pub DoneUntold : Asked → (old new : Devices) → Outcome → Type 0
-DoneUntold (Ok (lines.Run line)) old new outcome =
-    (files : Files) × AreFilesOf (MayHold old.files) line files × Means old.guest new.guest outcome line files
-DoneUntold (Ok (lines.Save line)) old new outcome =
+abbrev pub DoneUntold : Asked → (old new : Surroundings) → Conclusion → Type 0
+DoneUntold (Ok (lines.Run line)) old new conclusion =
+    (files : Files) × AreFilesOf (MayHold old.files) line files × Means old.guest new.guest conclusion line files
+DoneUntold (Ok (lines.Save line)) old new conclusion =
     (content : List ℕ) × MayHold old.files line.image content
-    × Saves line content old.guest new.guest outcome.answer
-DoneUntold asked old new outcome = Done asked old new outcome.answer
+    × Saves line content old.guest new.guest conclusion.answer
+DoneUntold asked old new conclusion = Done asked old new conclusion.answer
 
 -- A device failed. Under the guest of a run: all is plain execution's up to the call in which that happened. Else it is
 -- out, while it took a file of entries, an image or the text of a trial.
-abbrev pub Stops : Asked → (old new : Devices) → Device → Type 0
+abbrev pub Stops : Asked → (old new : Surroundings) → Device → Type 0
 Stops (Ok (lines.Run line)) old new device =
     (files : Files) × AreFilesOf (MayHold old.files) line files × IsStopped old.guest new.guest device line files
 Stops (Ok (lines.Save line)) old new device = (device ≡ Out)
@@ -122,7 +122,7 @@ Stops (Err bad) old new device = ⊥
 
 -- The words ask for a run, and the store may hold files of its names whose contents have P. Or they ask for a save, and
 -- it may hold such an image.
-abbrev pub HasFile : Asked → Devices → (RunLine → Files → Type 0) → Type 0
+abbrev pub HasFile : Asked → Surroundings → (RunLine → Files → Type 0) → Type 0
 HasFile (Ok (lines.Run line)) old P = (files : Files) × AreFilesOf (MayHold old.files) line files × P line files
 HasFile (Ok (lines.Save line)) old P =
     (content : List ℕ) × MayHold old.files line.image content × P line (image_alone content)
@@ -132,7 +132,7 @@ HasFile (Ok (lines.Batch line)) old P = ⊥
 HasFile (Err bad) old P = ⊥
 
 -- the same, or they ask for a trial, whose image has P
-abbrev pub HasImage : Asked → Devices → ((told : Option (List ℕ)) → RunLine → Files → Type 0) → Type 0
+abbrev pub HasImage : Asked → Surroundings → ((told : Option (List ℕ)) → RunLine → Files → Type 0) → Type 0
 HasImage (Ok (lines.Run line)) old P =
     (files : Files) × AreFilesOf (MayHold old.files) line files × P old.guest.left line files
 HasImage (Ok (lines.Save line)) old P =
@@ -149,18 +149,18 @@ IsWritten (Ok (lines.Save line)) before after =
     (shape : Shape) × (entries : List Entry) × (after ≡ given_after before (entry_file shape entries))
 IsWritten (Ok (lines.Make n)) before after = after ≡ given_after before (image_of n)
 IsWritten (Ok (lines.Trial n workers lanes)) before after =
-    (trial : TrialOutcome) × (trial.n ≡ n) × (after ≡ given_after before (trial_text trial))
+    (trial : TrialRun) × (trial.n ≡ n) × (after ≡ given_after before (trial_text trial))
 IsWritten (Ok (lines.Batch line)) before after = ⊥
 IsWritten (Err bad) before after = ⊥
 
 -- the numbers are told of the workers of a run, and of none else
-abbrev pub HasWorkersOf : Asked → Outcome → Type 0
-HasWorkersOf (Ok (lines.Run line)) outcome = WorkersAreTold line outcome.counts outcome.workers
-HasWorkersOf (Ok (lines.Save line)) outcome = outcome.workers ≡ None
-HasWorkersOf (Ok (lines.Make n)) outcome = outcome.workers ≡ None
-HasWorkersOf (Ok (lines.Trial n workers lanes)) outcome = outcome.workers ≡ None
-HasWorkersOf (Ok (lines.Batch line)) outcome = outcome.workers ≡ None
-HasWorkersOf (Err bad) outcome = outcome.workers ≡ None
+abbrev pub HasWorkersOf : Asked → Conclusion → Type 0
+HasWorkersOf (Ok (lines.Run line)) conclusion = WorkersAreTold line conclusion.counts conclusion.workers
+HasWorkersOf (Ok (lines.Save line)) conclusion = conclusion.workers ≡ None
+HasWorkersOf (Ok (lines.Make n)) conclusion = conclusion.workers ≡ None
+HasWorkersOf (Ok (lines.Trial n workers lanes)) conclusion = conclusion.workers ≡ None
+HasWorkersOf (Ok (lines.Batch line)) conclusion = conclusion.workers ≡ None
+HasWorkersOf (Err bad) conclusion = conclusion.workers ≡ None
 
 -- these words ask for the numbers of a run
 abbrev pub AskForCounts : Asked → Type 0
@@ -213,53 +213,53 @@ IsUntouched (Ok (lines.Save line)) answers.Memory old new =
     RisesWithin line.limit old.steps new.steps × (new ≡ record old { steps = new.steps })
 IsUntouched asked answered old new = new ≡ old
 
--- All that holds of an outcome of what was asked by itself, whatever then becomes of its report. A cause is a field: that
+-- All that holds of a conclusion of what was asked by itself, whatever then becomes of its report. A cause is a field: that
 -- the answer comes only there. That it comes there, unless a device fails or memory is wanting, is the headline.
-pub record IsAnswerFor (asked : Asked) (old new : Devices) (outcome : Outcome) : Type 0 where
-  pub headline : Headline asked old new outcome.answer
+pub record IsAnswerFor (asked : Asked) (old new : Surroundings) (conclusion : Conclusion) : Type 0 where
+  pub headline : Headline asked old new conclusion.answer
   -- told or not, it is that of some file and some input, which agree with what is told
-  pub untold : Completes outcome.answer → DoneUntold asked old new outcome
+  pub untold : Completes conclusion.answer → DoneUntold asked old new conclusion
   -- where a device failed, all is as it should be up to there
-  pub stopped : (device : Device) → device_of_answer outcome.answer ≡ Some device → Stops asked old new device
+  pub stopped : (device : Device) → device_of_answer conclusion.answer ≡ Some device → Stops asked old new device
   -- Exit: the plain run of a file that is not too long ends with that code.
-  pub exit : (code : ℕ) → outcome.answer ≡ answers.Exit code
+  pub exit : (code : ℕ) → conclusion.answer ≡ answers.Exit code
       → HasFile asked old (Runs old.guest.left (λ run. run.ended ≡ ends.Exit code))
   -- a save does not answer how its guest ended
-  pub silent : (line : RunLine) → asked ≡ Ok (lines.Save line) → kind_of outcome.answer ≢ Finished
+  pub silent : (line : RunLine) → asked ≡ Ok (lines.Save line) → ending_of conclusion.answer ≢ Finished
   -- Done: the whole of a file of entries was put to out, of an image, or of a trial's text.
-  pub done : (refused : ℕ) → outcome.answer ≡ answers.Done refused → IsWritten asked old.guest.out new.guest.out
+  pub done : (refused : ℕ) → conclusion.answer ≡ answers.Done refused → IsWritten asked old.guest.out new.guest.out
   -- Limit: it is still going on after that many steps, which are the line's limit.
-  pub limit : (count : ℕ) → outcome.answer ≡ answers.Limit count
+  pub limit : (count : ℕ) → conclusion.answer ≡ answers.Limit count
       → HasImage asked old (λ told. Runs told (λ run. (run.ended ≡ ends.Limit) × (run.count ≡ count)))
   -- Fault: it meets that fault after that many steps.
-  pub fault : (fault : Fault) (count : ℕ) → outcome.answer ≡ answers.Fault fault count
+  pub fault : (fault : Fault) (count : ℕ) → conclusion.answer ≡ answers.Fault fault count
       → HasImage asked old (λ told. Runs told (λ run. (run.ended ≡ ends.Fault fault) × (run.count ≡ count)))
   -- Image: the file is no image, for that fault.
-  pub image : (fault : ElfFault) → outcome.answer ≡ answers.Image fault → HasImage asked old (λ told. IsNoImage fault)
+  pub image : (fault : ElfFault) → conclusion.answer ≡ answers.Image fault → HasImage asked old (λ told. IsNoImage fault)
   -- TooLong: the file is longer than what is read.
-  pub too_long : outcome.answer ≡ answers.TooLong → HasFile asked old (λ line files. file_limit < length files.image)
+  pub too_long : conclusion.answer ≡ answers.TooLong → HasFile asked old (λ line files. file_limit < length files.image)
   -- Saved: the image is one that is run, and the file of saved entries is refused, for that fault.
-  pub saved : (fault : SavedFault) → outcome.answer ≡ answers.Saved fault → HasFile asked old (IsNoSaved fault)
+  pub saved : (fault : SavedFault) → conclusion.answer ≡ answers.Saved fault → HasFile asked old (IsNoSaved fault)
   -- Usage: that is wrong with the words. Where something is, it is answered, unless memory was wanting.
-  pub usage : (bad : Bad) → outcome.answer ≡ answers.Usage bad → asked ≡ Err bad
-  pub no_command : (bad : Bad) → asked ≡ Err bad → outcome.answer ≢ answers.Memory
-      → outcome.answer ≡ answers.Usage bad
+  pub usage : (bad : Bad) → conclusion.answer ≡ answers.Usage bad → asked ≡ Err bad
+  pub no_command : (bad : Bad) → asked ≡ Err bad → conclusion.answer ≢ answers.Memory
+      → conclusion.answer ≡ answers.Usage bad
   -- StoreFault: the store failed, and once. Else it did not.
-  pub store_fault : Blames (outcome.answer ≡ answers.StoreFault) old.store_faults new.store_faults
+  pub store_fault : Blames (conclusion.answer ≡ answers.StoreFault) old.store_faults new.store_faults
   -- ReadFault, WriteFault and ErrFault: that device failed, and once. Every other did not.
-  pub faults : BlamesOnly (device_of_answer outcome.answer) old.guest.faults new.guest.faults
+  pub faults : BlamesOnly (device_of_answer conclusion.answer) old.guest.faults new.guest.faults
   -- ReportFault is answered in place of this answer, and is none.
-  pub no_report_fault : outcome.answer ≢ answers.ReportFault
+  pub no_report_fault : conclusion.answer ≢ answers.ReportFault
   -- the numbers of a run are told where the words ask for them and the guest came to an end, and else none are
-  pub counts : IsSome outcome.counts ↔ (AskForCounts asked × (kind_of outcome.answer ≡ Finished))
+  pub counts : IsSome conclusion.counts ↔ (AskForCounts asked × (ending_of conclusion.answer ≡ Finished))
   -- the numbers of its workers beside them, where it has any
-  pub workers : HasWorkersOf asked outcome
+  pub workers : HasWorkersOf asked conclusion
   -- where the guest was not run, nothing was taken, put or counted
-  pub refused : IsRefusal outcome.answer → IsUntouched asked outcome.answer old.guest new.guest
+  pub refused : IsRefusal conclusion.answer → IsUntouched asked conclusion.answer old.guest new.guest
   pub files : new.files ≡ old.files
   -- the store was asked for the files that the line names, once for each, and for nothing else
-  pub names : AsksForFiles asked outcome.answer old.asked new.asked
+  pub names : AsksForFiles asked conclusion.answer old.asked new.asked
 
--- all that holds of an outcome of these words
-abbrev pub IsAnswerTo : (words : List (List ℕ)) → (old new : Devices) → Outcome → Type 0
+-- all that holds of a conclusion of these words
+abbrev pub IsAnswerTo : (words : List (List ℕ)) → (old new : Surroundings) → Conclusion → Type 0
 IsAnswerTo words = IsAnswerFor (line_of words)

@@ -7,7 +7,7 @@ use Rattle.asc_calls.specs.GuestCall.{Io, nothing, then_io}
 use Rattle.asc_calls.specs.World.{Outside, DoesIo}
 use Rattle.asc_run.specs.Execution.{Run}
 use Rattle.asc_run.specs.SerialRun.{IsSerialRun}
-use Rattle.asc_run.specs.Visits.{is_mark}
+use Rattle.asc_run.specs.Visits.{visit_rule}
 use Rattle.asc_words.specs.Line.{file_limit}
 use Rattle.asc_words.specs.Batch.{BatchLine}
 use Rattle.asc_words.specs.declared.line.RunLine.{RunLine}
@@ -102,7 +102,7 @@ answer_of (run_ends.Fault fault) steps = answers.Fault fault steps
 abbrev pub AreRunCounts : RunLine → loader.Image → (input : List ℕ) → (executed : ℕ) → Option Counts → Type 0
 AreRunCounts line image input executed None = line.workers ≡ 0 → executed ≡ (run_of_image line image input).count
 AreRunCounts line image input executed (Some counts) =
-    (counts.executed ≡ executed) × AreCountsOf line image input counts
+    (counts.run.executed ≡ executed) × AreCountsOf line image input counts
 
 -- This is told of the run of an image over an input, which has this number in its batch and executed so many steps.
 pub record IsRunTold (line : RunLine) (image : loader.Image) (number : ℕ) (input : List ℕ) (run : BatchRun) (executed : ℕ)
@@ -134,7 +134,7 @@ abbrev pub AreSerialRuns : RunLine → loader.Image → (content : List Entry) �
     → (P : List Entry → Type 0) → Type 0
 AreSerialRuns line image content (input ∷ inputs) (run ∷ runs) P =
     IfSome run.counts (λ counts. counts.refused ≡ 0
-    → (serial : IsSerialRun line.limit (is_mark (recognised_by line) (course_of_image image input))
+    → (serial : IsSerialRun line.limit (visit_rule (recognised_by line) (course_of_image image input))
     (course_of_image image input) image.start.shape (guessing_of line) content (numbers_of counts))
     × AreSerialRuns line image serial.now.content inputs runs P)
 AreSerialRuns line image content _ _ P = P content

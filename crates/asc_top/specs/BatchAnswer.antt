@@ -4,7 +4,7 @@ use Rattle.asc_outside.specs.Outside.{AsksFor, Blames, MayHold, PutsPart, given_
 use Rattle.asc_elf.specs.Image as loader
 use Rattle.asc_calls.specs.GuestCall.{Device}
 use Rattle.asc_calls.specs.World.{Outside, BlamesOnly}
-use Rattle.asc_words.specs.Answer.{outcome_of}
+use Rattle.asc_words.specs.Answer.{conclusion_of}
 use Rattle.asc_words.specs.Line.{file_limit}
 use Rattle.asc_words.specs.Report.{batch_text}
 use Rattle.asc_words.specs.Batch.{BatchLine}
@@ -14,9 +14,9 @@ use Rattle.asc_words.specs.declared.answer.Answer.{Answer}
 use Rattle.asc_words.specs.declared.answer.Answer.TheVariants as answers
 use Rattle.asc_words.specs.declared.answer.BatchRun.{BatchRun}
 use Rattle.asc_top.specs.Program.{IsStopped, image_alone, load_of, refusal}
-use Rattle.asc_top.specs.Kinds.{BadFile, BadWords, IsRefusal, device_of_answer, kind_of}
+use Rattle.asc_top.specs.Endings.{BadFile, BadWords, IsRefusal, device_of_answer, ending_of}
 use Rattle.asc_top.specs.Batch.{AreBatchFiles, BatchFiles, MakesRuns, batch_meaning, first_long}
-use Rattle.asc_top.specs.Answered.{Devices, Headline}
+use Rattle.asc_top.specs.Answered.{Surroundings, Headline}
 use Rattle.asc_top.specs.Reported.{IsReported, Report, report_with}
 
 -- ---- the runs
@@ -91,10 +91,10 @@ pub record AsksForBatch (line : BatchLine) (answered : Answer) (before after : O
 
 -- All that holds of an answer to a batch of which these runs are told, whatever then becomes of the answer's line. It is
 -- ReportFault where the report failed at a run's lines.
-pub record IsBatchFor (line : BatchLine) (old new : Devices) (told : List BatchRun) (answered : Answer) : Type 0 where
+pub record IsBatchFor (line : BatchLine) (old new : Surroundings) (told : List BatchRun) (answered : Answer) : Type 0 where
   pub headline : Headline (Ok (lines.Batch line)) old new answered
   -- A file is refused where that is what some files mean that the store may hold.
-  pub bad : kind_of answered ≡ BadFile
+  pub bad : ending_of answered ≡ BadFile
       → (files : BatchFiles) × AreBatchFiles (MayHold old.files) line files × (batch_meaning line files ≡ refusal answered)
   -- Where nothing was refused or wanting, the image was run over inputs that the store may hold.
   pub ran : (IsRefusal answered → ⊥)
@@ -102,7 +102,7 @@ pub record IsBatchFor (line : BatchLine) (old new : Devices) (told : List BatchR
   -- Else nothing was run, taken, put or counted.
   pub refused : IsRefusal answered → (told ≡ []) × (new.guest ≡ old.guest)
   -- The words are good.
-  pub usage : kind_of answered ≢ BadWords
+  pub usage : ending_of answered ≢ BadWords
   -- The input of the program is no input of a batch.
   pub left : new.guest.left ≡ old.guest.left
   pub input : new.guest.faults.input ≡ old.guest.faults.input
@@ -134,10 +134,10 @@ abbrev pub IsBatchReported : (told : List BatchRun) → (answered : Answer) → 
 IsBatchReported told answers.ReportFault before after shown =
     (shown ≡ answers.ReportFault) × CutsRun told before after
 IsBatchReported told answered before after shown =
-    IsReported (report_with (given_after before.given (batch_texts told)) before.faults) after (outcome_of answered) shown
+    IsReported (report_with (given_after before.given (batch_texts told)) before.faults) after (conclusion_of answered) shown
 
 -- a batch was answered so
-pub record IsBatchAnswer (line : BatchLine) (old new : Devices) (before after : Report) (shown : Answer) : Type 0 where
+pub record IsBatchAnswer (line : BatchLine) (old new : Surroundings) (before after : Report) (shown : Answer) : Type 0 where
   pub told : List BatchRun
   pub answered : Answer
   pub is : IsBatchFor line old new told answered

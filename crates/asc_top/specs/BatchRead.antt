@@ -8,7 +8,7 @@ use Rattle.asc_words.specs.Line.{file_limit}
 use Rattle.asc_words.specs.declared.answer.Answer.{Answer}
 use Rattle.asc_words.specs.declared.answer.Answer.TheVariants as answers
 use Rattle.asc_top.specs.Program.{load_of, refusal}
-use Rattle.asc_top.specs.Kinds.{BadFile, kind_of}
+use Rattle.asc_top.specs.Endings.{BadFile, ending_of}
 use Rattle.asc_top.specs.Batch.{AreBatchFiles, AreInputs, BatchFiles, batch_meaning, first_long}
 use Rattle.asc_top.specs.BatchAnswer.{AsksForBatch, AsksForEach}
 
@@ -66,5 +66,5 @@ pub record RefusesBatch (line : BatchLine) (answered : Answer) (files : Option (
   pub names : AsksForBatch line answered asked asked_after
   pub store_fault : Blames (answered ≡ answers.StoreFault) faults faults_after
   pub cause : ((answered ≡ answers.StoreFault) ⊎ (answered ≡ answers.Memory))
-      ⊎ ((read : BatchFiles) × AreBatchFiles (MayHold files) line read × (kind_of answered ≡ BadFile)
+      ⊎ ((read : BatchFiles) × AreBatchFiles (MayHold files) line read × (ending_of answered ≡ BadFile)
       × (batch_meaning line read ≡ refusal answered))

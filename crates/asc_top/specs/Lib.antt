@@ -3,7 +3,7 @@ pub use Rattle.asc_words.specs.Line
 pub use Rattle.asc_words.specs.Report
 pub mod Program
 pub mod Numbers
-pub mod Kinds
+pub mod Endings
 pub mod Workers
 pub mod Ran
 pub mod Batch

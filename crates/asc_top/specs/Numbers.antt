@@ -11,17 +11,17 @@ use Rattle.asc_make.specs.File.{image_of}
 use Rattle.asc_find.specs.declared.guessing.Guessing.{Guessing}
 use Rattle.asc_shard.specs.Content.{content_of}
 use Rattle.asc_shard.specs.Shard.{run_capacity}
-use Rattle.asc_run.specs.declared.walk.Counts.{Counts as WalkCounts}
+use Rattle.asc_model.specs.declared.run_counts.RunCounts.{RunCounts}
 use Rattle.asc_run.specs.declared.walk.Ended.{Ended}
 use Rattle.asc_run.specs.declared.walk.Ended.TheVariants as ends
 use Rattle.asc_run.specs.declared.walk.Settings.{Settings}
 use Rattle.asc_run.specs.declared.recognised.Recognised.{Recognised}
 use Rattle.asc_run.specs.declared.recognised.Recognised.TheVariants.{At, Chosen, Nowhere, Sought}
 use Rattle.asc_run.specs.Execution.{progress, first_position}
-use Rattle.asc_run.specs.Visits.{AreVisits, Course, Marking, Visit, is_mark, tally_of}
+use Rattle.asc_run.specs.Visits.{AreVisits, Course, VisitRule, Visit, visit_rule, jumps_of}
 use Rattle.asc_run.specs.SerialRun.{Numbers, IsSerialRun}
 use Rattle.asc_run.specs.Seen.{guesses_until}
-use Rattle.asc_run.specs.Walk.{tally}
+use Rattle.asc_run.specs.Walk.{jumps}
 use Rattle.asc_words.specs.declared.line.RunLine.{RunLine}
 use Rattle.asc_words.specs.declared.line.Line.{Line}
 use Rattle.asc_words.specs.declared.line.Line.TheVariants as lines
@@ -29,8 +29,8 @@ use Rattle.asc_words.specs.declared.answer.Answer.{Answer}
 use Rattle.asc_words.specs.declared.answer.Answer.TheVariants as answers
 use Rattle.asc_words.specs.declared.answer.Counts.{Counts}
 use Rattle.asc_words.specs.declared.answer.WorkerCounts.{WorkerCounts}
-use Rattle.asc_words.specs.declared.answer.Outcome.{Outcome}
-use Rattle.asc_words.specs.declared.answer.TrialOutcome.{TrialOutcome}
+use Rattle.asc_words.specs.declared.answer.Conclusion.{Conclusion}
+use Rattle.asc_words.specs.declared.answer.TrialRun.{TrialRun}
 use Rattle.asc_words.specs.declared.answer.SavedFault.{SavedFault}
 use Rattle.asc_words.specs.Line.{file_limit, seeking_of}
 use Rattle.asc_words.specs.Report.{trial_text}
@@ -99,15 +99,8 @@ settings_of line = record {
 }
 
 -- the numbers of a walk, beside how many guesses were made and how often memory was wanting
-abbrev pub counts_of : WalkCounts → (made refused : ℕ) → Counts
-counts_of walk made refused = record {
-  executed = walk.executed;
-  skipped = walk.skipped;
-  asked = walk.asked;
-  hits = walk.hits;
-  made = made;
-  refused = refused;
-}
+abbrev pub counts_of : RunCounts → (made refused : ℕ) → Counts
+counts_of walk made refused = record { run = walk; made = made; refused = refused }
 
 -- what a run reports which ended so: nothing where it is not asked for, or a device stopped it
 abbrev pub reported_at : {A : Type 0} → (is_asked : Bool) → Ended → A → Option A
@@ -127,19 +120,19 @@ course_of_image image left = progress image.low (loader.high_of image) (first_po
 -- the numbers without that of refusals
 abbrev pub numbers_of : Counts → Numbers
 numbers_of counts = record {
-  executed = counts.executed;
-  skipped = counts.skipped;
-  asked = counts.asked;
-  hits = counts.hits;
+  executed = counts.run.executed;
+  skipped = counts.run.skipped;
+  asked = counts.run.asked;
+  hits = counts.run.hits;
   made = counts.made;
 }
 
 -- These are how many visits a run has up to its limit, how many steps their jumps gave, and how many jumps there were. The
 -- visits are those that the replies leave.
-pub record AreOfVisits (limit : ℕ) (mark : Marking) (run : Course) (counts : Counts) : Type 0 where
+pub record AreOfVisits (limit : ℕ) (rule : VisitRule) (run : Course) (counts : Counts) : Type 0 where
   pub visits : List Visit
-  pub are : AreVisits limit run mark visits limit
-  pub tally : tally_of visits (tally 0 0 0) ≡ tally counts.asked counts.skipped counts.hits
+  pub are : AreVisits limit run rule visits limit
+  pub jumps : jumps_of visits (jumps 0 0 0) ≡ jumps counts.run.asked counts.run.skipped counts.run.hits
 
 -- the entries that were taken
 abbrev pub taken_of : Result (List Entry) SavedFault → List Entry
@@ -149,12 +142,12 @@ taken_of (Err fault) = []
 -- these numbers are those of the run of an image over an input, by its steps and its visits
 pub record AreCountsOf (line : RunLine) (image : loader.Image) (left : List ℕ) (counts : Counts) : Type 0 where
   -- the steps executed and the steps jumped over are all its steps
-  pub total : counts.executed + counts.skipped ≡ (run_of_image line image left).count
+  pub total : counts.run.executed + counts.run.skipped ≡ (run_of_image line image left).count
   -- they are those of its visits
-  pub visits : AreOfVisits line.limit (is_mark (recognised_by line) (course_of_image image left))
+  pub visits : AreOfVisits line.limit (visit_rule (recognised_by line) (course_of_image image left))
       (course_of_image image left) counts
   -- with memory or without, at most 128 guesses were made at each visit
-  pub few : counts.made ≤ 128 * counts.asked
+  pub few : counts.made ≤ 128 * counts.run.asked
 
 -- these are the numbers of a run of an image over an input, which has these entries at first, the oldest before the others
 pub record AreNumbersOf (line : RunLine) (image : loader.Image) (entries : List Entry) (left : List ℕ) (counts : Counts)
@@ -163,7 +156,7 @@ pub record AreNumbersOf (line : RunLine) (image : loader.Image) (entries : List 
   -- where there are no workers beside it, as in rounds, and memory was never wanting, they are those of a serial run, by
   -- its definition
   pub serial : line.workers ≡ 0 → counts.refused ≡ 0
-      → IsSerialRun line.limit (is_mark (recognised_by line) (course_of_image image left)) (course_of_image image left)
+      → IsSerialRun line.limit (visit_rule (recognised_by line) (course_of_image image left)) (course_of_image image left)
       image.start.shape (guessing_of line) (content_of run_capacity entries) (numbers_of counts)
 
 -- these are the numbers of a loaded file, where it is an image
@@ -179,7 +172,7 @@ abbrev pub AreTold : RunLine → (saved : Option (List ℕ)) → Result loader.I
     → (executed count : ℕ) → Option Counts → Type 0
 AreTold line saved load left executed count None = line.workers ≡ 0 → line.load ≡ None → executed ≡ count
 AreTold line saved load left executed count (Some counts) =
-    (counts.executed ≡ executed) × AreNumbers line saved load left counts
+    (counts.run.executed ≡ executed) × AreNumbers line saved load left counts
 
 -- These are the numbers of a run's workers beside its own. Each guess that was made was run as a job, or was left. Each
 -- job that was run ended in one of five ways. Where memory was never wanting, each guess that was due was made, or found
@@ -187,11 +180,11 @@ AreTold line saved load left executed count (Some counts) =
 -- A guess counts as full only once as many were made as the queue holds. With memory or without, those made and those
 -- full are at most 128 at each visit.
 pub record AreWorkerNumbers (guessing : Guessing) (queue : ℕ) (counts : Counts) (workers : WorkerCounts) : Type 0 where
-  pub made : counts.made ≡ workers.ran + workers.left
-  pub ran : workers.ran ≡ workers.stored + workers.known + workers.empty + workers.dropped + workers.stopped
-  pub guesses : counts.refused ≡ 0 → counts.made + workers.full ≡ guesses_until guessing counts.asked
+  pub made : counts.made ≡ workers.tally.ran + workers.left
+  pub ran : workers.tally.ran ≡ workers.tally.stored + workers.tally.known + workers.tally.empty + workers.tally.dropped + workers.tally.stopped
+  pub guesses : counts.refused ≡ 0 → counts.made + workers.full ≡ guesses_until guessing counts.run.asked
   pub room : 0 < workers.full → queue ≤ counts.made
-  pub few : counts.made + workers.full ≤ 128 * counts.asked
+  pub few : counts.made + workers.full ≤ 128 * counts.run.asked
 
 -- they are told beside the numbers of a run that has workers
 abbrev pub WorkersAreTold : RunLine → Option Counts → Option WorkerCounts → Type 0
@@ -203,20 +196,20 @@ WorkersAreTold line None None = Unit {0}
 
 -- Over some input that agrees with what is told, the files mean what was answered, taken, put and counted. The numbers
 -- that are told are their run's.
-pub record Means (old new : Outside) (outcome : Outcome) (line : RunLine) (files : Files) : Type 0 where
+pub record Means (old new : Outside) (conclusion : Conclusion) (line : RunLine) (files : Files) : Type 0 where
   pub left : List ℕ
   pub agrees : Agrees old.left left
   pub executed : ℕ
-  pub gives : Gives old new executed outcome.answer (meaning line files left)
+  pub gives : Gives old new executed conclusion.answer (meaning line files left)
   pub told : AreTold line files.saved (load_of line files.image) left executed (meaning line files left).count
-      outcome.counts
+      conclusion.counts
 
 -- ---- saved entries
 
 -- A save's run of an image, with its numbers: over no input, without workers, and from no entry on.
 pub record SaveRun (line : RunLine) (image : loader.Image) : Type 0 where
   pub numbers : Numbers
-  pub serial : IsSerialRun line.limit (is_mark (recognised_by line) (course_of_image image [])) (course_of_image image [])
+  pub serial : IsSerialRun line.limit (visit_rule (recognised_by line) (course_of_image image [])) (course_of_image image [])
       image.start.shape (guessing_of line) [] numbers
 
 -- the entries that it leaves
@@ -262,8 +255,8 @@ abbrev pub exit_at : Answer → Option Counts → Option (ℕ × Counts)
 exit_at (answers.Exit status) (Some counts) = Some (status, counts)
 exit_at answered counts = None
 
-abbrev pub exit_of : Outcome → Option (ℕ × Counts)
-exit_of outcome = exit_at outcome.answer outcome.counts
+abbrev pub exit_of : Conclusion → Option (ℕ × Counts)
+exit_of conclusion = exit_at conclusion.answer conclusion.counts
 
 -- the numbers that a trial tells: none where workers went beside its run
 abbrev pub told_by_trial : (workers : ℕ) → Counts → Option Counts
@@ -271,7 +264,7 @@ told_by_trial zero counts = Some counts
 told_by_trial (suc n) counts = None
 
 -- what a trial tells, whose guest ended with a status, of what its run came to
-abbrev pub trial_of : (n workers status : ℕ) → ProgramResult → Counts → TrialOutcome
+abbrev pub trial_of : (n workers status : ℕ) → ProgramResult → Counts → TrialRun
 trial_of n workers status run counts = record {
   n = n;
   status = status;
@@ -306,10 +299,10 @@ AreTrialNumbers n workers counts =
 pub record Tries (n workers : ℕ) (old new : Outside) (answered : Answer) : Type 0 where
   pub counts : Counts
   pub numbers : AreTrialNumbers n workers counts
-  pub gives : Gives old new counts.executed answered (trial_result n workers counts)
+  pub gives : Gives old new counts.run.executed answered (trial_result n workers counts)
 
 -- out failed while it took the text of a trial with its run's numbers
 pub record TriesPart (n workers : ℕ) (old new : Outside) : Type 0 where
   pub counts : Counts
   pub numbers : AreTrialNumbers n workers counts
-  pub gives : GivesPart old new counts.executed (trial_result n workers counts)
+  pub gives : GivesPart old new counts.run.executed (trial_result n workers counts)

@@ -11,40 +11,40 @@ use Rattle.asc_find.specs.declared.guessing.Guessing.{Guessing}
 use Rattle.asc_shard.specs.Content.{content_of}
 use Rattle.asc_shard.specs.Shard.{run_capacity}
 use Rattle.asc_run.specs.declared.walk.Ended.{Ended}
-use Rattle.asc_run.specs.declared.walk.Counts.{Counts as WalkCounts}
+use Rattle.asc_model.specs.declared.run_counts.RunCounts.{RunCounts}
 use Rattle.asc_run.specs.declared.walk.Settings.{Settings}
 use Rattle.asc_run.specs.Execution.{device_of}
-use Rattle.asc_run.specs.Helped.{Aid}
+use Rattle.asc_find.specs.Finder.{Aid}
 use Rattle.asc_run.specs.SerialHelper.{SerialHelper, first_helper}
 use Rattle.asc_run.specs.SerialRun.{serial_of}
-use Rattle.asc_run.specs.Walk.{Walk, GoesHelped, IsRaisedBy, new_walk, tally, world_of}
-use Rattle.asc_run.specs.Visits.{is_mark}
+use Rattle.asc_run.specs.Walk.{Walk, GoesHelped, IsRaisedBy, new_walk, jumps, world_of}
+use Rattle.asc_run.specs.Visits.{visit_rule}
 use Rattle.asc_live.specs.Crew.{IsNewAid}
 use Rattle.asc_words.specs.declared.line.RunLine.{RunLine}
 use Rattle.asc_words.specs.declared.answer.Answer.{Answer}
 use Rattle.asc_words.specs.declared.answer.Answer.TheVariants as answers
 use Rattle.asc_words.specs.declared.answer.SavedFault.{SavedFault}
 use Rattle.asc_words.specs.declared.answer.WorkerCounts.{WorkerCounts}
-use Rattle.asc_words.specs.declared.answer.Outcome.{Outcome}
-use Rattle.asc_words.specs.Answer.{outcome_of}
+use Rattle.asc_words.specs.declared.answer.Conclusion.{Conclusion}
+use Rattle.asc_words.specs.Answer.{conclusion_of}
 use Rattle.asc_words.specs.Line.{file_limit}
 use Rattle.asc_top.specs.Program.{Files, IsStopped, answer_at, entries_for, first_entries, load_of}
 use Rattle.asc_top.specs.Numbers.{Means, WorkersAreTold, counts_of, guessing_of, reported_at, settings_of}
-use Rattle.asc_top.specs.Kinds.{Finished, IsRefusal, device_of_answer, kind_of}
+use Rattle.asc_top.specs.Endings.{Finished, IsRefusal, device_of_answer, ending_of}
 use Rattle.asc_top.specs.Answered.{AreFilesOf, AsksForSecond}
 
 -- Files were run as a line asks, or memory was wanting. The image is not too long.
-pub record Ran (old new : Outside) (line : RunLine) (files : Files) (outcome : Outcome) : Type 0 where
-  pub means : outcome.answer ≢ answers.Memory → device_of_answer outcome.answer ≡ None
-      → Means old new outcome line files
-  pub stopped : (device : Device) → device_of_answer outcome.answer ≡ Some device
+pub record Ran (old new : Outside) (line : RunLine) (files : Files) (conclusion : Conclusion) : Type 0 where
+  pub means : conclusion.answer ≢ answers.Memory → device_of_answer conclusion.answer ≡ None
+      → Means old new conclusion line files
+  pub stopped : (device : Device) → device_of_answer conclusion.answer ≡ Some device
       → IsStopped old new device line files
-  pub refused : IsRefusal outcome.answer → new ≡ old
-  pub counts : IsSome outcome.counts ↔ (IsTrue line.report × (kind_of outcome.answer ≡ Finished))
-  pub workers : WorkersAreTold line outcome.counts outcome.workers
+  pub refused : IsRefusal conclusion.answer → new ≡ old
+  pub counts : IsSome conclusion.counts ↔ (IsTrue line.report × (ending_of conclusion.answer ≡ Finished))
+  pub workers : WorkersAreTold line conclusion.counts conclusion.workers
   pub shape : (image : loader.Image) → load_of line files.image ≡ Ok image → IsShape image.start.shape
-  pub limit : IfSome outcome.counts (λ counts. counts.executed + counts.skipped ≤ line.limit)
-  pub faults : BlamesOnly (device_of_answer outcome.answer) old.faults new.faults
+  pub limit : IfSome conclusion.counts (λ counts. counts.run.executed + counts.run.skipped ≤ line.limit)
+  pub faults : BlamesOnly (device_of_answer conclusion.answer) old.faults new.faults
 
 -- A file of this name that is not too long was read. The store's files stay. It was asked for that name, and did not fail.
 pub record IsRead (name content : List ℕ) (files : Option (List File)) (asked : Option (List (List ℕ))) (faults : ℕ)
@@ -128,45 +128,44 @@ loaded_helper shape guessing entries =
 
 -- a helper that has done nothing
 pub record IsNew (first : Aid) : Type 0 where
-  pub tally : first.tally ≡ tally 0 0 0
+  pub jumps : first.jumps ≡ jumps 0 0 0
   pub made : first.plan.made ≡ 0
   pub refused : first.plan.refused ≡ 0
   pub full : first.plan.full ≡ 0
 
--- A walk that had not begun went to its end with a helper, which came from first to last, and the outcome tells how, with
+-- A walk that had not begun went to its end with a helper, which came from first to last, and the conclusion tells how, with
 -- the numbers of its workers that are told.
 pub record Walked (is_asked : Bool) (was now : Walk) (old new : Outside) (first last : Aid) (told : Option WorkerCounts)
-    (outcome : Outcome) : Type 0 where
+    (conclusion : Conclusion) : Type 0 where
   pub ended : Ended
-  pub goes : GoesHelped was.settings.limit (is_mark was.settings.recognised) (world_of was old) (world_of now new) first last
-      now.count now.tally.given ended
-  pub raised : IsRaisedBy now.tally first.tally last.tally
+  pub goes : GoesHelped was.settings.limit (visit_rule was.settings.recognised) (world_of was old) (world_of now new) first last
+      now.count now.jumps.given ended
+  pub raised : IsRaisedBy now.jumps first.jumps last.jumps
   pub limit : now.count ≤ was.settings.limit
   pub settings : now.settings ≡ was.settings
   -- where no device failed, its state has the shape that it had
   pub shape : device_of ended ≡ None → now.state.shape ≡ was.state.shape
   pub faults : BlamesOnly (device_of ended) old.faults new.faults
-  pub counts : WalkCounts
-  pub count : counts.count ≡ now.count
+  pub counts : RunCounts
   pub executed : counts.executed + counts.skipped ≡ now.count
-  pub skipped : counts.skipped ≡ now.tally.given
-  pub asked : counts.asked ≡ now.tally.asked
-  pub hits : counts.hits ≡ now.tally.hits
-  pub outcome_is : outcome ≡ record {
+  pub skipped : counts.skipped ≡ now.jumps.given
+  pub asked : counts.asked ≡ now.jumps.asked
+  pub hits : counts.hits ≡ now.jumps.hits
+  pub conclusion_is : conclusion ≡ record {
     answer = answer_at ended now.count;
     counts = reported_at is_asked ended (counts_of counts last.plan.made last.plan.refused);
     workers = told;
   }
 
 -- a walk went so beside workers, as a line asks
-pub record WalkedBeside (line : RunLine) (was now : Walk) (old new : Outside) (outcome : Outcome) : Type 0 where
+pub record WalkedBeside (line : RunLine) (was now : Walk) (old new : Outside) (conclusion : Conclusion) : Type 0 where
   pub first : Aid
   pub last : Aid
   pub fresh : IsNewAid (guessing_of line) first
-  pub walked : Walked line.report was now old new first last outcome.workers outcome
-  pub workers : WorkersAreTold line outcome.counts outcome.workers
+  pub walked : Walked line.report was now old new first last conclusion.workers conclusion
+  pub workers : WorkersAreTold line conclusion.counts conclusion.workers
 
 -- it did, or memory was wanting for its workers, and nothing was done
-abbrev pub RanBeside : RunLine → (was now : Walk) → (old new : Outside) → Outcome → Type 0
-RanBeside line was now old new outcome =
-    WalkedBeside line was now old new outcome ⊎ ((outcome ≡ outcome_of answers.Memory) × (new ≡ old))
+abbrev pub RanBeside : RunLine → (was now : Walk) → (old new : Outside) → Conclusion → Type 0
+RanBeside line was now old new conclusion =
+    WalkedBeside line was now old new conclusion ⊎ ((conclusion ≡ conclusion_of answers.Memory) × (new ≡ old))

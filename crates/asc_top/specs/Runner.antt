@@ -2,25 +2,25 @@
 use Rattle.std.specs.Prelude.{◌≡◌, ◌⊎◌, ℕ, ◌+◌, ◌<◌, ◌≤◌, List, [], ◌∷◌, ◌++◌, length, Option, Some, None, Ok, IfSome, true, false}
 use Rattle.asc_model.specs.Shape.{Shape}
 use Rattle.asc_model.specs.Entry.{Entry}
-use Rattle.asc_outside.specs.Outside.{Given, PutsPart, given_after, one_more}
+use Rattle.asc_outside.specs.Outside.{PutsPart, given_after, one_more}
 use Rattle.asc_elf.specs.Image as loader
 use Rattle.asc_calls.specs.GuestCall.{Device}
-use Rattle.asc_calls.specs.World.{Outside, DoesIo, BlamesOnly, faults, outside}
-use Rattle.asc_run.specs.Helped.{Aid}
+use Rattle.asc_calls.specs.World.{BlamesOnly, Devices, DoesIo, Outside, faults, outside}
+use Rattle.asc_find.specs.Finder.{Aid}
 use Rattle.asc_run.specs.SerialHelper.{told_machine}
 use Rattle.asc_run.specs.SerialRun.{IsSerialRun, serial_of}
-use Rattle.asc_run.specs.Visits.{is_mark}
+use Rattle.asc_run.specs.Visits.{visit_rule}
 use Rattle.asc_run.specs.Walk.{Walk}
 use Rattle.asc_words.specs.Report.{batch_text}
 use Rattle.asc_words.specs.declared.line.RunLine.{RunLine}
 use Rattle.asc_words.specs.declared.answer.Answer.{Answer}
 use Rattle.asc_words.specs.declared.answer.Answer.TheVariants as answers
 use Rattle.asc_words.specs.declared.answer.BatchRun.{BatchRun}
-use Rattle.asc_words.specs.declared.answer.Outcome.{Outcome}
+use Rattle.asc_words.specs.declared.answer.Conclusion.{Conclusion}
 use Rattle.asc_words.specs.Line.{file_limit}
 use Rattle.asc_top.specs.Program.{IsStopped, image_alone, load_of, run_of_image}
 use Rattle.asc_top.specs.Numbers.{WorkersAreTold, course_of_image, guessing_of, keeps_entries, numbers_of, recognised_by}
-use Rattle.asc_top.specs.Kinds.{device_of_answer}
+use Rattle.asc_top.specs.Endings.{device_of_answer}
 use Rattle.asc_top.specs.Ran.{IsNew, Walked}
 use Rattle.asc_top.specs.Reported.{Report}
 use Rattle.asc_top.specs.Batch.{IsRunTold, MakesRuns, put_by}
@@ -47,28 +47,34 @@ Keeps line shape content (Beside crew) = Unit {0}
 -- or it tells the machine of a serial run from the content on that the runs before have left
 abbrev pub IsHelpOf : {R : Type 0} → (old new : Runner R) → (first last : Aid) → Type 0
 IsHelpOf Plain new first last =
-    (last.tally.hits ≡ 0) × (last.tally.given ≡ 0) × (last.plan.made ≡ 0) × (new ≡ Plain)
+    (last.jumps.hits ≡ 0) × (last.jumps.given ≡ 0) × (last.plan.made ≡ 0) × (new ≡ Plain)
 IsHelpOf (Alone helper) (Alone after) first last =
     (first.machine ≡ Some (serial_of helper.machine.shape helper.machine.guessing helper.machine.content))
     × (last.machine ≡ told_machine after)
 IsHelpOf (Alone helper) _ first last = ⊥
 IsHelpOf (Beside crew) new first last = Unit {0}
 
--- A walk that had not begun went to its end as a line asks, served by a runner, and the outcome tells how.
+-- A walk that had not begun went to its end as a line asks, served by a runner, and the conclusion tells how.
 pub record RunsOnce {R : Type 0} (line : RunLine) (was now : Walk) (before after : Runner R) (old new : Outside)
-    (outcome : Outcome) : Type 0 where
+    (conclusion : Conclusion) : Type 0 where
   pub first : Aid
   pub last : Aid
   pub fresh : IsNew first
-  pub walked : Walked line.report was now old new first last outcome.workers outcome
-  pub workers : WorkersAreTold line outcome.counts outcome.workers
+  pub walked : Walked line.report was now old new first last conclusion.workers conclusion
+  pub workers : WorkersAreTold line conclusion.counts conclusion.workers
   pub help : IsHelpOf before after first last
 
 -- ---- one run
 
 -- what is told of the devices of a batch, which has no input of its own
-abbrev pub outputs : (out err : Given) → (steps : ℕ) → (out_faults err_faults : ℕ) → Outside
-outputs out err steps out_faults err_faults = outside None out err steps (faults 0 out_faults err_faults)
+abbrev pub outputs : {I O E : Type 0} → Devices I O E → (steps : ℕ) → Outside
+outputs d steps = outside None d.told.out d.told.err steps (faults 0 d.told.faults.out d.told.faults.err)
+
+-- what is told with an input that is put aside
+abbrev pub guest_of : {I O E : Type 0} → (left : Option (List ℕ)) → (input_faults : ℕ) → Devices I O E → (steps : ℕ)
+    → Outside
+guest_of left input_faults d steps =
+    outside left d.told.out d.told.err steps (faults input_faults d.told.faults.out d.told.faults.err)
 
 -- the run of an image over an input was made, and is told so
 pub record MakesRun (line : RunLine) (image : loader.Image) (number : ℕ) (input : List ℕ) (run : BatchRun)
@@ -85,7 +91,7 @@ abbrev pub IsSerialFrom : {R : Type 0} → RunLine → loader.Image → (input :
     → Type 0
 IsSerialFrom line image input run before after = (content : List Entry) → Keeps line image.start.shape content before
     → line.workers ≡ 0 → IfSome run.counts (λ counts. counts.refused ≡ 0
-    → (serial : IsSerialRun line.limit (is_mark (recognised_by line) (course_of_image image input))
+    → (serial : IsSerialRun line.limit (visit_rule (recognised_by line) (course_of_image image input))
     (course_of_image image input) image.start.shape (guessing_of line) content (numbers_of counts))
     × Keeps line image.start.shape serial.now.content after)
 

@@ -10,13 +10,4 @@ crew_of line = record { workers = line.workers; queue = line.queue }
 
 -- the numbers of workers that ran beside a walk
 abbrev pub workers_of : Worked → WorkerCounts
-workers_of worked = record {
-  ran = worked.taken.tally.ran;
-  left = worked.taken.left;
-  stored = worked.taken.tally.stored;
-  known = worked.taken.tally.known;
-  empty = worked.taken.tally.empty;
-  dropped = worked.taken.tally.dropped;
-  stopped = worked.taken.tally.stopped;
-  full = worked.full;
-}
+workers_of worked = record { tally = worked.taken.tally; left = worked.taken.left; full = worked.full }

@@ -4,36 +4,72 @@ ghost use Rattle.asc_model.specs.Shape.{IsShape};
 ghost use Rattle.asc_outside.specs.Outside.{PutsPart, given_after, one_more};
 ghost use Rattle.asc_elf.specs.Image as loader;
 ghost use Rattle.asc_calls.specs.GuestCall.{Device};
-ghost use Rattle.asc_calls.specs.World.{faults, outside};
+ghost use Rattle.asc_calls.specs.World.{outside_of};
 ghost use Rattle.asc_run.specs.declared.walk.Ended.{Ended};
 ghost use Rattle.asc_words.specs.Line.{IsBatchWithin, IsRunWithin};
 ghost use Rattle.asc_words.specs.Report.{batch_text};
-ghost use Rattle.asc_top.specs.Answered.{devices};
+ghost use Rattle.asc_top.specs.Answered.{around};
 ghost use Rattle.asc_top.specs.Batch.{answer_of};
 ghost use Rattle.asc_top.specs.BatchAnswer.{IsBatchAnswer};
-ghost use Rattle.asc_top.specs.Kinds.{device_of_answer};
+ghost use Rattle.asc_top.specs.Endings.{device_of_answer};
 ghost use Rattle.asc_top.specs.Numbers.{settings_of};
 ghost use Rattle.asc_top.specs.Program.{answer_at, load_of};
 ghost use Rattle.asc_top.specs.Reported.{report_with};
-ghost use Rattle.asc_top.specs.Runner.{BreaksOff, BreaksRuns, EndsRuns, Keeps, ReportsRun, Serves, outputs};
+ghost use Rattle.asc_top.specs.Runner.{BreaksOff, BreaksRuns, EndsRuns, Keeps, ReportsRun, Serves, guest_of, outputs};
 
 use crate::batch_files::{BatchFiles, read_batch};
 use crate::program::reported;
 use crate::runner::Runner;
 use crate::settings::settings_of;
+use asc_calls::Devices;
 use asc_elf::{Image, read};
-use asc_outside::{Failed, Gate, Sink, Store, SureSource, put_all};
+use asc_outside::{Failed, Gate, Sink, Source, Store, SureSource, put_all};
 use asc_run::Walk;
 use asc_shape::Steps;
-use asc_words::{Answer, BatchLine, BatchRun, Outcome, RunEnd, RunLine, batch_text};
+use asc_words::{Answer, BatchLine, BatchRun, Conclusion, RunEnd, RunLine, batch_text};
 use std::alloc::Global;
 use std::sync::Wait;
 use std::sync::ledger::Ledger;
 use std::thread::Threads;
 
 /// Reads the files that a batch names, and runs the image over each input in turn. Once a run has ended, its lines are put
-/// to report. All memory that the runs need is taken before the first, but for states and entries that are kept.
+/// to report. All memory that the runs need is taken before the first, but for states and entries that are kept. It gives
+/// the devices back, of which the input is not asked.
 pub(crate) fn batch<
+    T: Threads + Wait + Sync + Copy + Drop + Send,
+    F: Store,
+    I: Source,
+    O: Sink,
+    E: Sink,
+    R: Sink,
+    G: Gate + Sync,
+    L: Ledger,
+>(
+    rt: &T,
+    alloc: Global,
+    line: &BatchLine,
+    store: &mut F,
+    devices: Devices<I, O, E>,
+    report: &mut R,
+    gate: &G,
+    steps: &mut Steps<L>,
+) -> (Answer, Devices<I, O, E>)
+    requires { IsBatchWithin line.now }
+    ensures { IsBatchAnswer line.now
+        (around (F.files store.old) (F.asked store.old) (F.faults store.old) (outside_of devices steps.old))
+        (around (F.files store.new) (F.asked store.new) (F.faults store.new) (outside_of result.1 steps.new))
+        (report_with (R.given report.old) (R.faults report.old)) (report_with (R.given report.new) (R.faults report.new))
+        result.0 }
+{
+    let (input, out, err) = devices.into_parts();
+    let mut guest = Devices::new(SureSource::new(Vec::new(alloc)), out, err);
+    let answer = run_all(rt, alloc, line, store, &mut guest, report, gate, steps);
+    let (_, out, err) = guest.into_parts();
+    (answer, Devices::new(input, out, err))
+}
+
+/// The same, with devices whose input is put aside.
+fn run_all<
     T: Threads + Wait + Sync + Copy + Drop + Send,
     F: Store,
     O: Sink,
@@ -46,31 +82,26 @@ pub(crate) fn batch<
     alloc: Global,
     line: &BatchLine,
     store: &mut F,
-    out: &mut O,
-    err: &mut E,
+    devices: &mut Devices<SureSource, O, E>,
     report: &mut R,
     gate: &G,
     steps: &mut Steps<L>,
 ) -> Answer
     requires { IsBatchWithin line.now }
     ensures { (left : Option (List ℕ)) (input_faults : ℕ) → IsBatchAnswer line.now
-        (devices (F.files store.old) (F.asked store.old) (F.faults store.old)
-        (outside left (O.given out.old) (E.given err.old) steps.old
-        (faults input_faults (O.faults out.old) (E.faults err.old))))
-        (devices (F.files store.new) (F.asked store.new) (F.faults store.new)
-        (outside left (O.given out.new) (E.given err.new) steps.new
-        (faults input_faults (O.faults out.new) (E.faults err.new))))
-        (report_with (R.given report.old) (R.faults report.old))
-        (report_with (R.given report.new) (R.faults report.new)) result }
+        (around (F.files store.old) (F.asked store.old) (F.faults store.old) (guest_of left input_faults devices.old steps.old))
+        (around (F.files store.new) (F.asked store.new) (F.faults store.new) (guest_of left input_faults devices.new steps.new))
+        (report_with (R.given report.old) (R.faults report.old)) (report_with (R.given report.new) (R.faults report.new))
+        result }
 {
     let files = match read_batch(alloc, line, store) {
         Ok(files) => files,
-        Err(answer) => return reported(Outcome::of(answer), report),
+        Err(answer) => return reported(Conclusion::of(answer), report),
     };
-    match run_batch(rt, alloc, &line.run, files, out, err, report, gate, steps) {
+    match run_batch(rt, alloc, &line.run, files, devices, report, gate, steps) {
         Ok(()) => Answer::Done(0),
         Err(Answer::ReportFault) => Answer::ReportFault,
-        Err(answer) => reported(Outcome::of(answer), report),
+        Err(answer) => reported(Conclusion::of(answer), report),
     }
 }
 
@@ -88,8 +119,7 @@ fn run_batch<
     alloc: Global,
     line: &RunLine,
     files: BatchFiles,
-    out: &mut O,
-    err: &mut E,
+    devices: &mut Devices<SureSource, O, E>,
     report: &mut R,
     gate: &G,
     steps: &mut Steps<L>,
@@ -99,16 +129,12 @@ fn run_batch<
     requires loads { (image : loader.Image) × (load_of line.now files.image ≡ Ok image) × IsShape image.start.shape }
     requires inputs { (1 ≤ length files.inputs) × (length files.inputs ≤ 64) }
     ensures ended { IfOk result (λ _. (image : loader.Image) → load_of line.now files.image ≡ Ok image
-        → EndsRuns line.now image files.inputs
-        (outputs (O.given out.old) (E.given err.old) steps.old (O.faults out.old) (E.faults err.old))
-        (outputs (O.given out.new) (E.given err.new) steps.new (O.faults out.new) (E.faults err.new))
+        → EndsRuns line.now image files.inputs (outputs devices.old steps.old) (outputs devices.new steps.new)
         (report_with (R.given report.old) (R.faults report.old)) (report_with (R.given report.new) (R.faults report.new))) }
     ensures broken { IfErr result (λ answer. (image : loader.Image) → load_of line.now files.image ≡ Ok image
-        → ((answer ≡ Answer.Memory) × (out.new ≡ out.old) × (err.new ≡ err.old) × (steps.new ≡ steps.old)
+        → ((answer ≡ Answer.Memory) × (devices.new ≡ devices.old) × (steps.new ≡ steps.old)
         × (report.new ≡ report.old))
-        ⊎ BreaksRuns line.now image files.inputs
-        (outputs (O.given out.old) (E.given err.old) steps.old (O.faults out.old) (E.faults err.old))
-        (outputs (O.given out.new) (E.given err.new) steps.new (O.faults out.new) (E.faults err.new))
+        ⊎ BreaksRuns line.now image files.inputs (outputs devices.old steps.old) (outputs devices.new steps.new)
         (report_with (R.given report.old) (R.faults report.old)) (report_with (R.given report.new) (R.faults report.new))
         answer) }
 {
@@ -126,8 +152,7 @@ fn run_batch<
         &image,
         &mut inputs,
         gate,
-        out,
-        err,
+        devices,
         report,
         steps,
     )
@@ -148,8 +173,7 @@ fn run_image<
     image: &Image<'_>,
     inputs: &mut [SureSource],
     gate: &G,
-    out: &mut O,
-    err: &mut E,
+    devices: &mut Devices<SureSource, O, E>,
     report: &mut R,
     steps: &mut Steps<L>,
 ) -> Result<(), Answer>
@@ -157,14 +181,12 @@ fn run_image<
     requires unloaded { line.now.load ≡ None }
     requires shape { IsShape image.now.start.shape }
     requires inputs { (1 ≤ length inputs.old) × (length inputs.old ≤ 64) }
-    ensures ended { IfOk result (λ _. EndsRuns line.now image.now inputs.old
-        (outputs (O.given out.old) (E.given err.old) steps.old (O.faults out.old) (E.faults err.old))
-        (outputs (O.given out.new) (E.given err.new) steps.new (O.faults out.new) (E.faults err.new))
+    ensures ended { IfOk result (λ _. EndsRuns line.now image.now inputs.old (outputs devices.old steps.old)
+        (outputs devices.new steps.new)
         (report_with (R.given report.old) (R.faults report.old)) (report_with (R.given report.new) (R.faults report.new))) }
-    ensures broken { IfErr result (λ answer. ((answer ≡ Answer.Memory) × (out.new ≡ out.old) × (err.new ≡ err.old)
+    ensures broken { IfErr result (λ answer. ((answer ≡ Answer.Memory) × (devices.new ≡ devices.old)
         × (steps.new ≡ steps.old) × (report.new ≡ report.old)) ⊎ BreaksRuns line.now image.now inputs.old
-        (outputs (O.given out.old) (E.given err.old) steps.old (O.faults out.old) (E.faults err.old))
-        (outputs (O.given out.new) (E.given err.new) steps.new (O.faults out.new) (E.faults err.new))
+        (outputs devices.old steps.old) (outputs devices.new steps.new)
         (report_with (R.given report.old) (R.faults report.old)) (report_with (R.given report.new) (R.faults report.new))
         answer) }
 {
@@ -172,7 +194,7 @@ fn run_image<
         return Err(Answer::Memory);
     };
     run_walk(
-        rt, alloc, line, image, &mut walk, inputs, gate, out, err, report, steps,
+        rt, alloc, line, image, &mut walk, inputs, gate, devices, report, steps,
     )
 }
 
@@ -192,8 +214,7 @@ fn run_walk<
     walk: &mut Walk,
     inputs: &mut [SureSource],
     gate: &G,
-    out: &mut O,
-    err: &mut E,
+    devices: &mut Devices<SureSource, O, E>,
     report: &mut R,
     steps: &mut Steps<L>,
 ) -> Result<(), Answer>
@@ -203,14 +224,12 @@ fn run_walk<
     requires walk { walk.old.state.shape ≡ image.now.start.shape }
     requires settings { walk.old.settings ≡ settings_of line.now }
     requires inputs { (1 ≤ length inputs.old) × (length inputs.old ≤ 64) }
-    ensures ended { IfOk result (λ _. EndsRuns line.now image.now inputs.old
-        (outputs (O.given out.old) (E.given err.old) steps.old (O.faults out.old) (E.faults err.old))
-        (outputs (O.given out.new) (E.given err.new) steps.new (O.faults out.new) (E.faults err.new))
+    ensures ended { IfOk result (λ _. EndsRuns line.now image.now inputs.old (outputs devices.old steps.old)
+        (outputs devices.new steps.new)
         (report_with (R.given report.old) (R.faults report.old)) (report_with (R.given report.new) (R.faults report.new))) }
-    ensures broken { IfErr result (λ answer. ((answer ≡ Answer.Memory) × (out.new ≡ out.old) × (err.new ≡ err.old)
+    ensures broken { IfErr result (λ answer. ((answer ≡ Answer.Memory) × (devices.new ≡ devices.old)
         × (steps.new ≡ steps.old) × (report.new ≡ report.old)) ⊎ BreaksRuns line.now image.now inputs.old
-        (outputs (O.given out.old) (E.given err.old) steps.old (O.faults out.old) (E.faults err.old))
-        (outputs (O.given out.new) (E.given err.new) steps.new (O.faults out.new) (E.faults err.new))
+        (outputs devices.old steps.old) (outputs devices.new steps.new)
         (report_with (R.given report.old) (R.faults report.old)) (report_with (R.given report.new) (R.faults report.new))
         answer) }
 {
@@ -226,8 +245,7 @@ fn run_walk<
         &mut runner,
         inputs,
         gate,
-        out,
-        err,
+        devices,
         report,
         steps,
     )
@@ -250,8 +268,7 @@ fn run_inputs<
     runner: &mut Runner<T>,
     inputs: &mut [SureSource],
     gate: &G,
-    out: &mut O,
-    err: &mut E,
+    devices: &mut Devices<SureSource, O, E>,
     report: &mut R,
     steps: &mut Steps<L>,
 ) -> Result<(), Answer>
@@ -260,13 +277,11 @@ fn run_inputs<
     requires settings { walk.old.settings ≡ settings_of line.now }
     requires serves { Serves line.now (length inputs.old) runner.old }
     requires empty { Keeps line.now image.now.start.shape [] runner.old }
-    ensures ended { IfOk result (λ _. EndsRuns line.now image.now inputs.old
-        (outputs (O.given out.old) (E.given err.old) steps.old (O.faults out.old) (E.faults err.old))
-        (outputs (O.given out.new) (E.given err.new) steps.new (O.faults out.new) (E.faults err.new))
+    ensures ended { IfOk result (λ _. EndsRuns line.now image.now inputs.old (outputs devices.old steps.old)
+        (outputs devices.new steps.new)
         (report_with (R.given report.old) (R.faults report.old)) (report_with (R.given report.new) (R.faults report.new))) }
-    ensures broken { IfErr result (BreaksRuns line.now image.now inputs.old
-        (outputs (O.given out.old) (E.given err.old) steps.old (O.faults out.old) (E.faults err.old))
-        (outputs (O.given out.new) (E.given err.new) steps.new (O.faults out.new) (E.faults err.new))
+    ensures broken { IfErr result (BreaksRuns line.now image.now inputs.old (outputs devices.old steps.old)
+        (outputs devices.new steps.new)
         (report_with (R.given report.old) (R.faults report.old)) (report_with (R.given report.new) (R.faults report.new))) }
 {
     for number in 0..inputs.len() {
@@ -280,8 +295,7 @@ fn run_inputs<
             number,
             &mut inputs[number],
             gate,
-            out,
-            err,
+            devices,
             report,
             steps,
         )?;
@@ -307,8 +321,7 @@ fn run_input<
     number: usize,
     input: &mut SureSource,
     gate: &G,
-    out: &mut O,
-    err: &mut E,
+    devices: &mut Devices<SureSource, O, E>,
     report: &mut R,
     steps: &mut Steps<L>,
 ) -> Result<(), Answer>
@@ -320,38 +333,37 @@ fn run_input<
     ensures settings { walk.new.settings ≡ settings_of line.now }
     ensures serves { (runs : ℕ) → Serves line.now (runs + 1) runner.old → Serves line.now runs runner.new }
     ensures ended { IfOk result (λ _. ReportsRun line.now image.now number input.old
-        runner.old runner.new
-        (outputs (O.given out.old) (E.given err.old) steps.old (O.faults out.old) (E.faults err.old))
-        (outputs (O.given out.new) (E.given err.new) steps.new (O.faults out.new) (E.faults err.new))
+        runner.old runner.new (outputs devices.old steps.old) (outputs devices.new steps.new)
         (report_with (R.given report.old) (R.faults report.old)) (report_with (R.given report.new) (R.faults report.new))) }
     ensures broken { IfErr result (BreaksOff line.now image.now number input.old
-        runner.old runner.new
-        (outputs (O.given out.old) (E.given err.old) steps.old (O.faults out.old) (E.faults err.old))
-        (outputs (O.given out.new) (E.given err.new) steps.new (O.faults out.new) (E.faults err.new))
+        runner.old runner.new (outputs devices.old steps.old) (outputs devices.new steps.new)
         (report_with (R.given report.old) (R.faults report.old)) (report_with (R.given report.new) (R.faults report.new))) }
 {
     walk.again(image);
-    let outcome = runner.run(rt, alloc, line, walk, gate, input, out, err, steps);
-    let Some(run) = told_of(number, &outcome, walk.counts().count) else {
-        return Err(outcome.answer);
+    devices.swap_input(input);
+    let conclusion = runner.run(rt, alloc, line, walk, gate, devices, steps);
+    // That its input never fails.
+    let _ = devices.input();
+    let Some(run) = told_of(number, &conclusion, walk.count()) else {
+        return Err(conclusion.answer);
     };
     report_run(&run, report)
 }
 
 /// What is told of a run of a batch, which has this number and counts so many steps. There is nothing where a device failed
 /// under the guest.
-fn told_of(number: usize, outcome: &Outcome, steps: u64) -> Option<BatchRun>
-    requires { (ended : Ended) × (outcome.now.answer ≡ answer_at ended steps) }
+fn told_of(number: usize, conclusion: &Conclusion, steps: u64) -> Option<BatchRun>
+    requires { (ended : Ended) × (conclusion.now.answer ≡ answer_at ended steps) }
     ensures told { IfSome result (λ run. (run ≡ record {
       number = number;
       end = run.end;
       steps = steps;
-      counts = outcome.now.counts;
-      workers = outcome.now.workers;
-    }) × (answer_of run.end steps ≡ outcome.now.answer)) }
-    ensures none { IfNone result ((device : Device) × (device_of_answer outcome.now.answer ≡ Some device)) }
+      counts = conclusion.now.counts;
+      workers = conclusion.now.workers;
+    }) × (answer_of run.end steps ≡ conclusion.now.answer)) }
+    ensures none { IfNone result ((device : Device) × (device_of_answer conclusion.now.answer ≡ Some device)) }
 {
-    let end = match outcome.answer {
+    let end = match conclusion.answer {
         Answer::Exit(code) => RunEnd::Exit(code),
         Answer::Limit(_) => RunEnd::Limit,
         Answer::Fault(fault, _) => RunEnd::Fault(fault),
@@ -361,8 +373,8 @@ fn told_of(number: usize, outcome: &Outcome, steps: u64) -> Option<BatchRun>
         number,
         end,
         steps,
-        counts: outcome.counts,
-        workers: outcome.workers,
+        counts: conclusion.counts,
+        workers: conclusion.workers,
     })
 }
 

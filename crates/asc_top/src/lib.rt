@@ -3,6 +3,7 @@
 
 mod batch;
 mod batch_files;
+mod guest;
 mod make;
 mod numbers;
 mod opened;
@@ -14,6 +15,5 @@ mod save;
 mod settings;
 mod trial;
 
-pub use asc_words::{Answer, Bad, Line, Outcome, SavedFault};
-pub use program::{outcome_alone, reported, top};
+pub use program::{conclusion_alone, reported, top};
 pub use settings::{guessing_of, visited_settings};

@@ -5,7 +5,8 @@ ghost use Rattle.asc_top.specs.Numbers.{counts_of, reported_at};
 ghost use Rattle.asc_top.specs.Workers.{workers_of};
 
 use asc_live::Worked;
-use asc_run::{Counts as WalkCounts, Ended};
+use asc_model::RunCounts;
+use asc_run::Ended;
 use asc_words::{Answer, Counts, WorkerCounts};
 
 /// The answer of a run that ended so after `count` steps.
@@ -33,14 +34,11 @@ pub(crate) fn reported_at<T: Copy>(is_asked: bool, ended: Ended, told: T) -> Opt
 }
 
 /// The numbers of a walk, beside how many guesses were made and how often memory was wanting.
-pub(crate) fn counts_of(walk: WalkCounts, made: u64, refused: u64) -> Counts
+pub(crate) fn counts_of(walk: RunCounts, made: u64, refused: u64) -> Counts
     ensures { result ≡ counts_of walk made refused }
 {
     Counts {
-        executed: walk.executed,
-        skipped: walk.skipped,
-        asked: walk.asked,
-        hits: walk.hits,
+        run: walk,
         made,
         refused,
     }
@@ -50,15 +48,9 @@ pub(crate) fn counts_of(walk: WalkCounts, made: u64, refused: u64) -> Counts
 pub(crate) fn workers_of(worked: &Worked) -> WorkerCounts
     ensures { result ≡ workers_of worked.now }
 {
-    let tally = worked.taken.tally;
     WorkerCounts {
-        ran: tally.ran,
+        tally: worked.taken.tally,
         left: worked.taken.left,
-        stored: tally.stored,
-        known: tally.known,
-        empty: tally.empty,
-        dropped: tally.dropped,
-        stopped: tally.stopped,
         full: worked.full,
     }
 }

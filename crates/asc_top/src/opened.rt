@@ -3,11 +3,11 @@ ghost use Rattle.std.specs.Prelude.{◌≡◌, ◌≢◌, ◌⊎◌, ◌≤◌, 
 ghost use Rattle.std.specs.Arc.{arc_value};
 ghost use Rattle.asc_calls.specs.World.{Outside};
 ghost use Rattle.asc_run.specs.Visits.{HasBounds};
-ghost use Rattle.asc_words.specs.Answer.{outcome_of};
+ghost use Rattle.asc_words.specs.Answer.{conclusion_of};
 ghost use Rattle.asc_words.specs.Line.{IsRunWithin, file_limit};
 ghost use Rattle.asc_top.specs.Program.{entries_for};
 ghost use Rattle.asc_top.specs.Ran.{HasNoWalk, IsNoEntries, IsNoRun, IsRead, IsRefused, IsTooLong, IsWalkOf, Opens};
-ghost use Rattle.asc_top.specs.Answered.{IsAnswerFor, devices};
+ghost use Rattle.asc_top.specs.Answered.{IsAnswerFor, around};
 
 use crate::settings::settings_of;
 use asc_elf::read;
@@ -35,8 +35,8 @@ pub(crate) fn open<F: Store>(alloc: Global, line: &RunLine, store: &mut F) -> Re
         (F.files store.new) (F.asked store.new) (F.faults store.new)) }
     ensures new { IfOk result (λ opened. IsNone opened.walk.ended) }
     ensures unopened { IfErr result (λ answer. (guest : Outside) → IsAnswerFor (Ok (Line.Run line.now))
-        (devices (F.files store.old) (F.asked store.old) (F.faults store.old) guest)
-        (devices (F.files store.new) (F.asked store.new) (F.faults store.new) guest) (outcome_of answer)) }
+        (around (F.files store.old) (F.asked store.old) (F.faults store.old) guest)
+        (around (F.files store.new) (F.asked store.new) (F.faults store.new) guest) (conclusion_of answer)) }
 {
     let walk = walk_in(alloc, line, settings_of(line), store)?;
     match &line.load {
@@ -62,8 +62,7 @@ pub(crate) fn walk_in<F: Store>(
     requires limit { settings.limit ≤ 2 ^ 40 }
     requires bounds { HasBounds settings.recognised }
     ensures walk { IfOk result (λ walk. (content : List ℕ) × IsWalkOf line.now settings content walk
-        × IsRead line.now.image content
-        (F.files store.old) (F.asked store.old) (F.faults store.old)
+        × IsRead line.now.image content (F.files store.old) (F.asked store.old) (F.faults store.old)
         (F.files store.new) (F.asked store.new) (F.faults store.new)) }
     ensures new { IfOk result (λ walk. IsNone walk.ended) }
     ensures none { IfErr result (λ answer. IsRefused line.now.image (IsNoRun line.now) answer

@@ -1,9 +1,9 @@
 ghost use Rattle.std.specs.Prelude.{◌≡◌, ◌≢◌, ◌||◌, map, true, false, Ok, IfOk, IfErr};
 ghost use Rattle.std.specs.String.{string_bytes};
-ghost use Rattle.asc_calls.specs.World.{faults, outside};
+ghost use Rattle.asc_calls.specs.World.{outside_of};
 ghost use Rattle.asc_words.specs.Line.{line_of, IsWithin};
 ghost use Rattle.asc_top.specs.Numbers.{asks_for_threads, is_batch};
-ghost use Rattle.asc_top.specs.Answered.{Headline, IsAnswerFor, IsAnswerTo, devices};
+ghost use Rattle.asc_top.specs.Answered.{Headline, IsAnswerFor, IsAnswerTo, around};
 ghost use Rattle.asc_top.specs.Reported.{IsReported, report_with};
 ghost use Rattle.asc_top.specs.Shown.{IsShownFor};
 
@@ -12,16 +12,17 @@ use crate::make::make;
 use crate::run::{run_alone, run_beside};
 use crate::save::save;
 use crate::trial::{trial_alone, trial_beside};
+use asc_calls::Devices;
 use asc_outside::{Failed, Gate, Sink, Source, Store, put_all};
 use asc_shape::Steps;
-use asc_words::{Answer, Line, Outcome, parse, text};
+use asc_words::{Answer, Conclusion, Line, parse, text};
 use std::alloc::Global;
 use std::sync::Wait;
 use std::sync::ledger::Ledger;
 use std::thread::Threads;
 
 /// Does what the words of a command line ask for, over the outside that is handed in, and puts the line of the answer to
-/// report.
+/// report. It gives the devices back.
 ///
 /// The words are the program's own name, a subcommand and its arguments (`asc_words::parse`):
 ///
@@ -58,38 +59,28 @@ pub fn top<
     alloc: Global,
     words: &[String],
     store: &mut F,
-    input: &mut I,
-    out: &mut O,
-    err: &mut E,
+    devices: Devices<I, O, E>,
     report: &mut R,
     gate: &G,
     steps: &mut Steps<L>,
-) -> Answer
+) -> (Answer, Devices<I, O, E>)
     // The headline. Where what the words ask for is told, no device fails and no memory is wanting, all that comes of it
     // is what the definitions say.
     ensures headline { Headline (line_of (map string_bytes words.now))
-        (devices (F.files store.old) (F.asked store.old) (F.faults store.old)
-        (outside (I.left input.old) (O.given out.old) (E.given err.old) steps.old
-        (faults (I.faults input.old) (O.faults out.old) (E.faults err.old))))
-        (devices (F.files store.new) (F.asked store.new) (F.faults store.new)
-        (outside (I.left input.new) (O.given out.new) (E.given err.new) steps.new
-        (faults (I.faults input.new) (O.faults out.new) (E.faults err.new)))) result }
+        (around (F.files store.old) (F.asked store.old) (F.faults store.old) (outside_of devices steps.old))
+        (around (F.files store.new) (F.asked store.new) (F.faults store.new) (outside_of result.1 steps.new)) result.0 }
 
-    // There is an outcome of which all holds that an answer to these words promises, and its text was put to report:
+    // There is a conclusion of which all holds that an answer to these words promises, and its text was put to report:
     // its answer is the result. Or report failed, and the result is ReportFault. A batch puts the lines of its runs before.
     ensures answer { IsShownFor (line_of (map string_bytes words.now))
-        (devices (F.files store.old) (F.asked store.old) (F.faults store.old)
-        (outside (I.left input.old) (O.given out.old) (E.given err.old) steps.old
-        (faults (I.faults input.old) (O.faults out.old) (E.faults err.old))))
-        (devices (F.files store.new) (F.asked store.new) (F.faults store.new)
-        (outside (I.left input.new) (O.given out.new) (E.given err.new) steps.new
-        (faults (I.faults input.new) (O.faults out.new) (E.faults err.new))))
-        (report_with (R.given report.old) (R.faults report.old))
-        (report_with (R.given report.new) (R.faults report.new)) result }
+        (around (F.files store.old) (F.asked store.old) (F.faults store.old) (outside_of devices steps.old))
+        (around (F.files store.new) (F.asked store.new) (F.faults store.new) (outside_of result.1 steps.new))
+        (report_with (R.given report.old) (R.faults report.old)) (report_with (R.given report.new) (R.faults report.new)) result.0 }
 {
-    match outcome_alone(alloc, words, store, input, out, err, steps) {
-        Ok(outcome) => reported(outcome, report),
-        Err(line) => answer_of_line(rt, alloc, line, store, input, out, err, report, gate, steps),
+    let mut devices = devices;
+    match conclusion_alone(alloc, words, store, &mut devices, steps) {
+        Ok(conclusion) => (reported(conclusion, report), devices),
+        Err(line) => answer_of_line(rt, alloc, line, store, devices, report, gate, steps),
     }
 }
 
@@ -108,45 +99,47 @@ fn answer_of_line<
     alloc: Global,
     line: Line,
     store: &mut F,
-    input: &mut I,
-    out: &mut O,
-    err: &mut E,
+    devices: Devices<I, O, E>,
     report: &mut R,
     gate: &G,
     steps: &mut Steps<L>,
-) -> Answer
+) -> (Answer, Devices<I, O, E>)
     requires within { IsWithin line }
     requires some { (asks_for_threads line || is_batch line) ≡ true }
     ensures { IsShownFor (Ok line)
-        (devices (F.files store.old) (F.asked store.old) (F.faults store.old)
-        (outside (I.left input.old) (O.given out.old) (E.given err.old) steps.old
-        (faults (I.faults input.old) (O.faults out.old) (E.faults err.old))))
-        (devices (F.files store.new) (F.asked store.new) (F.faults store.new)
-        (outside (I.left input.new) (O.given out.new) (E.given err.new) steps.new
-        (faults (I.faults input.new) (O.faults out.new) (E.faults err.new))))
-        (report_with (R.given report.old) (R.faults report.old))
-        (report_with (R.given report.new) (R.faults report.new)) result }
+        (around (F.files store.old) (F.asked store.old) (F.faults store.old) (outside_of devices steps.old))
+        (around (F.files store.new) (F.asked store.new) (F.faults store.new) (outside_of result.1 steps.new))
+        (report_with (R.given report.old) (R.faults report.old)) (report_with (R.given report.new) (R.faults report.new)) result.0 }
 {
     match line {
-        Line::Batch(line) => batch(rt, alloc, &line, store, out, err, report, gate, steps),
-        line => reported(
-            outcome_of_beside(rt, alloc, line, store, input, out, err, gate, steps),
-            report,
-        ),
+        Line::Batch(line) => batch(rt, alloc, &line, store, devices, report, gate, steps),
+        line => {
+            let mut devices = devices;
+            let conclusion = conclusion_of_beside(
+                rt,
+                alloc,
+                line,
+                store,
+                &mut devices,
+                gate,
+                steps,
+            );
+            (reported(conclusion, report), devices)
+        }
     }
 }
 
-/// Puts an outcome's text to report, and gives its answer, or ReportFault where report fails. Where there is no text
+/// Puts a conclusion's text to report, and gives its answer, or ReportFault where report fails. Where there is no text
 /// report isn't asked. No allocator is handed in.
-pub fn reported<R: Sink>(outcome: Outcome, report: &mut R) -> Answer
-    requires { outcome.answer ≢ Answer.ReportFault }
-    ensures { IsReported (report_with (R.given report.old) (R.faults report.old))
-        (report_with (R.given report.new) (R.faults report.new)) outcome result }
+pub fn reported<R: Sink>(conclusion: Conclusion, report: &mut R) -> Answer
+    requires { conclusion.answer ≢ Answer.ReportFault }
+    ensures { IsReported
+        (report_with (R.given report.old) (R.faults report.old)) (report_with (R.given report.new) (R.faults report.new)) conclusion result }
 {
     let mut room = [0; 512];
-    let length = text(&outcome, &mut room);
+    let length = text(&conclusion, &mut room);
     match put_all(report, &room[..length]) {
-        Ok(()) => outcome.answer,
+        Ok(()) => conclusion.answer,
         Err(Failed) => Answer::ReportFault,
     }
 }
@@ -155,36 +148,29 @@ pub fn reported<R: Sink>(outcome: Outcome, report: &mut R) -> Answer
 /// without workers, saved entries or a generated image, or they are wrong. It starts no thread and waits for none.
 ///
 /// Where the words ask for workers, beside the run or in rounds, or for a batch, it answers the line, and nothing was done.
-pub fn outcome_alone<F: Store, I: Source, O: Sink, E: Sink, L: Ledger>(
+pub fn conclusion_alone<F: Store, I: Source, O: Sink, E: Sink, L: Ledger>(
     alloc: Global,
     words: &[String],
     store: &mut F,
-    input: &mut I,
-    out: &mut O,
-    err: &mut E,
+    devices: &mut Devices<I, O, E>,
     steps: &mut Steps<L>,
-) -> Result<Outcome, Line>
-    // All holds of the outcome that an answer to these words promises.
+) -> Result<Conclusion, Line>
+    // All holds of the conclusion that an answer to these words promises.
     ensures alone { IfOk result (IsAnswerTo (map string_bytes words.now)
-        (devices (F.files store.old) (F.asked store.old) (F.faults store.old)
-        (outside (I.left input.old) (O.given out.old) (E.given err.old) steps.old
-        (faults (I.faults input.old) (O.faults out.old) (E.faults err.old))))
-        (devices (F.files store.new) (F.asked store.new) (F.faults store.new)
-        (outside (I.left input.new) (O.given out.new) (E.given err.new) steps.new
-        (faults (I.faults input.new) (O.faults out.new) (E.faults err.new))))) }
+        (around (F.files store.old) (F.asked store.old) (F.faults store.old) (outside_of devices.old steps.old))
+        (around (F.files store.new) (F.asked store.new) (F.faults store.new) (outside_of devices.new steps.new))) }
 
     // Or the words are a line that asks for threads, or a batch's, its numbers are within their bounds, and nothing was
     // done.
     ensures beside { IfErr result (λ line. (line_of (map string_bytes words.now) ≡ Ok line)
         × ((asks_for_threads line || is_batch line) ≡ true)) }
     ensures within { IfErr result IsWithin }
-    ensures nothing { IfErr result (λ _. (store.new ≡ store.old) × (input.new ≡ input.old) × (out.new ≡ out.old)
-        × (err.new ≡ err.old) × (steps.new ≡ steps.old)) }
+    ensures nothing { IfErr result (λ _. (store.new ≡ store.old) × (devices.new ≡ devices.old) × (steps.new ≡ steps.old)) }
 {
     match parse(alloc, words) {
-        Err(fault) => Ok(Outcome::of(Answer::from(fault))),
+        Err(fault) => Ok(Conclusion::of(Answer::from(fault))),
         Ok(line) if asks_for_threads(&line) || is_batch(&line) => Err(line),
-        Ok(line) => Ok(outcome_of_alone(alloc, line, store, input, out, err, steps)),
+        Ok(line) => Ok(conclusion_of_alone(alloc, line, store, devices, steps)),
     }
 }
 
@@ -208,37 +194,31 @@ fn is_batch(line: &Line) -> bool
 }
 
 /// What a line comes to that asks for no thread, before it is reported.
-fn outcome_of_alone<F: Store, I: Source, O: Sink, E: Sink, L: Ledger>(
+fn conclusion_of_alone<F: Store, I: Source, O: Sink, E: Sink, L: Ledger>(
     alloc: Global,
     line: Line,
     store: &mut F,
-    input: &mut I,
-    out: &mut O,
-    err: &mut E,
+    devices: &mut Devices<I, O, E>,
     steps: &mut Steps<L>,
-) -> Outcome
+) -> Conclusion
     requires within { IsWithin line }
     requires none { asks_for_threads line ≡ false }
     requires one { is_batch line ≡ false }
     ensures { IsAnswerFor (Ok line)
-        (devices (F.files store.old) (F.asked store.old) (F.faults store.old)
-        (outside (I.left input.old) (O.given out.old) (E.given err.old) steps.old
-        (faults (I.faults input.old) (O.faults out.old) (E.faults err.old))))
-        (devices (F.files store.new) (F.asked store.new) (F.faults store.new)
-        (outside (I.left input.new) (O.given out.new) (E.given err.new) steps.new
-        (faults (I.faults input.new) (O.faults out.new) (E.faults err.new)))) result }
+        (around (F.files store.old) (F.asked store.old) (F.faults store.old) (outside_of devices.old steps.old))
+        (around (F.files store.new) (F.asked store.new) (F.faults store.new) (outside_of devices.new steps.new)) result }
 {
     match line {
-        Line::Run(line) => run_alone(alloc, &line, store, input, out, err, steps),
-        Line::Save(line) => save(alloc, &line, store, out, steps),
-        Line::Make { n } => make(alloc, n, out),
-        Line::Trial { n, .. } => trial_alone(alloc, n, out, steps),
+        Line::Run(line) => run_alone(alloc, &line, store, devices, steps),
+        Line::Save(line) => save(alloc, &line, store, devices.out_mut(), steps),
+        Line::Make { n } => make(alloc, n, devices.out_mut()),
+        Line::Trial { n, .. } => trial_alone(alloc, n, devices.out_mut(), steps),
         Line::Batch(_) => unreachable!(),
     }
 }
 
 /// What a line comes to that asks for threads, before it is reported.
-fn outcome_of_beside<
+fn conclusion_of_beside<
     T: Threads + Wait + Sync + Copy + Drop + Send,
     F: Store,
     I: Source,
@@ -251,28 +231,22 @@ fn outcome_of_beside<
     alloc: Global,
     line: Line,
     store: &mut F,
-    input: &mut I,
-    out: &mut O,
-    err: &mut E,
+    devices: &mut Devices<I, O, E>,
     gate: &G,
     steps: &mut Steps<L>,
-) -> Outcome
+) -> Conclusion
     requires within { IsWithin line }
     requires some { asks_for_threads line ≡ true }
     requires one { is_batch line ≡ false }
     ensures { IsAnswerFor (Ok line)
-        (devices (F.files store.old) (F.asked store.old) (F.faults store.old)
-        (outside (I.left input.old) (O.given out.old) (E.given err.old) steps.old
-        (faults (I.faults input.old) (O.faults out.old) (E.faults err.old))))
-        (devices (F.files store.new) (F.asked store.new) (F.faults store.new)
-        (outside (I.left input.new) (O.given out.new) (E.given err.new) steps.new
-        (faults (I.faults input.new) (O.faults out.new) (E.faults err.new)))) result }
+        (around (F.files store.old) (F.asked store.old) (F.faults store.old) (outside_of devices.old steps.old))
+        (around (F.files store.new) (F.asked store.new) (F.faults store.new) (outside_of devices.new steps.new)) result }
 {
     match line {
-        Line::Run(line) => run_beside(rt, alloc, &line, store, input, out, err, gate, steps),
+        Line::Run(line) => run_beside(rt, alloc, &line, store, devices, gate, steps),
         Line::Save(_) | Line::Make { .. } | Line::Batch(_) => unreachable!(),
         Line::Trial { n, workers, lanes } => {
-            trial_beside(rt, alloc, n, workers, lanes, out, gate, steps)
+            trial_beside(rt, alloc, n, workers, lanes, devices.out_mut(), gate, steps)
         }
     }
 }

@@ -1,7 +1,7 @@
 //! Runs in threads: with workers beside the walk, or in rounds.
 ghost use Rattle.std.specs.Prelude.{◌≡◌, ◌+◌, ◌^◌, ◌<◌, ◌≤◌, map, IfOk, IsNone, None};
 ghost use Rattle.std.specs.Arc.{arc_value};
-ghost use Rattle.asc_calls.specs.World.{faults, outside};
+ghost use Rattle.asc_calls.specs.World.{outside_of};
 ghost use Rattle.asc_run.specs.Helped.{HasRoom};
 ghost use Rattle.asc_run.specs.VisitedBy.{IsVisit, MayVisit};
 ghost use Rattle.asc_run.specs.declared.last_visits.TheConstants.{MOST_AHEAD};
@@ -10,15 +10,16 @@ ghost use Rattle.asc_words.specs.Line.{IsRunWithin};
 ghost use Rattle.asc_top.specs.Program.{Files};
 ghost use Rattle.asc_top.specs.Ran.{AreOpened, IsThreaded, Ran, Walked, loaded_helper};
 
-use crate::run::{helper_with, outcome_at, walk_alone, walk_beside};
+use crate::run::{conclusion_at, helper_with, walk_alone, walk_beside};
 use crate::settings::{guessing_of, keeps_entries};
+use asc_calls::Devices;
 use asc_find::Guessing;
 use asc_live::Rounds;
 use asc_outside::{Gate, Memory, Sink, Source};
 use asc_run::Walk;
 use asc_shape::{Shape, State, Steps};
 use asc_traj::Entry;
-use asc_words::{Answer, Outcome, RunLine};
+use asc_words::{Answer, Conclusion, RunLine};
 use asc_work::Lanes;
 use std::alloc::Global;
 use std::sync::ledger::Ledger;
@@ -45,25 +46,18 @@ pub(crate) fn walk_in_threads<
     walk: &mut Walk,
     first: &[Arc<Entry>],
     gate: &G,
-    input: &mut I,
-    out: &mut O,
-    err: &mut E,
+    devices: &mut Devices<I, O, E>,
     steps: &mut Steps<L>,
-) -> Outcome
+) -> Conclusion
     requires new { IsNone walk.old.ended }
     requires line { IsRunWithin line.now }
     requires threads { IsThreaded line.now.workers lanes }
     ensures { (files : Files) → AreOpened line.now files walk.old (map arc_value first.now) → Ran
-        (outside (I.left input.old) (O.given out.old) (E.given err.old) steps.old
-        (faults (I.faults input.old) (O.faults out.old) (E.faults err.old)))
-        (outside (I.left input.new) (O.given out.new) (E.given err.new) steps.new
-        (faults (I.faults input.new) (O.faults out.new) (E.faults err.new))) line.now files result }
+        (outside_of devices.old steps.old) (outside_of devices.new steps.new) line.now files result }
 {
     match lanes {
-        0 => walk_beside(rt, alloc, line, walk, first, gate, input, out, err, steps),
-        lanes => walk_in_rounds(
-            rt, alloc, line, lanes, walk, first, gate, input, out, err, steps,
-        ),
+        0 => walk_beside(rt, alloc, line, walk, first, gate, devices, steps),
+        lanes => walk_in_rounds(rt, alloc, line, lanes, walk, first, gate, devices, steps),
     }
 }
 
@@ -79,24 +73,19 @@ fn walk_in_rounds<T: Threads + Sync, G: Gate + Sync, I: Source, O: Sink, E: Sink
     walk: &mut Walk,
     first: &[Arc<Entry>],
     gate: &G,
-    input: &mut I,
-    out: &mut O,
-    err: &mut E,
+    devices: &mut Devices<I, O, E>,
     steps: &mut Steps<L>,
-) -> Outcome
+) -> Conclusion
     requires new { IsNone walk.old.ended }
     requires line { IsRunWithin line.now }
     requires none { line.now.workers ≡ 0 }
     requires some { 1 ≤ lanes }
     requires few { lanes ≤ 64 }
     ensures { (files : Files) → AreOpened line.now files walk.old (map arc_value first.now) → Ran
-        (outside (I.left input.old) (O.given out.old) (E.given err.old) steps.old
-        (faults (I.faults input.old) (O.faults out.old) (E.faults err.old)))
-        (outside (I.left input.new) (O.given out.new) (E.given err.new) steps.new
-        (faults (I.faults input.new) (O.faults out.new) (E.faults err.new))) line.now files result }
+        (outside_of devices.old steps.old) (outside_of devices.new steps.new) line.now files result }
 {
     if !keeps_entries(line) {
-        return walk_alone(alloc, line, walk, first, input, out, err, steps);
+        return walk_alone(alloc, line, walk, first, devices, steps);
     }
     match rounds_with(
         alloc,
@@ -105,18 +94,8 @@ fn walk_in_rounds<T: Threads + Sync, G: Gate + Sync, I: Source, O: Sink, E: Sink
         lanes_beside(lanes),
         first,
     ) {
-        Ok(mut rounds) => go_in_rounds(
-            rt,
-            line.report,
-            walk,
-            &mut rounds,
-            gate,
-            input,
-            out,
-            err,
-            steps,
-        ),
-        Err(Memory) => Outcome::of(Answer::Memory),
+        Ok(mut rounds) => go_in_rounds(rt, line.report, walk, &mut rounds, gate, devices, steps),
+        Err(Memory) => Conclusion::of(Answer::Memory),
     }
 }
 
@@ -127,28 +106,23 @@ fn go_in_rounds<T: Threads + Sync, G: Gate + Sync, I: Source, O: Sink, E: Sink, 
     walk: &mut Walk,
     rounds: &mut Rounds,
     gate: &G,
-    input: &mut I,
-    out: &mut O,
-    err: &mut E,
+    devices: &mut Devices<I, O, E>,
     steps: &mut Steps<L>,
-) -> Outcome
+) -> Conclusion
     requires new { IsNone walk.old.ended }
     requires room { HasRoom (2 ^ 61) (told_by rounds.old) }
-    ensures { Walked is_asked walk.old walk.new
-        (outside (I.left input.old) (O.given out.old) (E.given err.old) steps.old
-        (faults (I.faults input.old) (O.faults out.old) (E.faults err.old)))
-        (outside (I.left input.new) (O.given out.new) (E.given err.new) steps.new
-        (faults (I.faults input.new) (O.faults out.new) (E.faults err.new)))
+    ensures { Walked is_asked walk.old walk.new (outside_of devices.old steps.old) (outside_of devices.new steps.new)
         (told_by rounds.old) (told_by rounds.new) None result }
 {
     let visit = |rounds: &mut Rounds, state: &mut State, number: u64|
         requires { MayVisit number (told_by rounds.now) }
         ensures { IsVisit number state.entry.now state.exit.now (told_by rounds.entry.now) (told_by rounds.exit.now) }
     { rounds.visit(rt, state, number, gate) };
-    let ended = walk.go_by(rounds, &visit, input, out, err, steps);
-    outcome_at(
+    let ended = walk.go_by(rounds, &visit, devices, steps);
+    conclusion_at(
         is_asked,
         ended,
+        walk.count(),
         walk.counts(),
         rounds.made(),
         rounds.refused(),

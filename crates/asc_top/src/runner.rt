@@ -1,17 +1,18 @@
 //! What serves the runs of a batch, one after the other.
 ghost use Rattle.std.specs.Prelude.{◌≡◌, ◌+◌, ◌≤◌, ℕ, [], IfOk, IsNone, None};
-ghost use Rattle.asc_calls.specs.World.{faults, outside};
+ghost use Rattle.asc_calls.specs.World.{outside_of};
 ghost use Rattle.asc_words.specs.Line.{IsRunWithin};
 ghost use Rattle.asc_top.specs.Runner.{Keeps, RunsOnce, Serves};
 
-use crate::run::{run_with, worked_outcome};
+use crate::run::{run_with, worked_conclusion};
 use crate::settings::{crew_of, guessing_of, keeps_entries};
-use asc_find::Nothing;
+use asc_calls::Devices;
+use asc_find::{Bare, Nothing};
 use asc_live::OpenCrew;
 use asc_outside::{Gate, Memory, Sink, Source};
-use asc_run::{Bare, Serial, Walk};
+use asc_run::{Serial, Walk};
 use asc_shape::{Shape, Steps};
-use asc_words::{Outcome, RunLine};
+use asc_words::{Conclusion, RunLine};
 use std::alloc::Global;
 use std::sync::Wait;
 use std::sync::ledger::Ledger;
@@ -64,33 +65,28 @@ impl<T: Threads + Wait + Sync + Copy + Drop + Send> Runner<T> {
         line: &RunLine,
         walk: &mut Walk,
         gate: &G,
-        input: &mut I,
-        out: &mut O,
-        err: &mut E,
+        devices: &mut Devices<I, O, E>,
         steps: &mut Steps<L>,
-    ) -> Outcome
+    ) -> Conclusion
         requires new { IsNone walk.old.ended }
         requires line { IsRunWithin line.now }
         requires serves { (runs : ℕ) × Serves line.now (runs + 1) self.old }
         ensures serves { (runs : ℕ) → Serves line.now (runs + 1) self.old → Serves line.now runs self.new }
-        ensures runs { RunsOnce line.now walk.old walk.new self.old self.new
-            (outside (I.left input.old) (O.given out.old) (E.given err.old) steps.old
-            (faults (I.faults input.old) (O.faults out.old) (E.faults err.old)))
-            (outside (I.left input.new) (O.given out.new) (E.given err.new) steps.new
-            (faults (I.faults input.new) (O.faults out.new) (E.faults err.new))) result }
+        ensures runs { RunsOnce line.now walk.old walk.new self.old self.new (outside_of devices.old steps.old)
+            (outside_of devices.new steps.new) result }
     {
         match self {
             Runner::Plain => {
                 let mut helper = Bare::new(Nothing::new());
-                run_with(line.report, walk, &mut helper, input, out, err, steps)
+                run_with(line.report, walk, &mut helper, devices, steps)
             }
             Runner::Alone(helper) => {
                 helper.begin();
-                run_with(line.report, walk, helper, input, out, err, steps)
+                run_with(line.report, walk, helper, devices, steps)
             }
             Runner::Beside(crew) => {
-                let worked = crew.go(rt, alloc, walk, gate, input, out, err, steps);
-                worked_outcome(line.report, walk.counts(), &worked)
+                let worked = crew.go(rt, alloc, walk, gate, devices, steps);
+                worked_conclusion(line.report, walk.count(), walk.counts(), &worked)
             }
         }
     }

@@ -6,16 +6,18 @@ ghost use Rattle.asc_words.specs.Line.{IsRunWithin, file_limit};
 ghost use Rattle.asc_top.specs.Numbers.{visited_settings};
 ghost use Rattle.asc_top.specs.Ran.{IsWalkOf};
 ghost use Rattle.asc_top.specs.Saves.{EndsSave};
-ghost use Rattle.asc_top.specs.Answered.{IsAnswerFor, devices};
+ghost use Rattle.asc_top.specs.Answered.{IsAnswerFor, around};
 
+use crate::guest::no_devices;
 use crate::opened::walk_in;
 use crate::run::run_with;
 use crate::settings::{guessing_of, visited_settings};
-use asc_outside::{CountSink, Failed, Sink, Store, SureSource};
-use asc_run::{Helper, Serial, Walk};
+use asc_find::Helper;
+use asc_outside::{Failed, Sink, Store};
+use asc_run::{Serial, Walk};
 use asc_save::write;
 use asc_shape::Steps;
-use asc_words::{Answer, Line, Outcome, RunLine};
+use asc_words::{Answer, Conclusion, Line, RunLine};
 use std::alloc::Global;
 use std::sync::ledger::Ledger;
 
@@ -27,18 +29,18 @@ pub(crate) fn save<F: Store, O: Sink, L: Ledger>(
     store: &mut F,
     out: &mut O,
     steps: &mut Steps<L>,
-) -> Outcome
+) -> Conclusion
     requires { IsRunWithin line.now }
     ensures { (left : Option (List ℕ)) (err : Given) (input_faults err_faults : ℕ)
         → IsAnswerFor (Ok (Line.Save line.now))
-        (devices (F.files store.old) (F.asked store.old) (F.faults store.old)
+        (around (F.files store.old) (F.asked store.old) (F.faults store.old)
         (outside left (O.given out.old) err steps.old (faults input_faults (O.faults out.old) err_faults)))
-        (devices (F.files store.new) (F.asked store.new) (F.faults store.new)
+        (around (F.files store.new) (F.asked store.new) (F.faults store.new)
         (outside left (O.given out.new) err steps.new (faults input_faults (O.faults out.new) err_faults))) result }
 {
     match walk_in(alloc, line, visited_settings(line), store) {
-        Ok(mut walk) => Outcome::of(save_walk(alloc, line, &mut walk, out, steps)),
-        Err(answer) => Outcome::of(answer),
+        Ok(mut walk) => Conclusion::of(save_walk(alloc, line, &mut walk, out, steps)),
+        Err(answer) => Conclusion::of(answer),
     }
 }
 
@@ -61,19 +63,11 @@ fn save_walk<O: Sink, L: Ledger>(
     let Ok(mut helper) = Serial::new(alloc, shape, guessing_of(line)) else {
         return Answer::Memory;
     };
-    let mut input = SureSource::new(Vec::new(alloc));
-    let mut output = CountSink::new();
-    let mut errors = CountSink::new();
+    let mut guest = no_devices(alloc);
     // Only the entries are kept of what it comes to.
-    let _ = run_with(
-        false,
-        walk,
-        &mut helper,
-        &mut input,
-        &mut output,
-        &mut errors,
-        steps,
-    );
+    let _ = run_with(false, walk, &mut helper, &mut guest, steps);
+    // That its devices never failed.
+    let _ = guest.into_parts();
     if helper.refused() != 0 {
         return Answer::Memory;
     }

@@ -5,14 +5,16 @@ ghost use Rattle.asc_calls.specs.World.{faults, outside};
 ghost use Rattle.asc_top.specs.Program.{trial_run};
 ghost use Rattle.asc_top.specs.Numbers.{exit_of, told_by_trial};
 ghost use Rattle.asc_top.specs.Ran.{IsThreaded};
-ghost use Rattle.asc_top.specs.Answered.{IsAnswerFor, devices};
+ghost use Rattle.asc_top.specs.Answered.{IsAnswerFor, around};
 ghost use Rattle.asc_top.specs.Reported.{EndsTrial, IsPut};
 
+use crate::guest::no_devices;
 use crate::run::{run_file_alone, run_file_beside};
 use asc_make::image;
-use asc_outside::{CountSink, Failed, Gate, Sink, SureSource, put_all};
-use asc_shape::{Steps, Version};
-use asc_words::{Answer, Counts, FileName, Line, Outcome, RunLine, TrialOutcome, trial_text};
+use asc_model::Version;
+use asc_outside::{Failed, Gate, Sink, put_all};
+use asc_shape::Steps;
+use asc_words::{Answer, Conclusion, Counts, FileName, Line, RunLine, TrialRun, trial_text};
 use std::alloc::Global;
 use std::sync::Wait;
 use std::sync::ledger::Ledger;
@@ -25,31 +27,22 @@ pub(crate) fn trial_alone<O: Sink, L: Ledger>(
     n: u64,
     out: &mut O,
     steps: &mut Steps<L>,
-) -> Outcome
+) -> Conclusion
     ensures { (files : Option (List File)) (asked : Option (List (List ℕ))) (store_faults : ℕ)
         (left : Option (List ℕ)) (err : Given) (input_faults err_faults : ℕ)
         → IsAnswerFor (Ok (Line.Trial n 0 0))
-        (devices files asked store_faults
+        (around files asked store_faults
         (outside left (O.given out.old) err steps.old (faults input_faults (O.faults out.old) err_faults)))
-        (devices files asked store_faults
+        (around files asked store_faults
         (outside left (O.given out.new) err steps.new (faults input_faults (O.faults out.new) err_faults))) result }
 {
     let Ok(image) = image(alloc, n) else {
-        return Outcome::of(Answer::Memory);
+        return Conclusion::of(Answer::Memory);
     };
     let line = trial_run(alloc, 0);
-    let mut input = SureSource::new(Vec::new(alloc));
-    let mut output = CountSink::new();
-    let mut errors = CountSink::new();
-    let ran = run_file_alone(
-        alloc,
-        &line,
-        &image,
-        &mut input,
-        &mut output,
-        &mut errors,
-        steps,
-    );
+    let mut guest = no_devices(alloc);
+    let ran = run_file_alone(alloc, &line, &image, &mut guest, steps);
+    let (_, output, _) = guest.into_parts();
     end_trial(n, 0, &ran, output.count(), out)
 }
 
@@ -69,71 +62,59 @@ pub(crate) fn trial_beside<
     out: &mut O,
     gate: &G,
     steps: &mut Steps<L>,
-) -> Outcome
+) -> Conclusion
     requires threads { IsThreaded workers lanes }
     requires few { workers ≤ 64 }
     ensures { (files : Option (List File)) (asked : Option (List (List ℕ))) (store_faults : ℕ)
         (left : Option (List ℕ)) (err : Given) (input_faults err_faults : ℕ)
         → IsAnswerFor (Ok (Line.Trial n workers lanes))
-        (devices files asked store_faults
+        (around files asked store_faults
         (outside left (O.given out.old) err steps.old (faults input_faults (O.faults out.old) err_faults)))
-        (devices files asked store_faults
+        (around files asked store_faults
         (outside left (O.given out.new) err steps.new (faults input_faults (O.faults out.new) err_faults))) result }
 {
     let Ok(image) = image(alloc, n) else {
-        return Outcome::of(Answer::Memory);
+        return Conclusion::of(Answer::Memory);
     };
     let line = trial_run(alloc, workers);
-    let mut input = SureSource::new(Vec::new(alloc));
-    let mut output = CountSink::new();
-    let mut errors = CountSink::new();
-    let ran = run_file_beside(
-        rt,
-        alloc,
-        &line,
-        lanes,
-        &image,
-        &mut input,
-        &mut output,
-        &mut errors,
-        gate,
-        steps,
-    );
+    let mut guest = no_devices(alloc);
+    let ran = run_file_beside(rt, alloc, &line, lanes, &image, &mut guest, gate, steps);
+    let (_, output, _) = guest.into_parts();
     end_trial(n, workers, &ran, output.count(), out)
 }
 
 /// What a trial comes to, whose run came to `ran` and put so many bytes: where its guest ended, a text on that is put to
 /// out.
-fn end_trial<O: Sink>(n: u64, workers: usize, ran: &Outcome, put: u64, out: &mut O) -> Outcome
-    requires { IfSome ran.now.counts (λ counts. counts.executed + counts.skipped < 2 ^ 64) }
+fn end_trial<O: Sink>(n: u64, workers: usize, ran: &Conclusion, put: u64, out: &mut O) -> Conclusion
+    requires { IfSome ran.now.counts (λ counts. counts.run.executed + counts.run.skipped < 2 ^ 64) }
     ensures { EndsTrial n workers put (exit_of ran.now) ran.now.answer
         (O.given out.old) (O.given out.new) (O.faults out.old) (O.faults out.new) result }
 {
     let Some((status, counts)) = exit_of(ran) else {
-        return Outcome::of(ran.answer);
+        return Conclusion::of(ran.answer);
     };
-    let trial = TrialOutcome {
+    let trial = TrialRun {
         n,
         status,
-        steps: counts.executed + counts.skipped,
+        steps: counts.run.executed + counts.run.skipped,
         output: put,
         counts: told_by_trial(workers, counts),
     };
-    Outcome::of(tell(&trial, counts.refused, out))
+    Conclusion::of(tell(&trial, counts.refused, out))
 }
 
 /// The code with which the guest ended, and the numbers of the run, where it ended.
-fn exit_of(outcome: &Outcome) -> Option<(u8, Counts)>
-    ensures { result ≡ exit_of outcome.now }
+fn exit_of(conclusion: &Conclusion) -> Option<(u8, Counts)>
+    ensures { result ≡ exit_of conclusion.now }
 {
-    match (outcome.answer, outcome.counts) {
+    match (conclusion.answer, conclusion.counts) {
         (Answer::Exit(status), Some(counts)) => Some((status, counts)),
         _ => None,
     }
 }
 
 /// Puts the text of a trial to out, whose helper was refused memory so often.
-fn tell<O: Sink>(trial: &TrialOutcome, refused: u64, out: &mut O) -> Answer
+fn tell<O: Sink>(trial: &TrialRun, refused: u64, out: &mut O) -> Answer
     ensures { IsPut trial.now refused (O.given out.old) (O.given out.new) (O.faults out.old) (O.faults out.new) result }
 {
     let mut room = [0; 512];

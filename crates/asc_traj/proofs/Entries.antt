@@ -1,20 +1,22 @@
 -- The entry of the steps that a tracer stands for.
-use Rattle.std.proofs.Common.{◌≡◌, ℕ, zero, suc, ◌+◌, ◌*◌, ◌/◌, ◌%◌, ◌^◌, ◌<◌, ◌≤◌, ◌||◌, Bool, true, false, not, List, ◌∷◌, ◌++◌, length, Some, refl, sym, ap, subst, ◌∙◌, inl, inr, arith}
+use Rattle.std.proofs.Common.{◌≡◌, ℕ, zero, suc, ◌+◌, ◌*◌, ◌/◌, ◌%◌, ◌^◌, ◌<◌, ◌≤◌, Bool, false, List, ◌∷◌, ◌++◌, length, Some, refl, sym, ap, ◌∙◌, inl, inr, arith}
 use Rattle.std.specs.Prelude.{All, filter}
 use Rattle.std.specs.List.{list_any}
-use Rattle.std.proofs.lemmas.Bool.{cases_Bool, cases_eq, cond-false, cond-true}
-use Rattle.std.proofs.lemmas.List.Elements.{All-nil, All-cons, filter-append}
+use Rattle.std.proofs.lemmas.Bool.{cases_Bool, cases_eq, cond-false, cond-true, not-false, or_parts}
+use Rattle.std.proofs.lemmas.List.Elements.{All-cons, All-filter, All-nil, filter-append}
+use Rattle.std.proofs.lemmas.List.Sums.{count_by-le-length, length-filter}
+use Rattle.std.proofs.lemmas.Bool.Decides.{nat_tests}
 use Rattle.asc_model.specs.declared.status.Status.{Status}
 use Rattle.asc_model.specs.declared.status.Status.TheVariants.{Untouched}
 use Rattle.asc_model.specs.Shape.{length_of}
 use Rattle.asc_model.specs.State.{State, IsState}
-use Rattle.asc_model.specs.Step.{At}
+use Rattle.asc_model.specs.Step.{Went}
 use Rattle.asc_model.specs.Places.{places_from}
 use Rattle.asc_model.specs.DependencyVector.{is_among, first_reads, written_in}
 use Rattle.asc_model.specs.Entry.{Entry, IsTrueEntry, cells_among, entry_of}
 use Rattle.asc_model.proofs.Numbers.{length-bytes_after}
 use Rattle.asc_model.proofs.Entries.{entry_of-is, entries_are_true}
-use Rattle.asc_shape.specs.Face.{status_at, is_untouched}
+use Rattle.asc_shape.specs.Face.{status_at}
 use Rattle.asc_depvec.specs.Dependency.{status_by}
 use Rattle.asc_depvec.specs.Tracer.{Tracing, is_touched_word, touched_words}
 use Rattle.asc_depvec.proofs.Bits.{filter-alike, filter-none, filter-parts}
@@ -28,39 +30,22 @@ use Rattle.asc_traj.proofs.Splits.{read_first-is, written-is}
 -- ---- statuses
 
 read_by : (read written : Bool) → is_read_first (status_by read written) ≡ read
-read_by true true = refl
-read_by true false = refl
-read_by false true = refl
-read_by false false = refl
+read_by read written = grind arith
 
 written_by : (read written : Bool) → is_written (status_by read written) ≡ written
-written_by true true = refl
-written_by true false = refl
-written_by false true = refl
-written_by false false = refl
+written_by read written = grind arith
 
 -- ---- the places of touched words
-
-or_none : (a b : Bool) → (a || b) ≡ false → (a ≡ false) × (b ≡ false)
-or_none true b e = absurd (true≢false e)
-  where
-    true≢false : true ≡ false → ⊥
-    true≢false h = absurd cc
-or_none false b e = (refl, e)
 
 -- a test that passes none of places in a row fails at each
 any_none : (f : ℕ → Bool) (n place p : ℕ) → list_any f (places_from place n) ≡ false → place ≤ p → p < place + n → f p ≡ false
 any_none f zero place p none least most = absurd (omega arith)
 any_none f (suc n) place p none least most =
-    let parts = or_none (f place) (list_any f (places_from (place + 1) n)) none in
+    let parts = or_parts (f place) (list_any f (places_from (place + 1) n)) none in
     elim (cases_eq p place) [
       | inl same ↦ ap f same ∙ parts.0
       | inr other ↦ any_none f n (place + 1) p parts.1 (omega (arith, least, other)) (omega (arith, most))
     ]
-
-not_false : (b : Bool) → not b ≡ false → b ≡ true
-not_false true h = refl
-not_false false h = absurd cc
 
 -- a test that fails at all places of the words that another one fails at passes as many in the words that that one passes
 words-cover : (g h : ℕ → Bool) → ((word p : ℕ) → h word ≡ false → 4 * word ≤ p → p < 4 * word + 4 → g p ≡ false) → (m from : ℕ)
@@ -85,15 +70,9 @@ words-cover g h fails (suc m) from =
     ]
 
 -- a test of statuses that an untouched place does not pass
-pub touched-cover : (t : Tracing) (q : Status → Bool) → q Untouched ≡ false → length t.statuses % 4 ≡ 0
+touched-cover : (t : Tracing) (q : Status → Bool) → q Untouched ≡ false → length t.statuses % 4 ≡ 0
     → filter (λ p. q (status_at t.statuses p)) (places_of_words (touched_words t)) ≡ filter (λ p. q (status_at t.statuses p)) (places_from 0 (length t.statuses))
-touched-cover t q none whole =
-    let all : 4 * (length t.statuses / 4) ≡ length t.statuses = omega (arith, whole) in
-    words-cover (λ p. q (status_at t.statuses p)) (is_touched_word t.statuses)
-    (λ word p e least most.
-    ap q (untouched_is (status_at t.statuses p) (not_false (is_untouched (status_at t.statuses p)) (any_none (λ place. not (is_untouched (status_at t.statuses place))) 4 (4 * word) p e least most))) ∙ none)
-    (length t.statuses / 4) 0
-    ∙ ap (λ (n : ℕ). filter (λ p. q (status_at t.statuses p)) (places_from 0 n)) all
+touched-cover t q none whole = grind (arith, nat_tests, any_none, not-false, untouched_is, words-cover)
 
 -- ---- the entry
 
@@ -108,7 +87,7 @@ pub record Makes (n : ℕ) (t : Tracing) (reads writes : List (ℕ × ℕ)) : Ty
   pub written : writes ≡ written t (started t (places_of_words (touched_words t)))
 
 -- a tracer's statuses are whole words
-pub whole_words : (t : Tracing) (n : ℕ) → StandsFor n t → IsState t.state → length t.statuses % 4 ≡ 0
+whole_words : (t : Tracing) (n : ℕ) → StandsFor n t → IsState t.state → length t.statuses % 4 ≡ 0
 whole_words t n stands good = ap (λ (k : ℕ). k % 4) (stands.touched.0 ∙ good.length) ∙ length_whole t.state.shape good.shape
 
 module _ (n : ℕ) (t : Tracing) (reads writes : List (ℕ × ℕ)) (makes : Makes n t reads writes) where
@@ -140,7 +119,7 @@ module _ (n : ℕ) (t : Tracing) (reads writes : List (ℕ × ℕ)) (makes : Mak
   -- it is the entry of the steps from the start
   pub entry_is : entry_of n start ≡ Some entry
   entry_is =
-      entry_of-is n start (At t.state) makes.stands.goes
+      entry_of-is n start (Went t.state) makes.stands.goes
       ∙ ap (λ list. Some (record { shape = t.state.shape; reads = list; writes = cells_among (written_in n start) t.state; steps = n })) (sym reads-are)
       ∙ ap (λ list. Some (record { shape = t.state.shape; reads = reads; writes = list; steps = n })) (sym writes-are)
 
@@ -150,36 +129,20 @@ module _ (n : ℕ) (t : Tracing) (reads writes : List (ℕ × ℕ)) (makes : Mak
 
 -- ---- words
 
-All-filter_places : (g : ℕ → Bool) (n place : ℕ) → All (λ p. p < place + n) (filter g (places_from place n))
-All-filter_places g zero place = All-nil (λ p. p < place + 0)
-All-filter_places g (suc n) place =
-    let next : place + 1 + n ≡ place + suc n = omega arith in
-    let rest = filter g (places_from (place + 1) n) in
-    let later = subst (λ (k : ℕ). All (λ p. p < k) rest) next (All-filter_places g n (place + 1)) in
-    elim (cases_Bool (g place)) [
-      | inl e ↦ subst (All (λ p. p < place + suc n)) (sym (cond-true (g place) (place ∷ rest) rest e)) (All-cons (λ p. p < place + suc n) place rest (omega arith) later)
-      | inr e ↦ subst (All (λ p. p < place + suc n)) (sym (cond-false (g place) (place ∷ rest) rest e)) later
-    ]
+All-places : (n place : ℕ) → All (λ p. p < place + n) (places_from place n)
+All-places zero place = All-nil (λ p. p < place + 0)
+All-places (suc n) place = grind (arith, nat_tests, All-cons, All-places n (place + 1))
 
 -- each touched word stands in the state
 pub words-within : (t : Tracing) (n : ℕ) → StandsFor n t → IsState t.state → All (λ word. 4 * word + 4 ≤ length_of t.state.shape) (touched_words t)
 words-within t n stands good =
     let size = stands.touched.0 ∙ good.length in
-    λ k d lt. let h = All-filter_places (is_touched_word t.statuses) (length t.statuses / 4) 0 k d lt in omega (arith, h, size, whole_words t n stands good)
+    λ k d lt. let h = All-filter (is_touched_word t.statuses) (λ p. p < 0 + length t.statuses / 4) (places_from 0 (length t.statuses / 4)) (All-places (length t.statuses / 4) 0) k d lt in omega (arith, h, size, whole_words t n stands good)
 
 -- and they are few
-filter-few : (g : ℕ → Bool) (n place : ℕ) → length (filter g (places_from place n)) ≤ n
-filter-few g zero place = omega arith
-filter-few g (suc n) place =
-    let rest = filter g (places_from (place + 1) n) in
-    let later = filter-few g n (place + 1) in
-    elim (cases_Bool (g place)) [
-      | inl e ↦ let size = ap (λ (list : List ℕ). length list) (cond-true (g place) (place ∷ rest) rest e) in omega (arith, size, later)
-      | inr e ↦ let size = ap (λ (list : List ℕ). length list) (cond-false (g place) (place ∷ rest) rest e) in omega (arith, size, later)
-    ]
+length-places : (n place : ℕ) → length (places_from place n) ≡ n
+length-places zero place = refl
+length-places (suc n) place = ap (λ (k : ℕ). suc k) (length-places n (place + 1))
 
 pub words-few : (t : Tracing) (n : ℕ) → StandsFor n t → IsState t.state → length (touched_words t) ≤ 2 ^ 32
-words-few t n stands good =
-    let size = stands.touched.0 ∙ good.length in
-    let few = filter-few (is_touched_word t.statuses) (length t.statuses / 4) 0 in
-    omega (arith, few, size, low_shape t.state.shape good.shape)
+words-few t n stands good = grind (arith, nat_tests, count_by-le-length, good, length-filter, length-places, low_shape, size, stands)

@@ -1,14 +1,18 @@
 -- Two entries merged, word by word.
-use Rattle.std.proofs.Common.{◌≡◌, ℕ, zero, suc, ◌+◌, ◌-◌, ◌*◌, ◌/◌, ◌%◌, ◌^◌, ◌<◌, ◌≤◌, ◌==◌, Bool, true, false, List, [], ◌∷◌, ◌++◌, length, min, Option, Some, None, if◌then◌else◌, refl, sym, ap, subst, ◌∙◌, inl, inr, arith, append-nil, zero-add}
+use Rattle.std.proofs.Common.{◌≡◌, ℕ, zero, suc, ◌+◌, ◌-◌, ◌*◌, ◌/◌, ◌%◌, ◌^◌, ◌<◌, ◌≤◌, ◌==◌, Bool, true, false, List, [], ◌++◌, length, min, Option, Some, None, if◌then◌else◌, refl, sym, ap, subst, ◌∙◌, inl, inr, arith, append-nil}
 use Rattle.std.specs.Prelude.{All, vec_capacity, vec_len}
-use Rattle.std.specs.List.{cons_option, list_all}
+use Rattle.std.specs.List.{cons_option}
 use Rattle.std.specs.Option.{is_some, option_map, option_or}
-use Rattle.std.proofs.lemmas.Bool.{and_from, and_parts, cases_Bool, cases_eq, cases_lt, cond-false, cond-true, false≢true}
-use Rattle.std.proofs.lemmas.List.Elements.{All-head, All-tail}
+use Rattle.std.proofs.lemmas.Bool.{and_from, and_parts, cases_lt, cond-false, cond-true, false_from_ne_true, false≢true}
+use Rattle.std.proofs.lemmas.List.Elements.{filter_map-append}
+use Rattle.std.proofs.lemmas.List.Sums.{list_all-from_AllPass}
+use Rattle.std.proofs.lemmas.Option.{none-some, same_Some}
+use Rattle.std.proofs.lemmas.Bool.Decides.{nat_tests}
 use Rattle.asc_model.specs.Shape.{Shape, length_of}
 use Rattle.asc_model.specs.Entry.{Entry, IsListing, IsTrueEntry}
 use Rattle.asc_model.specs.Join.{agrees, byte_in, can_join, join_of, known_after, left_by_both, read_by_both, reads_agree}
 use Rattle.asc_model.proofs.Joins.{all_cells as cells_all, cells_from, each_cell, join_of-is, joined, listing-rises, none_some, tested}
+use Rattle.asc_depvec.proofs.Bits.{places_from-append}
 use Rattle.asc_depvec.proofs.Insides.{low_shape}
 use Rattle.asc_traj.specs.declared.part.Part.{Part}
 use Rattle.asc_traj.specs.declared.entry.Halves.{Halves}
@@ -16,8 +20,8 @@ use Rattle.asc_traj.specs.declared.join.WordBytes.{WordBytes}
 use Rattle.asc_traj.specs.Parts.{all_cells, masked}
 use Rattle.asc_traj.specs.Inside.{AreHalves}
 use Rattle.asc_traj.specs.Joining.{HasHalves, HasTaken, Rises, byte_of, first_of, meets, meets_all, next_of}
-use Rattle.asc_traj.proofs.Parts.{here, masked-suc, masked-zero}
-use Rattle.asc_traj.proofs.Masks.{div-one, shift-down}
+use Rattle.asc_traj.proofs.Parts.{div-one, here}
+use Rattle.asc_traj.proofs.Masks.{shift-down}
 use Rattle.asc_traj.proofs.Taking.{none-before}
 
 -- ---- the cells of a map, in parts
@@ -26,20 +30,8 @@ use Rattle.asc_traj.proofs.Taking.{none-before}
 abbrev cell_at : ℕ → Option ℕ → Option (ℕ × ℕ)
 cell_at place o = option_map (λ byte. (place, byte)) o
 
-cons-append : (o : Option (ℕ × ℕ)) (xs ys : List (ℕ × ℕ)) → cons_option o (xs ++ ys) ≡ cons_option o xs ++ ys
-cons-append None xs ys = refl
-cons-append (Some x) xs ys = refl
-
 cells_from-append : (R : ℕ → Option ℕ) (place m n : ℕ) → cells_from R place (m + n) ≡ cells_from R place m ++ cells_from R (place + m) n
-cells_from-append R place zero n =
-    let same : place ≡ place + 0 = omega arith in
-    ap (cells_from R place) (zero-add n) ∙ ap (λ (p : ℕ). cells_from R p n) same
-cells_from-append R place (suc m) n =
-    let one : Option (ℕ × ℕ) = cell_at place (R place) in
-    let more : suc m + n ≡ suc (m + n) = omega arith in
-    let next : place + 1 + m ≡ place + suc m = omega arith in
-    ap (cells_from R place) more ∙ ap (cons_option one) (cells_from-append R (place + 1) m n ∙ ap (λ (p : ℕ). cells_from R (place + 1) m ++ cells_from R p n) next)
-    ∙ cons-append one (cells_from R (place + 1) m) (cells_from R (place + suc m) n)
+cells_from-append R place m n = grind (arith, nat_tests, filter_map-append, places_from-append)
 
 cells_from-none : (R : ℕ → Option ℕ) (place n : ℕ) → ((p : ℕ) → place ≤ p → p < place + n → R p ≡ None) → cells_from R place n ≡ []
 cells_from-none R place zero h = refl
@@ -51,56 +43,39 @@ cells_from-none R place (suc n) h =
 cells_from-more : (R : ℕ → Option ℕ) (m n : ℕ) → m ≤ n → ((p : ℕ) → m ≤ p → p < n → R p ≡ None) → cells_from R 0 m ≡ cells_from R 0 n
 cells_from-more R m n le h =
     let all : m + (n - m) ≡ n = omega (arith, le) in
-    let begin : 0 + m ≡ m = omega arith in
     sym (ap (cells_from R 0) (sym all) ∙ cells_from-append R 0 m (n - m)
     ∙ ap (λ (list : List (ℕ × ℕ)). cells_from R 0 m ++ list) (cells_from-none R (0 + m) (n - m) (λ p least most. h p (omega (arith, least)) (omega (arith, most, le))))
     ∙ append-nil (cells_from R 0 m))
 
 here-cons : (b : Bool) (place byte : ℕ) (rest : List (ℕ × ℕ)) → here b (place, byte) ++ rest ≡ cons_option (cell_at place (if b then Some byte else None)) rest
-here-cons true place byte rest = refl
-here-cons false place byte rest = refl
+here-cons b place byte rest = grind arith
 
 -- the bytes of a mask, where a map has just them
 masked-is : (R : ℕ → Option ℕ) (n mask place word : ℕ) → ((k : ℕ) → k < n → (if mask / 2 ^ k % 2 == 1 then Some (word / 256 ^ k % 256) else None) ≡ R (place + k))
     → masked n mask place word ≡ cells_from R place n
-masked-is R zero mask place word h = masked-zero mask place word
+unfolding masked
+masked-is R zero mask place word h = refl
 masked-is R (suc n) mask place word h =
-    let m = div-one mask in
-    let w = div-one word in
     let begin : place + 0 ≡ place = omega arith in
-    let first : (if mask % 2 == 1 then Some (word % 256) else None) ≡ R place = sym (λ i. if m i % 2 == 1 then Some (w i % 256) else None) ∙ h 0 (omega arith) ∙ ap R begin in
-    let rest = masked n (mask / 2) (place + 1) (word / 256) in
-    let later : rest ≡ cells_from R (place + 1) n = masked-is R n (mask / 2) (place + 1) (word / 256) (λ k lt.
-    let p = shift-down mask 2 k in
-    let q = shift-down word 256 k in
+    let first : (if mask % 2 == 1 then Some (word % 256) else None) ≡ R place =
+    sym (λ i. if div-one mask i % 2 == 1 then Some (div-one word i % 256) else None) ∙ h 0 (omega arith) ∙ ap R begin in
+    let later = masked-is R n (mask / 2) (place + 1) (word / 256) (λ k lt.
     let next : place + suc k ≡ place + 1 + k = omega arith in
-    (λ i. if p i % 2 == 1 then Some (q i % 256) else None) ∙ h (suc k) (omega (arith, lt)) ∙ ap R next) in
-    masked-suc n mask place word ∙ ap (λ (list : List (ℕ × ℕ)). here (mask % 2 == 1) (place, word % 256) ++ list) later
-    ∙ here-cons (mask % 2 == 1) place (word % 256) (cells_from R (place + 1) n)
-    ∙ ap (λ (o : Option ℕ). cons_option (cell_at place o) (cells_from R (place + 1) n)) first
+    (λ i. if shift-down mask 2 k i % 2 == 1 then Some (shift-down word 256 k i % 256) else None) ∙ h (suc k) (omega (arith, lt)) ∙ ap R next) in
+    here-cons (mask % 2 == 1) place (word % 256) (masked n (mask / 2) (place + 1) (word / 256)) ∙ λ i. cons_option (cell_at place (first i)) (later i)
 
 -- ---- bytes of one place
 
 if-none : (b : Bool) (x y : Option ℕ) → x ≡ None → y ≡ None → (if b then x else y) ≡ None
-if-none true x y e f = e
-if-none false x y e f = f
-
-or-nones : (x y : Option ℕ) → x ≡ None → y ≡ None → option_or x y ≡ None
-or-nones x y e f = ap (λ (o : Option ℕ). option_or o y) e ∙ f
+if-none b x y e f = grind arith
 
 -- what a reads, and what b reads where a tells nothing
 read-is : (aw ar br : Option ℕ) → option_or ar (if is_some (option_or aw ar) then None else br) ≡ (if is_some (option_or aw ar) then ar else br)
-read-is (Some x) (Some y) br = refl
-read-is (Some x) None br = refl
-read-is None (Some y) br = refl
-read-is None None br = refl
+read-is aw ar br = grind arith
 
 meets-agrees : (told read : Option ℕ) (byte : ℕ) → meets told read ≡ true → read ≡ Some byte → agrees told byte ≡ true
-meets-agrees told None byte h e = absurd (none_some None byte refl e)
-meets-agrees told (Some x) byte h e =
-    let some : Some x ≡ Some byte = e in
-    let same : x ≡ byte = cc in
-    subst (λ (v : ℕ). agrees told v ≡ true) same h
+meets-agrees told None byte h e = absurd (none-some byte e)
+meets-agrees told (Some x) byte h e = subst (λ (v : ℕ). agrees told v ≡ true) (same_Some x byte e) h
 
 agrees-meets : (told read : Option ℕ) → ((byte : ℕ) → read ≡ Some byte → agrees told byte ≡ true) → meets told read ≡ true
 agrees-meets told None h = refl
@@ -187,7 +162,7 @@ merge-on a b next ar aw br bw joined h le =
       reads = h.reads ∙ cells_from-more (read_by_both a b) (4 * next) (4 * to) far
           (λ p least most. if-none (is_some (known_after a p)) (byte_in a.reads p) (byte_in b.reads p) (no-ar p least most) (no-br p least most));
       writes = h.writes ∙ cells_from-more (left_by_both a b) (4 * next) (4 * to) far
-          (λ p least most. or-nones (byte_in b.writes p) (byte_in a.writes p) (no-bw p least most) (no-aw p least most));
+          (λ p least most i. option_or (no-bw p least most i) (no-aw p least most i));
       parts = h.parts;
       room_reads = h.room_reads;
       room_writes = h.room_writes;
@@ -211,12 +186,9 @@ taken-left index cells parts rest found h taken = record {
 told-at : (a : Entry) (index : ℕ) (read written told : WordBytes) → ((k : ℕ) → k < 4 → byte_of read k ≡ byte_in a.reads (4 * index + k))
     → ((k : ℕ) → k < 4 → byte_of written k ≡ byte_in a.writes (4 * index + k)) → ((k : ℕ) → k < 4 → byte_of told k ≡ option_or (byte_of written k) (byte_of read k))
     → (k : ℕ) → k < 4 → byte_of told k ≡ known_after a (4 * index + k)
-told-at a index read written told reads writes tells k lt =
-    let p = writes k lt in
-    let q = reads k lt in
-    tells k lt ∙ λ i. option_or (p i) (q i)
+told-at a index read written told reads writes tells k lt = tells k lt ∙ λ i. option_or (writes k lt i) (reads k lt i)
 
-module _ (a b : Entry) (index : ℕ) (ar aw br ar' aw' br' : List Part) (read written later told : WordBytes)
+module _ {a b : Entry} {index : ℕ} {ar aw br ar' aw' br' : List Part} {read written later : WordBytes} (told : WordBytes)
     (h : IsTelling a b index ar aw br) (t : HasTaken index ar read ar') (u : HasTaken index aw written aw') (v : HasTaken index br later br')
     (tells : (k : ℕ) → k < 4 → byte_of told k ≡ option_or (byte_of written k) (byte_of read k)) where
   told-is : (k : ℕ) → k < 4 → byte_of told k ≡ known_after a (4 * index + k)
@@ -227,14 +199,9 @@ module _ (a b : Entry) (index : ℕ) (ar aw br ar' aw' br' : List Part) (read wr
 
   -- where b reads a byte otherwise than a tells it, not all are told
   pub refused : meets_all told later ≡ false → reads_agree a b ≡ false
-  refused differs = elim (cases_Bool (reads_agree a b)) [
-    | inl all ↦ absurd (false≢true (sym differs ∙ each-meets told later (λ k lt.
-        let p = told-is k lt in
-        let q = later-is k lt in
-        (λ i. meets (p i) (q i))
-        ∙ agrees-meets (known_after a (4 * index + k)) (byte_in b.reads (4 * index + k)) (tested (λ cell. agrees (known_after a cell.0) cell.1) b.reads all (4 * index + k)))))
-    | inr none ↦ none
-  ]
+  refused differs = false_from_ne_true (reads_agree a b) (λ all. false≢true (sym differs ∙ each-meets told later (λ k lt.
+      (λ i. meets (told-is k lt i) (later-is k lt i))
+      ∙ agrees-meets (known_after a (4 * index + k)) (byte_in b.reads (4 * index + k)) (tested (λ cell. agrees (known_after a cell.0) cell.1) b.reads all (4 * index + k)))))
 
   -- where it reads each as a tells it, the words behind it of which something is left are next
   pub told-on : meets_all told later ≡ true → IsTelling a b (next_of ar' aw' br') ar' aw' br'
@@ -265,7 +232,7 @@ pub record HasMerged (index : ℕ) (read written later later_written told reads 
   pub pushed_writes : all_cells after.writes.items ≡ all_cells joined.writes.items ++ masked 4 writes.mask (4 * index) writes.word
   pub parts : AreHalves after
 
-module _ (a b : Entry) (index : ℕ) (ar aw br bw ar' aw' br' bw' : List Part) (joined after : Halves) (read written later later_written told reads writes : WordBytes)
+module _ {a b : Entry} {index : ℕ} {ar aw br bw ar' aw' br' bw' : List Part} {joined after : Halves} {read written later later_written told reads writes : WordBytes}
     (h : IsMerging a b index ar aw br bw joined) (t : HasTaken index ar read ar') (u : HasTaken index aw written aw')
     (v : HasTaken index br later br') (w : HasTaken index bw later_written bw') (m : HasMerged index read written later later_written told reads writes joined after) where
   reads-at : (k : ℕ) → k < 4 → byte_of reads k ≡ read_by_both a b (4 * index + k)
@@ -277,10 +244,7 @@ module _ (a b : Entry) (index : ℕ) (ar aw br bw ar' aw' br' bw' : List Part) (
       ∙ read-is (byte_in a.writes (4 * index + k)) (byte_in a.reads (4 * index + k)) (byte_in b.reads (4 * index + k))
 
   writes-at : (k : ℕ) → k < 4 → byte_of writes k ≡ left_by_both a b (4 * index + k)
-  writes-at k lt =
-      let p = taken-bytes index b.writes bw bw' later_written h.b_writes w k lt in
-      let q = taken-bytes index a.writes aw aw' written h.a_writes u k lt in
-      m.leaves k lt ∙ λ i. option_or (p i) (q i)
+  writes-at k lt = grind (arith, nat_tests, taken-bytes)
 
   -- the cells of the words below, and of this one
   grown : (R : ℕ → Option ℕ) (bytes : WordBytes) (old new : List (ℕ × ℕ)) → new ≡ old ++ masked 4 bytes.mask (4 * index) bytes.word → old ≡ cells_from R 0 (4 * index)
@@ -341,11 +305,6 @@ merge-start a b ar aw br bw joined p q r s ar-is aw-is br-is bw-is none none' pa
       room_writes = room';
     }) (omega arith)
 
-all_true : (test : ℕ × ℕ → Bool) (cells : List (ℕ × ℕ)) → All (λ cell. test cell ≡ true) cells → list_all test cells ≡ true
-all_true test [] h = refl
-all_true test (cell ∷ cells) h =
-    and_from (test cell) (list_all test cells) (All-head (λ c. test c ≡ true) cell cells h) (all_true test cells (All-tail (λ c. test c ≡ true) cell cells h))
-
 -- cells of a shape have no byte past it
 past-none : (n : ℕ) (cells : List (ℕ × ℕ)) → All (λ cell. cell.0 < n) cells → (place : ℕ) → n ≤ place → byte_in cells place ≡ None
 past-none n cells below place le = by (byte_in cells place) refl
@@ -359,7 +318,7 @@ pub tell-end : (a b : Entry) (next : ℕ) (ar aw br : List Part) → IsTrueEntry
 tell-end a b next ar aw br second h all =
     let n = length_of b.shape in
     let small : n ≤ 4 * next = omega (arith, low_shape b.shape second.entry.shape, all) in
-    all_true (λ cell. agrees (known_after a cell.0) cell.1) b.reads
+    list_all-from_AllPass (λ cell. agrees (known_after a cell.0) cell.1) b.reads
     (each_cell (λ cell. agrees (known_after a cell.0) cell.1 ≡ true) 0 b.reads (listing-rises b.shape b.reads second.entry.reads) (λ place byte is.
     let lt = cells_all (λ cell. cell.0 < n) b.reads second.entry.reads.places place byte is in
     h.told place byte (omega (arith, lt, small)) is))
@@ -377,7 +336,7 @@ merge-end a b next ar aw br bw joined first second same h all =
       reads = h.reads ∙ sym (cells_from-more (read_by_both a b) n (4 * next) small (λ p least most.
           if-none (is_some (known_after a p)) (byte_in a.reads p) (byte_in b.reads p) (past-none n a.reads first.entry.reads.places p least) (past-none n b.reads b_reads.places p least)));
       writes = h.writes ∙ sym (cells_from-more (left_by_both a b) n (4 * next) small (λ p least most.
-          or-nones (byte_in b.writes p) (byte_in a.writes p) (past-none n b.writes b_writes.places p least) (past-none n a.writes first.entry.writes.places p least)));
+          λ i. option_or (past-none n b.writes b_writes.places p least i) (past-none n a.writes first.entry.writes.places p least i)));
     }
 
 -- ---- room
@@ -385,23 +344,11 @@ merge-end a b next ar aw br bw joined first second same h all =
 -- some part was taken where a mask has bytes, so there is room for one more
 pub room-before : (old cap la la' lb lb' m ma mb : ℕ) → old + (la + lb) ≤ cap → la' ≤ la → lb' ≤ lb → (la' ≡ la → ma ≡ 0) → (lb' ≡ lb → mb ≡ 0) → (ma ≡ 0 → mb ≡ 0 → m ≡ 0)
     → 0 < m → old < cap
-room-before old cap la la' lb lb' m ma mb fits le le' none none' both some = elim (cases_eq la' la) [
-  | inl same ↦ elim (cases_eq lb' lb) [
-    | inl same' ↦ absurd (let zero_m = both (none same) (none' same') in omega (arith, zero_m, some))
-    | inr less ↦ omega (arith, fits, le, le', less)
-  ]
-  | inr less ↦ omega (arith, fits, le, le', less)
-]
+room-before old cap la la' lb lb' m ma mb fits le le' none none' both some = grind arith
 
 pub room-after : (old new cap la la' lb lb' m ma mb : ℕ) → old + (la + lb) ≤ cap → la' ≤ la → lb' ≤ lb → (la' ≡ la → ma ≡ 0) → (lb' ≡ lb → mb ≡ 0) → (ma ≡ 0 → mb ≡ 0 → m ≡ 0)
     → new ≤ old + 1 → (m ≡ 0 → new ≡ old) → new + (la' + lb') ≤ cap
-room-after old new cap la la' lb lb' m ma mb fits le le' none none' both more stays = elim (cases_eq la' la) [
-  | inl same ↦ elim (cases_eq lb' lb) [
-    | inl same' ↦ let kept = stays (both (none same) (none' same')) in omega (arith, fits, le, le', kept)
-    | inr less ↦ omega (arith, fits, le, le', less, more)
-  ]
-  | inr less ↦ omega (arith, fits, le, le', less, more)
-]
+room-after old new cap la la' lb lb' m ma mb fits le le' none none' both more stays = grind arith
 
 -- ---- the join
 
@@ -414,7 +361,4 @@ join-is a b e = join_of-is a b ∙ cond-true (can_join a b) (Some (joined a b)) 
 -- the entry that has the parts of both
 pub made-is : (a b : Entry) (halves : Halves) (shape : Shape) (steps : ℕ) → HasHalves a b halves → shape ≡ a.shape → steps ≡ a.steps + b.steps
     → (let e : Entry = record { shape = shape; reads = all_cells halves.reads.items; writes = all_cells halves.writes.items; steps = steps } in e ≡ joined a b)
-made-is a b halves shape steps has same count =
-    let reads = has.reads in
-    let writes = has.writes in
-    λ i. record { shape = same i; reads = reads i; writes = writes i; steps = count i }
+made-is a b halves shape steps has same count = λ i. record { shape = same i; reads = has.reads i; writes = has.writes i; steps = count i }

@@ -1,5 +1,5 @@
 -- The places that a tracer touched, and those that steps touch.
-use Rattle.std.proofs.Common.{◌≡◌, ℕ, ◌+◌, ◌<◌, ◌≤◌, Bool, true, false, not, ◌||◌, ◌==◌, cond, List, [], ◌∷◌, ◌++◌, map, length, if◌then◌else◌, refl, sym, ap, ◌∙◌, arith}
+use Rattle.std.proofs.Common.{◌≡◌, ℕ, ◌+◌, ◌<◌, ◌≤◌, Bool, not, ◌||◌, ◌==◌, cond, List, [], ◌∷◌, ◌++◌, map, length, if◌then◌else◌, refl, sym, ap, ◌∙◌, arith}
 use Rattle.std.specs.Prelude.{All, count_by}
 use Rattle.std.proofs.lemmas.Bool.{eq-eqb}
 use Rattle.std.proofs.lemmas.List.{length-map}
@@ -44,14 +44,10 @@ touched-within n statuses touched fits = listed touched (λ place. place < n) (�
 
 -- a status by whether its place was read first or written says whether it was touched
 touched_by : (read written : Bool) → is_untouched (status_by read written) ≡ not (read || written)
-touched_by true true = refl
-touched_by true false = refl
-touched_by false true = refl
-touched_by false false = refl
+touched_by read written = grind arith
 
 once_by : (b : Bool) → ◌≡◌ {A = ℕ} (if not b then 0 else 1) (if b then 1 else 0)
-once_by true = refl
-once_by false = refl
+once_by b = grind arith
 
 -- a tracer that has the statuses of n steps has as many touched places as these steps touch
 pub length-touched : (n : ℕ) (start : State) (t : Tracing) → FitPlaces (length t.state.bytes) (face_of t).marks → HasStatusesOf n start t → length start.bytes ≡ length t.state.bytes

@@ -4,7 +4,8 @@ use lib.Count.{count_trailing_zeros, ones}
 use Rattle.std.specs.Prelude.{All, filter}
 use Rattle.std.specs.Int.{bit_at, trailing_zeros, w64}
 use Rattle.std.specs.Int.Bits.{bit_and}
-use Rattle.std.proofs.lemmas.Bool.{cases_Bool, cases_eq, cases_lt, cond-false, cond-true}
+use Rattle.std.proofs.lemmas.Bool.{cases_eq}
+use Rattle.std.proofs.lemmas.Bool.Decides.{nat_tests}
 use Rattle.std.proofs.lemmas.Nat.Bits.{bit_at-suc, bit_at-trailing_zeros, bit_at-zero, bit_at_and, bit_at_lowest}
 use Rattle.std.proofs.lemmas.Grind.{flat_map-append}
 use Rattle.std.proofs.lemmas.List.{append-nil, map-append, take_more}
@@ -23,24 +24,17 @@ use Rattle.asc_traj.specs.Inside.{HasGrown, HasSplit, is_read_first, is_written,
 use Rattle.asc_traj.specs.Parts.{all_cells, masked}
 use Rattle.asc_traj.specs.declared.entry.Halves.{Halves}
 use Rattle.asc_traj.specs.Trace.{origin_of}
-use Rattle.asc_traj.proofs.Parts.{here, masked-none, masked-suc, masked-zero}
+use Rattle.asc_traj.proofs.Parts.{here, masked-none}
 
 -- ---- filters of places with bytes
 
+kept_map : (f : ℕ → ℕ × ℕ) (b : Bool) (place : ℕ) (later : List (ℕ × ℕ)) (places : List ℕ) → later ≡ map f places → cond b (f place ∷ later) later ≡ map f (cond b (place ∷ places) places)
+kept_map f true place later places is = ap (λ (list : List (ℕ × ℕ)). f place ∷ list) is
+kept_map f false place later places is = is
+
 filter-paired : (f : ℕ → ℕ) (g : ℕ → Bool) (places : List ℕ) → filter (λ (cell : ℕ × ℕ). g cell.0) (map (λ p. (p, f p)) places) ≡ map (λ p. (p, f p)) (filter g places)
 filter-paired f g [] = refl
-filter-paired f g (place ∷ places) =
-    let pair : ℕ → ℕ × ℕ = λ p. (p, f p) in
-    let later = filter (λ (cell : ℕ × ℕ). g cell.0) (map pair places) in
-    let rest = filter-paired f g places in
-    elim (cases_Bool (g place)) [
-      | inl e ↦
-          cond-true (g place) (pair place ∷ later) later e ∙ ap (λ (list : List (ℕ × ℕ)). pair place ∷ list) rest
-          ∙ ap (map pair) (sym (cond-true (g place) (place ∷ filter g places) (filter g places) e))
-      | inr e ↦
-          cond-false (g place) (pair place ∷ later) later e ∙ rest
-          ∙ ap (map pair) (sym (cond-false (g place) (place ∷ filter g places) (filter g places) e))
-    ]
+filter-paired f g (place ∷ places) = kept_map (λ p. (p, f p)) (g place) place _ (filter g places) (filter-paired f g places)
 
 now-started : (t : Tracing) (places : List ℕ) → map {B = ℕ × ℕ} (λ (cell : ℕ × ℕ). (cell.0, slice_index t.state.bytes cell.0)) (started t places) ≡ now_at t places
 now-started t [] = refl
@@ -58,28 +52,19 @@ written-is t places =
 -- ---- one list of places behind another
 
 pub read_first-append : (t : Tracing) (a b : List ℕ) → read_first t (started t (a ++ b)) ≡ read_first t (started t a) ++ read_first t (started t b)
-read_first-append t a b =
-    let g = λ (cell : ℕ × ℕ). is_read_first (status_at t.statuses cell.0) in
-    ap (filter g) (map-append _ a b) ∙ filter-append g (started t a) (started t b)
+read_first-append t a b = grind (arith, nat_tests, filter-append, map-append)
 
 pub written-append : (t : Tracing) (a b : List ℕ) → written t (started t (a ++ b)) ≡ written t (started t a) ++ written t (started t b)
-written-append t a b =
-    let g = λ (cell : ℕ × ℕ). is_written (status_at t.statuses cell.0) in
-    let with_now : ℕ × ℕ → ℕ × ℕ = λ cell. (cell.0, slice_index t.state.bytes cell.0) in
-    ap (λ (list : List (ℕ × ℕ)). map with_now (filter g list)) (map-append _ a b)
-    ∙ ap (map with_now) (filter-append g (started t a) (started t b))
-    ∙ map-append with_now (filter g (started t a)) (filter g (started t b))
+written-append t a b = grind (arith, nat_tests, filter-append, map-append)
 
 -- two lists with places behind them, and with more places
 pub HasSplit-more : (t : Tracing) (a b : List ℕ) (old mid new : Halves) → HasSplit t a old mid → HasSplit t b mid new → HasSplit t (a ++ b) old new
-HasSplit-more t a b old mid new first second =
-    let places = λ (list : List ℕ). started t list in
-    record {
-      reads = second.reads ∙ ap (λ (list : List (ℕ × ℕ)). list ++ read_first t (places b)) first.reads
-          ∙ append_assoc (all_cells old.reads.items) (read_first t (places a)) (read_first t (places b)) ∙ ap (λ (list : List (ℕ × ℕ)). all_cells old.reads.items ++ list) (sym (read_first-append t a b));
-      writes = second.writes ∙ ap (λ (list : List (ℕ × ℕ)). list ++ written t (places b)) first.writes
-          ∙ append_assoc (all_cells old.writes.items) (written t (places a)) (written t (places b)) ∙ ap (λ (list : List (ℕ × ℕ)). all_cells old.writes.items ++ list) (sym (written-append t a b));
-    }
+HasSplit-more t a b old mid new first second = record {
+  reads = second.reads ∙ (λ i. first.reads i ++ read_first t (started t b)) ∙ append_assoc (all_cells old.reads.items) (read_first t (started t a)) (read_first t (started t b))
+      ∙ ap (λ (list : List (ℕ × ℕ)). all_cells old.reads.items ++ list) (sym (read_first-append t a b));
+  writes = second.writes ∙ (λ i. first.writes i ++ written t (started t b)) ∙ append_assoc (all_cells old.writes.items) (written t (started t a)) (written t (started t b))
+      ∙ ap (λ (list : List (ℕ × ℕ)). all_cells old.writes.items ++ list) (sym (written-append t a b));
+}
 
 -- the places of words behind others
 pub places-append : (a b : List ℕ) → places_of_words (a ++ b) ≡ places_of_words a ++ places_of_words b
@@ -137,11 +122,7 @@ rest-first : (bits rest at k : ℕ) → IsRest bits rest at → rest < 2 ^ 64 �
 rest-first bits rest at k is small some tz =
     let found = bit_at-trailing_zeros w64 rest (omega (arith, some)) small in
     let here : bit_at rest k ≡ 1 = ap (bit_at rest) tz ∙ found.1 in
-    let behind : at ≤ k =
-    elim (cases_lt k at) [
-      | inl lt ↦ absurd (omega (arith, here, is.below k lt))
-      | inr le ↦ le
-    ] in
+    let behind : at ≤ k = grind (arith, here, is.below k) in
     let same : at + (k - at) ≡ k = omega (arith, behind) in (
       behind,
       record {
@@ -208,10 +189,7 @@ unfolding count_trailing_zeros
 rest-later bits zero k is small = let none : trailing_zeros w64 0 ≡ 64 = refl in omega (arith, is.most, none)
 rest-later bits (suc n) k is small =
     let found = bit_at-trailing_zeros w64 (suc n) (omega arith) small in
-    elim (cases_lt k (trailing_zeros w64 (suc n))) [
-      | inl lt ↦ lt
-      | inr le ↦ absurd (omega (arith, found.1, is.below (trailing_zeros w64 (suc n)) (omega (arith, le))))
-    ]
+    grind (arith, found.1, is.below (trailing_zeros w64 (suc n)))
 
 -- and where no bit is left they are all
 pub all_words : (block : Block) (at : ℕ) → IsRest block.bits 0 at → words_until block at ≡ words_in block
@@ -266,55 +244,25 @@ HasBits zero mask place g = Unit {0}
 HasBits (suc n) mask place g = ((mask % 2 == 1) ≡ g place) × HasBits n (mask / 2) (place + 1) g
 
 one : (b : Bool) (cell : ℕ × ℕ) (rest : List (ℕ × ℕ)) → here b cell ++ rest ≡ cond b (cell ∷ rest) rest
-one true cell rest = refl
-one false cell rest = refl
+one b cell rest = grind arith
 
 masked-is : (n : ℕ) (g : ℕ → Bool) (mask place word : ℕ) → HasBits n mask place g → masked n mask place word ≡ filter (λ cell. g cell.0) (cells place (bytes_of n word))
-masked-is zero g mask place word bits = masked-zero mask place word
+unfolding masked
+masked-is zero g mask place word bits = refl
 masked-is (suc n) g mask place word bits =
-    masked-suc n mask place word
-    ∙ ap (λ (b : Bool). here b (place, word % 2 ^ 8) ++ masked n (mask / 2) (place + 1) (word / 2 ^ 8)) bits.0
-    ∙ ap (λ (list : List (ℕ × ℕ)). here (g place) (place, word % 2 ^ 8) ++ list) (masked-is n g (mask / 2) (place + 1) (word / 2 ^ 8) bits.1)
+    (λ i. here (bits.0 i) (place, word % 2 ^ 8) ++ masked-is n g (mask / 2) (place + 1) (word / 2 ^ 8) bits.1 i)
     ∙ one (g place) (place, word % 2 ^ 8) (filter (λ cell. g cell.0) (cells (place + 1) (bytes_of n (word / 2 ^ 8))))
 
 bits-of : (g : ℕ → Bool) (p : ℕ) (a b c d : Bool) → a ≡ g p → b ≡ g (p + 1) → c ≡ g (p + 1 + 1) → d ≡ g (p + 1 + 1 + 1) → HasBits 4 (mask_of a b c d) p g
-bits-of g p true true true true e f h i = (e, (f, (h, (i, tt))))
-bits-of g p true true true false e f h i = (e, (f, (h, (i, tt))))
-bits-of g p true true false true e f h i = (e, (f, (h, (i, tt))))
-bits-of g p true true false false e f h i = (e, (f, (h, (i, tt))))
-bits-of g p true false true true e f h i = (e, (f, (h, (i, tt))))
-bits-of g p true false true false e f h i = (e, (f, (h, (i, tt))))
-bits-of g p true false false true e f h i = (e, (f, (h, (i, tt))))
-bits-of g p true false false false e f h i = (e, (f, (h, (i, tt))))
-bits-of g p false true true true e f h i = (e, (f, (h, (i, tt))))
-bits-of g p false true true false e f h i = (e, (f, (h, (i, tt))))
-bits-of g p false true false true e f h i = (e, (f, (h, (i, tt))))
-bits-of g p false true false false e f h i = (e, (f, (h, (i, tt))))
-bits-of g p false false true true e f h i = (e, (f, (h, (i, tt))))
-bits-of g p false false true false e f h i = (e, (f, (h, (i, tt))))
-bits-of g p false false false true e f h i = (e, (f, (h, (i, tt))))
-bits-of g p false false false false e f h i = (e, (f, (h, (i, tt))))
+bits-of g p a b c d e f h i = grind (arith, nat_tests)
 
 pub mask-bits : (q : Status → Bool) (statuses : List Status) (place : ℕ) → HasBits 4 (mask_at q statuses place) place (λ p. q (status_at statuses p))
-mask-bits q statuses place =
-    let third : place + 2 ≡ place + 1 + 1 = omega arith in
-    let fourth : place + 3 ≡ place + 1 + 1 + 1 = omega arith in
-    let test = λ (p : ℕ). q (status_at statuses p) in
-    bits-of test place _ _ _ _ refl refl (ap test third) (ap test fourth)
+mask-bits q statuses place = grind (arith, nat_tests, bits-of)
 
 -- those of a word of one status
-each : (q : Status → Bool) (statuses : List Status) (status : Status) (place : ℕ) (b : Bool) → HaveStatus statuses status place 4 → q status ≡ b → (k : ℕ) → place ≤ k → k < place + 4 → b ≡ q (status_at statuses k)
-each q statuses status place b have is k least most = sym (ap q (have k least most) ∙ is)
-
-pub all-bits : (q : Status → Bool) (statuses : List Status) (status : Status) (place : ℕ) → HaveStatus statuses status place 4 → q status ≡ true → HasBits 4 15 place (λ p. q (status_at statuses p))
-all-bits q statuses status place have is =
-    let b = each q statuses status place true have is in
-    (b place (omega arith) (omega arith), (b (place + 1) (omega arith) (omega arith), (b (place + 1 + 1) (omega arith) (omega arith), (b (place + 1 + 1 + 1) (omega arith) (omega arith), tt))))
-
-pub no-bits : (q : Status → Bool) (statuses : List Status) (status : Status) (place : ℕ) → HaveStatus statuses status place 4 → q status ≡ false → HasBits 4 0 place (λ p. q (status_at statuses p))
-no-bits q statuses status place have is =
-    let b = each q statuses status place false have is in
-    (b place (omega arith) (omega arith), (b (place + 1) (omega arith) (omega arith), (b (place + 1 + 1) (omega arith) (omega arith), (b (place + 1 + 1 + 1) (omega arith) (omega arith), tt))))
+pub one-status : (q : Status → Bool) (statuses : List Status) (status : Status) (place : ℕ) → HaveStatus statuses status place 4
+    → HasBits 4 (mask_of (q status) (q status) (q status) (q status)) place (λ p. q (status_at statuses p))
+one-status q statuses status place have = grind (arith, nat_tests, bits-of)
 
 -- ---- words
 
@@ -342,12 +290,8 @@ pushed-writes t place mask word old new bits is put =
 -- nothing was
 pub no-reads : (t : Tracing) (place : ℕ) (old : List (ℕ × ℕ)) → HasBits 4 0 place (λ p. is_read_first (status_at t.statuses p)) → AreBytes (origin_of t).bytes
     → old ≡ old ++ read_first t (started t (places_from place 4))
-no-reads t place old bits all =
-    pushed-reads t place 0 (word_at (origin_of t).bytes place) old old bits (word_cells (origin_of t).bytes place (word_at (origin_of t).bytes place) all refl)
-    (sym (ap (λ (list : List (ℕ × ℕ)). old ++ list) (masked-none 4 place (word_at (origin_of t).bytes place)) ∙ append-nil old))
+no-reads t place old bits all = grind (arith, nat_tests, append-nil, masked-none, pushed-reads, word_cells)
 
 pub no-writes : (t : Tracing) (place : ℕ) (old : List (ℕ × ℕ)) → HasBits 4 0 place (λ p. is_written (status_at t.statuses p)) → AreBytes t.state.bytes
     → old ≡ old ++ written t (started t (places_from place 4))
-no-writes t place old bits all =
-    pushed-writes t place 0 (word_at t.state.bytes place) old old bits (word_cells t.state.bytes place (word_at t.state.bytes place) all refl)
-    (sym (ap (λ (list : List (ℕ × ℕ)). old ++ list) (masked-none 4 place (word_at t.state.bytes place)) ∙ append-nil old))
+no-writes t place old bits all = grind (arith, nat_tests, all, append-nil, masked-none, pushed-writes, word_cells)

@@ -1,5 +1,5 @@
 -- Parts of one word taken off the front of parts, and the bytes of cells that parts have.
-use Rattle.std.proofs.Common.{◌≡◌, ℕ, zero, suc, ◌+◌, ◌*◌, ◌/◌, ◌%◌, ◌^◌, ◌<◌, ◌≤◌, ◌==◌, Bool, true, false, cond, List, [], ◌∷◌, ◌++◌, map, length, Option, Some, None, if◌then◌else◌, refl, sym, ap, subst, ◌∙◌, inl, inr, arith, length-append}
+use Rattle.std.proofs.Common.{◌≡◌, ℕ, zero, suc, ◌+◌, ◌*◌, ◌/◌, ◌%◌, ◌^◌, ◌<◌, ◌≤◌, ◌==◌, Bool, true, false, cond, List, [], ◌∷◌, ◌++◌, length, Option, Some, None, if◌then◌else◌, refl, sym, ap, subst, ◌∙◌, inl, inr, arith}
 use Rattle.std.specs.Prelude.{All}
 use Rattle.std.specs.List.{slice_get}
 use Rattle.std.specs.List.Sorted.{IsStrictlyIncreasing}
@@ -8,6 +8,8 @@ use Rattle.std.proofs.Math.Nat.{pow-suc}
 use Rattle.std.proofs.lemmas.Bool.{cases_eq, eq-eqb, ne_eqb}
 use Rattle.std.proofs.lemmas.List.Elements.{All-head, All-tail}
 use Rattle.std.proofs.lemmas.Nat.Bits.{bit_at-zero}
+use Rattle.std.proofs.lemmas.Option.{none-some, same_Some}
+use Rattle.std.proofs.lemmas.Bool.Decides.{nat_tests}
 use Rattle.asc_model.specs.Shape.{Shape, IsShape, length_of}
 use Rattle.asc_model.specs.Entry.{IsListing}
 use Rattle.asc_model.specs.Join.{byte_in}
@@ -18,63 +20,35 @@ use Rattle.asc_traj.specs.declared.part.Part.{Part}
 use Rattle.asc_traj.specs.declared.join.WordBytes.{WordBytes}
 use Rattle.asc_traj.specs.Parts.{IsPart, all_cells, masked, part_cells, word_place}
 use Rattle.asc_traj.specs.Joining.{HasTaken, Rises, byte_of, first_of}
-use Rattle.asc_traj.proofs.Parts.{here, masked-suc, masked-zero, part_cells-is}
-use Rattle.asc_traj.proofs.Masks.{div-one, word_bytes, shift-down}
-
-abbrev places_of : List (ℕ × ℕ) → List ℕ
-places_of cells = map (λ cell. cell.0) cells
+use Rattle.asc_traj.proofs.Parts.{div-one, here, masked-zero}
+use Rattle.asc_traj.proofs.Places.{places_of}
+use Rattle.asc_traj.proofs.Masks.{word_bytes, shift-down}
 
 -- ---- how many cells
 
-odd-count : (m : ℕ) (cell : ℕ × ℕ) (rest : List (ℕ × ℕ)) → length (here (m % 2 == 1) cell ++ rest) ≡ m % 2 + length rest
-odd-count m cell rest = elim (cases_eq (m % 2) 1) [
-  | inl odd ↦ ap (λ (b : Bool). length (here b cell ++ rest)) (eq-eqb (m % 2) 1 odd) ∙ (let e : suc (length rest) ≡ m % 2 + length rest = omega (arith, odd) in e)
-  | inr even ↦ ap (λ (b : Bool). length (here b cell ++ rest)) (ne_eqb (m % 2) 1 even) ∙ (let e : length rest ≡ m % 2 + length rest = omega (arith, even) in e)
-]
-
 masked-count : (n mask place word : ℕ) → length (masked (suc n) mask place word) ≡ mask % 2 + length (masked n (mask / 2) (place + 1) (word / 2 ^ 8))
-masked-count n mask place word =
-    ap (λ (list : List (ℕ × ℕ)). length list) (masked-suc n mask place word) ∙ odd-count mask (place, word % 2 ^ 8) (masked n (mask / 2) (place + 1) (word / 2 ^ 8))
+unfolding masked
+masked-count n mask place word = grind (arith, nat_tests, here)
 
 -- a part has a cell for each bit of its mask
 pub part-count : (p : Part) → let m = p.at % 16 in length (part_cells p) ≡ m % 2 + m / 2 % 2 + m / 4 % 2 + m / 8 % 2
-part-count p =
-    let m = p.at % 16 in
-    let at = word_place p in
-    let w = p.word in
-    let none = ap (λ (list : List (ℕ × ℕ)). length list) (masked-zero (m / 2 / 2 / 2 / 2) (at + 1 + 1 + 1 + 1) (w / 2 ^ 8 / 2 ^ 8 / 2 ^ 8 / 2 ^ 8)) in
-    let all = ap (λ (list : List (ℕ × ℕ)). length list) (part_cells-is p) in
-    let two : m / 2 / 2 ≡ m / 4 = omega arith in
-    let three : m / 2 / 2 / 2 ≡ m / 8 = omega arith in
-    omega (
-      arith,
-      all,
-      masked-count 3 m at w,
-      masked-count 2 (m / 2) (at + 1) (w / 2 ^ 8),
-      masked-count 1 (m / 2 / 2) (at + 1 + 1) (w / 2 ^ 8 / 2 ^ 8),
-      masked-count 0 (m / 2 / 2 / 2) (at + 1 + 1 + 1) (w / 2 ^ 8 / 2 ^ 8 / 2 ^ 8),
-      none,
-      two,
-      three,
-    )
+unfolding part_cells
+part-count p = grind (arith, nat_tests, masked-count, masked-zero)
 
 -- ---- bytes of cells
 
 first_or : (b : Bool) (v : ℕ) (o p q : Option ℕ) → o ≡ option_or p q → cond b (Some v) o ≡ option_or (cond b (Some v) p) q
-first_or true v o p q e = refl
-first_or false v o p q e = e
+first_or b v o p q e = grind arith
 
-pub byte_in-append : (xs ys : List (ℕ × ℕ)) (place : ℕ) → byte_in (xs ++ ys) place ≡ option_or (byte_in xs place) (byte_in ys place)
+byte_in-append : (xs ys : List (ℕ × ℕ)) (place : ℕ) → byte_in (xs ++ ys) place ≡ option_or (byte_in xs place) (byte_in ys place)
 byte_in-append [] ys place = refl
 byte_in-append (cell ∷ xs) ys place = first_or (cell.0 == place) cell.1 (byte_in (xs ++ ys) place) (byte_in xs place) (byte_in ys place) (byte_in-append xs ys place)
 
-pub or-none : (o : Option ℕ) → option_or o None ≡ o
-or-none None = refl
-or-none (Some x) = refl
+or-none : (o : Option ℕ) → option_or o None ≡ o
+or-none o = grind arith
 
-pub or-assoc : (o p q : Option ℕ) → option_or (option_or o p) q ≡ option_or o (option_or p q)
-or-assoc None p q = refl
-or-assoc (Some x) p q = refl
+or-assoc : (o p q : Option ℕ) → option_or (option_or o p) q ≡ option_or o (option_or p q)
+or-assoc o p q = grind arith
 
 here-at : (b : Bool) (place byte at : ℕ) → place ≡ at → byte_in (here b (place, byte)) at ≡ (if b then Some byte else None)
 here-at true place byte at same = byte_in-first (place, byte) [] at same
@@ -84,59 +58,37 @@ here-off : (b : Bool) (place byte at : ℕ) → (place ≡ at → ⊥) → byte_
 here-off true place byte at apart = byte_in-behind (place, byte) [] at apart
 here-off false place byte at apart = refl
 
-masked-before : (n mask place word at : ℕ) → at < place → byte_in (masked n mask place word) at ≡ None
-masked-before zero mask place word at lt = ap (λ (list : List (ℕ × ℕ)). byte_in list at) (masked-zero mask place word)
-masked-before (suc n) mask place word at lt =
-    let front = here (mask % 2 == 1) (place, word % 2 ^ 8) in
-    let rest = masked n (mask / 2) (place + 1) (word / 2 ^ 8) in
-    ap (λ (list : List (ℕ × ℕ)). byte_in list at) (masked-suc n mask place word) ∙ byte_in-append front rest at
-    ∙ ap (λ (o : Option ℕ). option_or o (byte_in rest at)) (here-off (mask % 2 == 1) place (word % 2 ^ 8) at (λ same. omega arith))
-    ∙ masked-before n (mask / 2) (place + 1) (word / 2 ^ 8) at (omega arith)
+masked-byte : (n mask place word at : ℕ) → byte_in (masked (suc n) mask place word) at
+    ≡ option_or (byte_in (here (mask % 2 == 1) (place, word % 2 ^ 8)) at) (byte_in (masked n (mask / 2) (place + 1) (word / 2 ^ 8)) at)
+unfolding masked
+masked-byte n mask place word at = byte_in-append (here (mask % 2 == 1) (place, word % 2 ^ 8)) (masked n (mask / 2) (place + 1) (word / 2 ^ 8)) at
 
-pub masked-past : (n mask place word at : ℕ) → place + n ≤ at → byte_in (masked n mask place word) at ≡ None
-masked-past zero mask place word at le = ap (λ (list : List (ℕ × ℕ)). byte_in list at) (masked-zero mask place word)
-masked-past (suc n) mask place word at le =
-    let front = here (mask % 2 == 1) (place, word % 2 ^ 8) in
-    let rest = masked n (mask / 2) (place + 1) (word / 2 ^ 8) in
-    ap (λ (list : List (ℕ × ℕ)). byte_in list at) (masked-suc n mask place word) ∙ byte_in-append front rest at
-    ∙ ap (λ (o : Option ℕ). option_or o (byte_in rest at)) (here-off (mask % 2 == 1) place (word % 2 ^ 8) at (λ same. omega arith))
-    ∙ masked-past n (mask / 2) (place + 1) (word / 2 ^ 8) at (omega arith)
+-- no byte of a mask is elsewhere
+masked-off : (n mask place word at : ℕ) → ((k : ℕ) → k < n → at ≡ place + k → ⊥) → byte_in (masked n mask place word) at ≡ None
+masked-off zero mask place word at off = ap (λ (list : List (ℕ × ℕ)). byte_in list at) (masked-zero mask place word)
+masked-off (suc n) mask place word at off =
+    let first = here-off (mask % 2 == 1) place (word % 2 ^ 8) at (λ same. off 0 (omega arith) (omega (arith, same))) in
+    let later = masked-off n (mask / 2) (place + 1) (word / 2 ^ 8) at (λ k lt is. off (suc k) (omega (arith, lt)) (omega (arith, is))) in
+    masked-byte n mask place word at ∙ λ i. option_or (first i) (later i)
 
 -- each byte of a mask
 pub masked-at : (n mask place word k at : ℕ) → k < n → at ≡ place + k
     → byte_in (masked n mask place word) at ≡ (if mask / 2 ^ k % 2 == 1 then Some (word / 256 ^ k % 256) else None)
 masked-at zero mask place word k at lt is = absurd (omega arith)
-masked-at (suc n) mask place word zero at lt is =
-    let front = here (mask % 2 == 1) (place, word % 2 ^ 8) in
-    let rest = masked n (mask / 2) (place + 1) (word / 2 ^ 8) in
-    let m = div-one mask in
-    let w = div-one word in
-    ap (λ (list : List (ℕ × ℕ)). byte_in list at) (masked-suc n mask place word) ∙ byte_in-append front rest at
-    ∙ ap (option_or (byte_in front at)) (masked-before n (mask / 2) (place + 1) (word / 2 ^ 8) at (omega arith))
-    ∙ or-none (byte_in front at) ∙ here-at (mask % 2 == 1) place (word % 2 ^ 8) at (omega arith)
-    ∙ sym (λ i. if m i % 2 == 1 then Some (w i % 256) else None)
-masked-at (suc n) mask place word (suc k) at lt is =
-    let front = here (mask % 2 == 1) (place, word % 2 ^ 8) in
-    let rest = masked n (mask / 2) (place + 1) (word / 2 ^ 8) in
-    let m = shift-down mask 2 k in
-    let w = shift-down word 256 k in
-    ap (λ (list : List (ℕ × ℕ)). byte_in list at) (masked-suc n mask place word) ∙ byte_in-append front rest at
-    ∙ ap (λ (o : Option ℕ). option_or o (byte_in rest at)) (here-off (mask % 2 == 1) place (word % 2 ^ 8) at (λ same. omega arith))
-    ∙ masked-at n (mask / 2) (place + 1) (word / 2 ^ 8) k at (omega arith) (omega arith)
-    ∙ λ i. if m i % 2 == 1 then Some (w i % 256) else None
+masked-at (suc n) mask place word zero at lt is = grind (arith, nat_tests, div-one, here-at, masked-byte, masked-off, or-none)
+masked-at (suc n) mask place word (suc k) at lt is = grind (arith, nat_tests, here-off, masked-byte, shift-down, masked-at n (mask / 2) (place + 1) (word / 2 ^ 8) k at (omega arith) (omega arith))
 
 -- what a part has
 abbrev pub of_part : Part → WordBytes
 of_part p = word_bytes (p.at % 16) p.word
 
-pub part-at : (p : Part) (k at : ℕ) → k < 4 → at ≡ word_place p + k → byte_in (part_cells p) at ≡ byte_of (of_part p) k
-part-at p k at lt is = ap (λ (list : List (ℕ × ℕ)). byte_in list at) (part_cells-is p) ∙ masked-at 4 (p.at % 16) (word_place p) p.word k at lt is
+part-at : (p : Part) (k at : ℕ) → k < 4 → at ≡ word_place p + k → byte_in (part_cells p) at ≡ byte_of (of_part p) k
+unfolding part_cells
+part-at p k at lt is = masked-at 4 (p.at % 16) (word_place p) p.word k at lt is
 
-pub part-past : (p : Part) (at : ℕ) → word_place p + 4 ≤ at → byte_in (part_cells p) at ≡ None
-part-past p at le = ap (λ (list : List (ℕ × ℕ)). byte_in list at) (part_cells-is p) ∙ masked-past 4 (p.at % 16) (word_place p) p.word at le
-
-part-before : (p : Part) (at : ℕ) → at < word_place p → byte_in (part_cells p) at ≡ None
-part-before p at lt = ap (λ (list : List (ℕ × ℕ)). byte_in list at) (part_cells-is p) ∙ masked-before 4 (p.at % 16) (word_place p) p.word at lt
+part-off : (p : Part) (at : ℕ) → ((k : ℕ) → k < 4 → at ≡ word_place p + k → ⊥) → byte_in (part_cells p) at ≡ None
+unfolding part_cells
+part-off p at off = masked-off 4 (p.at % 16) (word_place p) p.word at off
 
 -- ---- parts whose cells rise
 
@@ -153,34 +105,33 @@ behind-cells low [] ys rise = rise
 behind-cells low (cell ∷ xs) ys rise = RisesFrom-lower low (cell.0 + 1) (places_of ys) (omega (arith, rise.0)) (behind-cells (cell.0 + 1) xs ys rise.1)
 
 behind-masked : (n mask place word low : ℕ) (rest : List (ℕ × ℕ)) → 0 < mask → mask < 2 ^ n → RisesFrom low (places_of (masked n mask place word ++ rest)) → Behind low place n rest
+unfolding masked
 behind-masked zero mask place word low rest some few rise = absurd (let none : mask < 1 = few in omega arith)
 behind-masked (suc n) mask place word low rest some few rise =
     let later = masked n (mask / 2) (place + 1) (word / 2 ^ 8) in
-    let all = subst (λ (list : List (ℕ × ℕ)). RisesFrom low (places_of (list ++ rest))) (masked-suc n mask place word) rise in
+    let all = λ (b : Bool). RisesFrom low (places_of (here b (place, word % 2 ^ 8) ++ later ++ rest)) in
     elim (cases_eq (mask % 2) 1) [
       | inl odd ↦
-          let one = subst (λ (b : Bool). RisesFrom low (places_of (here b (place, word % 2 ^ 8) ++ later ++ rest))) (eq-eqb (mask % 2) 1 odd) all in
+          let one = subst all (eq-eqb (mask % 2) 1 odd) rise in
           record { rise = behind-cells (place + 1) later rest one.1; least = omega (arith, one.0) }
       | inr even ↦
-          let none = subst (λ (b : Bool). RisesFrom low (places_of (here b (place, word % 2 ^ 8) ++ later ++ rest))) (ne_eqb (mask % 2) 1 even) all in
-          let half : mask < 2 ^ n * 2 = subst (λ (p : ℕ). mask < p) (pow-suc 2 n) few in
-          let next = behind-masked n (mask / 2) (place + 1) (word / 2 ^ 8) low rest (omega (arith, even)) (omega (arith, half)) none in
+          let none = subst all (ne_eqb (mask % 2) 1 even) rise in
+          let next = behind-masked n (mask / 2) (place + 1) (word / 2 ^ 8) low rest (omega (arith, even)) (omega (arith, few, pow-suc 2 n)) none in
           record { rise = RisesFrom-lower (place + 1) (place + 1 + 1) (places_of rest) (omega arith) next.rise; least = omega (arith, next.least) }
     ]
 
 behind-part : (low : ℕ) (p : Part) (parts : List Part) → IsPart p → RisesFrom low (places_of (all_cells (p ∷ parts))) → Behind low (word_place p) 4 (all_cells parts)
-behind-part low p parts is rise =
-    behind-masked 4 (p.at % 16) (word_place p) p.word low (all_cells parts) is.some (let few : p.at % 16 < 16 = omega arith in few)
-    (subst (λ (list : List (ℕ × ℕ)). RisesFrom low (places_of (list ++ all_cells parts))) (part_cells-is p) rise)
+unfolding part_cells
+behind-part low p parts is rise = grind (arith, nat_tests, behind-masked)
 
-pub Rises-behind : (p : Part) (parts : List Part) → Rises (p ∷ parts) → Rises parts
+Rises-behind : (p : Part) (parts : List Part) → Rises (p ∷ parts) → Rises parts
 Rises-behind p parts h = record {
   rise = increasing-RisesFrom 0 (places_of (all_cells parts)) (RisesFrom-lower 0 (word_place p + 1) (places_of (all_cells parts)) (omega arith) (behind-part 0 p parts (All-head IsPart p parts h.are) (rises-from (p ∷ parts) h)).rise);
   are = All-tail IsPart p parts h.are;
 }
 
 -- the part behind one is of its word or of a later one
-pub first-behind : (index : ℕ) (p : Part) (parts : List Part) → Rises (p ∷ parts) → p.at / 16 ≡ index → index < 2 ^ 28 → index ≤ first_of parts
+first-behind : (index : ℕ) (p : Part) (parts : List Part) → Rises (p ∷ parts) → p.at / 16 ≡ index → index < 2 ^ 28 → index ≤ first_of parts
 first-behind index p [] h is low = omega arith
 first-behind index p (q ∷ parts) h is low =
     let behind = behind-part 0 p (q ∷ parts) (All-head IsPart p (q ∷ parts) h.are) (rises-from (p ∷ q ∷ parts) h) in
@@ -194,7 +145,7 @@ none-before [] at h lt = refl
 none-before (p ∷ parts) at h lt =
     let behind = behind-part 0 p parts (All-head IsPart p parts h.are) (rises-from (p ∷ parts) h) in
     let before : at < word_place p = omega (arith, lt) in
-    byte_in-append (part_cells p) (all_cells parts) at ∙ ap (λ (o : Option ℕ). option_or o (byte_in (all_cells parts) at)) (part-before p at before)
+    byte_in-append (part_cells p) (all_cells parts) at ∙ ap (λ (o : Option ℕ). option_or o (byte_in (all_cells parts) at)) (part-off p at (λ k few same. omega (arith, before, same)))
     ∙ byte_in-below (word_place p + 1) (all_cells parts) at behind.rise (omega (arith, before))
 
 -- ---- parts taken
@@ -234,7 +185,7 @@ takes-more index parts found more p rest h small is low bytes = record {
       ∙ ap (λ (o : Option ℕ). option_or (byte_of found k) (option_or o (byte_in (all_cells rest) at))) (sym (part-at p k at lt there))
       ∙ ap (option_or (byte_of found k)) (sym (byte_in-append (part_cells p) (all_cells rest) at)) ∙ h.bytes k lt;
   others = λ place le.
-      sym (ap (λ (o : Option ℕ). option_or o (byte_in (all_cells rest) place)) (part-past p place (omega (arith, is, le)))) ∙ sym (byte_in-append (part_cells p) (all_cells rest) place)
+      sym (ap (λ (o : Option ℕ). option_or o (byte_in (all_cells rest) place)) (part-off p place (λ k few same. omega (arith, is, le, few, same)))) ∙ sym (byte_in-append (part_cells p) (all_cells rest) place)
       ∙ h.others place le;
   first = first-behind index p rest h.rises is small;
   rises = Rises-behind p rest h.rises;
@@ -257,24 +208,19 @@ takes-all index parts found rest h later = record {
 -- ---- ends of the parts taken
 
 pub later-first : (index : ℕ) (rest : List Part) (p : Part) (behind : List Part) → rest ≡ p ∷ behind → index ≤ first_of rest → (p.at / 16 ≡ index → ⊥) → index < first_of rest
-later-first index rest p behind is le apart =
-    let least : index ≤ p.at / 16 = subst (λ (list : List Part). index ≤ first_of list) is le in
-    subst (λ (list : List Part). index < first_of list) (sym is) (let lt : index < p.at / 16 = omega (arith, least, apart) in lt)
+later-first index rest p behind is le apart = grind (arith, nat_tests)
 
 pub later-none : (index : ℕ) (rest : List Part) → length rest ≡ 0 → index < 2 ^ 28 → index < first_of rest
 later-none index [] none small = small
 later-none index (p ∷ rest) none small = absurd (omega (arith, none))
 
 pub first-some : (parts : List Part) (p : Part) → slice_get parts 0 ≡ Some p → p.at / 16 ≡ first_of parts
-first-some [] p e = let none : None ≡ Some p = e in absurd (cc)
-first-some (q ∷ parts) p e =
-    let some : Some q ≡ Some p = e in
-    let same : q ≡ p = cc in
-    ap (λ (x : Part). x.at / 16) (sym same)
+first-some [] p e = absurd (none-some p e)
+first-some (q ∷ parts) p e = ap (λ (x : Part). x.at / 16) (sym (same_Some q p e))
 
 pub first-none : (parts : List Part) → slice_get parts 0 ≡ None → 2 ^ 28 ≡ first_of parts
 first-none [] e = refl
-first-none (q ∷ parts) e = let none : Some q ≡ None = e in absurd (cc)
+first-none (q ∷ parts) e = absurd (none-some q (sym e))
 
 -- ---- how many cells a shape has
 
@@ -293,15 +239,3 @@ cells-few shape cells good listing =
 -- parts of an entry rise
 pub Rises-of : (shape : Shape) (cells : List (ℕ × ℕ)) (parts : List Part) → IsListing shape cells → all_cells parts ≡ cells → All IsPart parts → Rises parts
 Rises-of shape cells parts listing is are = record { rise = subst (λ (list : List (ℕ × ℕ)). IsStrictlyIncreasing (places_of list)) (sym is) listing.rise; are = are }
-
--- each part has a cell
-some-bit : (m : ℕ) → m < 16 → 0 < m → 1 ≤ m % 2 + m / 2 % 2 + m / 4 % 2 + m / 8 % 2
-some-bit m low some = omega arith
-
-pub parts-few : (parts : List Part) → All IsPart parts → length parts ≤ length (all_cells parts)
-parts-few [] are = omega arith
-parts-few (p ∷ parts) are =
-    let is = All-head IsPart p parts are in
-    let low : p.at % 16 < 16 = omega arith in
-    let one = some-bit (p.at % 16) low is.some in
-    omega (arith, one, part-count p, length-append (part_cells p) (all_cells parts), parts-few parts (All-tail IsPart p parts are))

@@ -1,17 +1,20 @@
 -- A trace on its way, turn by turn.
-use Rattle.std.proofs.Common.{◌≡◌, ℕ, zero, suc, ◌+◌, ◌-◌, ◌%◌, ◌^◌, ◌<◌, ◌≤◌, Bool, true, false, ◌==◌, cond, List, [], length, nat_lt, Option, Some, None, if◌then◌else◌, refl, sym, ap, subst, ◌∙◌, inl, inr, arith, add-zero}
-use Rattle.std.specs.Prelude.{count_by}
+use Rattle.std.proofs.Common.{◌≡◌, ℕ, zero, suc, ◌+◌, ◌-◌, ◌^◌, ◌<◌, ◌≤◌, Bool, true, false, ◌==◌, cond, List, [], length, nat_lt, Option, Some, None, if◌then◌else◌, refl, sym, ap, subst, ◌∙◌, arith, add-zero}
+use Rattle.std.specs.Prelude.{count_by, map, sum_by}
 use Rattle.std.specs.List.{range_with_len}
 use Rattle.std.specs.Option.{option_or}
-use Rattle.std.proofs.lemmas.Bool.{cases_eq, cases_lt, ltb-true, lt-ltb, cases_Bool, eq-eqb, ne_eqb, false≢true}
-use Rattle.std.proofs.lemmas.List.Sums.{sum_by-cons}
+use Rattle.std.proofs.lemmas.Bool.{cond-true, eq-eqb, eqb-false, false≢true}
+use Rattle.std.proofs.lemmas.Bool.Decides.{nat_tests}
+use Rattle.std.proofs.lemmas.List.{map-id}
+use Rattle.std.proofs.lemmas.List.FromFn.{sum_by-map-range_with_len_more}
+use Rattle.std.proofs.lemmas.Option.{same_Some}
 use Rattle.std.proofs.Math.Nat.{mod-eq_of_lt}
 use Rattle.asc_model.specs.declared.why.Why.{Why}
 use Rattle.asc_model.specs.declared.why.Why.TheVariants as whys
-use Rattle.asc_model.specs.Shape.{length_of, is_same_shape}
+use Rattle.asc_model.specs.Shape.{length_of}
 use Rattle.asc_model.specs.State.{State, IsState}
 use Rattle.asc_model.specs.Machine.{view_of}
-use Rattle.asc_model.specs.Step.{Next, At, Call, Bad, next}
+use Rattle.asc_model.specs.Step.{Next, Went, Call, Faulted, next}
 use Rattle.asc_model.specs.Places.{places_read, writes, bytes_after}
 use Rattle.asc_model.specs.Plain.{plain}
 use Rattle.asc_model.specs.Reach.{Bounds, leads_to, laps_in, touched_in, step_room, bound_met, why_no_step, why_after, GoesOn, IsReach}
@@ -25,11 +28,11 @@ use Rattle.asc_step.proofs.Rooms.{room_after_step}
 use Rattle.asc_depvec.specs.Tracer.{Tracing, IsTracing, face_of, start_of_face}
 use Rattle.asc_depvec.specs.Laws.{HasStatusesOf}
 use Rattle.asc_depvec.proofs.Dependencies.{no_statuses, statuses_follow}
-use Rattle.asc_model.proofs.Shapes.{is_same_shape-same}
 use Rattle.asc_depvec.proofs.Marking.{untouched_is}
 use Rattle.asc_depvec.proofs.Starts.{starts_stay}
 use Rattle.asc_traj.specs.Inside.{AreSure, counted, met}
-use Rattle.asc_traj.specs.Trace.{Asked, CountsAsk, LosesPatience, StandsFor, MayStop, asks_of, origin_of}
+use Rattle.asc_traj.specs.Trace.{Asked, CountsAsk, LosesPatience, asks_of, origin_of}
+use Rattle.asc_traj.proofs.Attempts.{room-told}
 use Rattle.asc_traj.proofs.Places.{length-touched}
 
 -- After n steps of a start, of which so many were laps, a tracer is on its way: it stands where they lead, with their
@@ -37,7 +40,7 @@ use Rattle.asc_traj.proofs.Places.{length-touched}
 pub record IsOnWay (bounds : Bounds) (start : State) (n laps : ℕ) (t : Tracing) : Type 0 where
   pub good : IsState start
   pub began : origin_of t ≡ start
-  pub goes : plain n start ≡ At t.state
+  pub goes : plain n start ≡ Went t.state
   pub statuses : HasStatusesOf n start t
   pub own : t.shape ≡ start.shape
   pub cap : t.cap ≡ bounds.cap
@@ -73,175 +76,94 @@ begins bounds t none own same_cap good fits =
 
 -- ---- the bounds
 
-not_lt : (a b : ℕ) → b ≤ a → nat_lt a b ≡ false
-not_lt a b le = elim (cases_Bool (nat_lt a b)) [
-  | inl e ↦ let lt = ltb-true a b e in absurd (omega arith)
-  | inr e ↦ e
-]
-
 room_left : (cap n : ℕ) → n ≤ cap → nat_lt (cap - n) 32 ≡ nat_lt cap (n + 32)
-room_left cap n h = elim (cases_lt cap (n + 32)) [
-  | inl few ↦ lt-ltb (cap - n) 32 (omega arith) ∙ sym (lt-ltb cap (n + 32) few)
-  | inr many ↦ not_lt (cap - n) 32 (omega arith) ∙ sym (not_lt cap (n + 32) many)
-]
+room_left cap n h = grind (arith, nat_tests)
 
 -- what is left of a tracer's places is what its steps leave
-pub few_left : (bounds : Bounds) (start : State) (n laps : ℕ) (t : Tracing) → IsOnWay bounds start n laps t → IsTracing t
+few_left : (bounds : Bounds) (start : State) (n laps : ℕ) (t : Tracing) → IsOnWay bounds start n laps t → IsTracing t
     → FitPlaces (length t.state.bytes) (face_of t).marks → nat_lt (room_of (face_of t).marks) step_room ≡ nat_lt bounds.cap (touched_in n start + 32)
 few_left bounds start n laps t on is fits =
     let kept = plain_steps_keep_states n start t.state on.good on.goes in
     let size : length start.bytes ≡ length t.state.bytes = on.good.length ∙ ap length_of (sym kept.1) ∙ sym kept.0.length in
-    let same : is_same_shape t.state.shape t.shape ≡ true = is_same_shape-same t.state.shape t.shape (kept.1 ∙ sym on.own) in
-    let left : room_of (face_of t).marks ≡ bounds.cap - length t.touched = ap (λ (b : Bool). (if b then t.cap else 0) - length t.touched) same ∙ ap (λ c. c - length t.touched) on.cap in
-    ap (λ r. nat_lt r 32) left
+    ap (λ r. nat_lt r 32) (room-told t is ∙ ap (λ c. c - length t.touched) on.cap)
     ∙ room_left bounds.cap (length t.touched) (subst (λ c. length t.touched ≤ c) on.cap is.room)
     ∙ ap (λ m. nat_lt bounds.cap (m + 32)) (length-touched n start t fits on.statuses size)
 
 -- none is left where all steps of the span are taken
 none_left : (span n : ℕ) → n ≤ span → (span - n == 0) ≡ (n == span)
-none_left span n most = elim (cases_eq n span) [
-  | inl e ↦ eq-eqb (span - n) 0 (omega (arith, e)) ∙ sym (eq-eqb n span e)
-  | inr some ↦ ne_eqb (span - n) 0 (λ e. some (omega (arith, e, most))) ∙ sym (ne_eqb n span some)
-]
-
--- the test of bounds where too few laps are made, by what is left and numbers of a tracer
-pub met-bound : (bounds : Bounds) (start : State) (n laps : ℕ) (t : Tracing) → IsOnWay bounds start n laps t → IsTracing t
-    → FitPlaces (length t.state.bytes) (face_of t).marks → (laps == bounds.laps) ≡ false → met (bounds.span - n) t ≡ bound_met bounds n start
-met-bound bounds start n laps t on is fits few =
-    let room = nat_lt (room_of (face_of t).marks) step_room in
-    let after : Bool → Bool → Option Why = λ lap span. if lap then Some whys.Lap else (if span then Some whys.Span else (if room then Some whys.Room else None)) in
-    sym (ap (λ lap. after lap (bounds.span - n == 0)) few) ∙ ap (λ l. after (l == bounds.laps) (bounds.span - n == 0)) on.counted
-    ∙ ap (after (laps_in bounds.pc n start == bounds.laps)) (none_left bounds.span n on.span)
-    ∙ ap (λ (b : Bool). if laps_in bounds.pc n start == bounds.laps then Some whys.Lap else (if n == bounds.span then Some whys.Span else (if b then Some whys.Room else None)))
-    (few_left bounds start n laps t on is fits)
+none_left span n most = grind (arith, nat_tests)
 
 -- A turn of the loop, after some steps: it counted so many laps, which are too few. So the bound that its test meets is
 -- the trace's.
 pub turn : {bounds : Bounds} {start : State} {n laps counts : ℕ} {t : Tracing} {all : Bool} → IsOnWay bounds start n counts t → laps ≡ counts → all ≡ (laps == bounds.laps) → all ≡ false
     → IsTracing t → FitPlaces (length t.state.bytes) (face_of t).marks → bound_met bounds n start ≡ met (bounds.span - n) t
 turn {bounds} {start} {n} {counts} {t} way same tests few is fits =
-    sym (met-bound bounds start n counts t way is fits (ap (λ l. l == bounds.laps) (sym same) ∙ sym tests ∙ few))
-
--- where a step is sure no bound is met
-pub met-none : (left : ℕ) (t : Tracing) → 0 < left → step_room ≤ room_of (face_of t).marks → met left t ≡ None
-met-none left t some room =
-    ap (λ (b : Bool). if b then Some whys.Span else (if nat_lt (room_of (face_of t).marks) step_room then Some whys.Room else None)) (ne_eqb left 0 (λ e. omega (arith, some, e)))
-    ∙ ap (λ (b : Bool). if b then Some whys.Room else None) (not_lt (room_of (face_of t).marks) step_room room)
+    let laps = ap (λ (l : ℕ). l == bounds.laps) (sym way.counted ∙ sym same) ∙ sym tests ∙ few in
+    let span = none_left bounds.span n way.span in
+    let room = few_left bounds start n counts t way is fits in
+    sym (λ i. if sym laps i then Some whys.Lap else (if span i then Some whys.Span else (if room i then Some whys.Room else None)))
 
 -- where no bound is met some are left, and there is room for a step
 pub some_left : (left : ℕ) (t : Tracing) → met left t ≡ None → 0 < left
-some_left zero t none = absurd (cc)
-some_left (suc left) t none = omega arith
+some_left left t none = grind (arith, nat_tests)
 
 pub room_for_step : (left : ℕ) (t : Tracing) → met left t ≡ None → step_room ≤ room_of (face_of t).marks
-room_for_step left t none = by_tests (left == 0) (nat_lt (room_of (face_of t).marks) step_room) refl none
-  where
-    by_tests : (a b : Bool) → nat_lt (room_of (face_of t).marks) step_room ≡ b → (if a then Some whys.Span else (if b then Some whys.Room else None)) ≡ None
-        → step_room ≤ room_of (face_of t).marks
-    by_tests true b e none = absurd (cc)
-    by_tests false true e none = absurd (cc)
-    by_tests false false e none = elim (cases_lt (room_of (face_of t).marks) step_room) [
-      | inl few ↦ absurd (false≢true (sym e ∙ lt-ltb _ _ few))
-      | inr many ↦ many
-    ]
+room_for_step left t none = grind (arith, nat_tests)
 
 -- the first bound that is met is that of laps
 pub lapped : (bounds : Bounds) (start : State) (n laps : ℕ) (t : Tracing) → IsOnWay bounds start n laps t → laps ≡ bounds.laps → bound_met bounds n start ≡ Some whys.Lap
-lapped bounds start n laps t on e =
-    ap (λ (b : Bool). if b then Some whys.Lap else (if n == bounds.span then Some whys.Span else (if nat_lt bounds.cap (touched_in n start + step_room) then Some whys.Room else None)))
-    (ap (λ l. l == bounds.laps) (sym on.counted) ∙ eq-eqb laps bounds.laps e)
+lapped bounds start n laps t on e = cond-true (laps_in bounds.pc n start == bounds.laps) _ _ (eq-eqb (laps_in bounds.pc n start) bounds.laps (sym on.counted ∙ e))
 
 -- ---- ends
 
--- a tracer on its way stands for its steps
-pub stands : (bounds : Bounds) (start : State) (n laps : ℕ) (t : Tracing) → IsOnWay bounds start n laps t
-    → FitPlaces (length t.state.bytes) (face_of t).marks → StandsFor n t
-stands bounds start n laps t on fits = record {
-  goes = ap (plain n) on.began ∙ on.goes;
-  statuses = subst (λ s. HasStatusesOf n s t) (sym on.began) on.statuses;
-  touched = fits;
-}
+ends : (bounds : Bounds) (start : State) (n laps : ℕ) (t : Tracing) (why : Why) → IsOnWay bounds start n laps t → why_after bounds n start t.state ≡ Some why → IsReach bounds start n why
+ends bounds start n laps t why on e = record { now = t.state; goes = on.goes; ends = e; least = on.least }
 
 -- it ends where a bound is met
 pub ends-bound : (bounds : Bounds) (start : State) (n laps : ℕ) (t : Tracing) (why : Why) → IsOnWay bounds start n laps t → bound_met bounds n start ≡ Some why → IsReach bounds start n why
-ends-bound bounds start n laps t why on e = record {
-  now = t.state;
-  goes = on.goes;
-  ends = ap (λ o. option_or o (why_no_step (next t.state))) e;
-  least = on.least;
-}
+ends-bound bounds start n laps t why on e = ends bounds start n laps t why on (ap (λ o. option_or o (why_no_step (next t.state))) e)
 
 -- and where there is no next step
 pub ends-step : (bounds : Bounds) (start : State) (n laps : ℕ) (t : Tracing) (why : Why) → IsOnWay bounds start n laps t → bound_met bounds n start ≡ None
     → why_no_step (next t.state) ≡ Some why → IsReach bounds start n why
-ends-step bounds start n laps t why on e ends = record {
-  now = t.state;
-  goes = on.goes;
-  ends = ap (λ o. option_or o (why_no_step (next t.state))) e ∙ ends;
-  least = on.least;
-}
-
-pub ends-stopped : (bounds : Bounds) (start : State) (n laps : ℕ) (t : Tracing) → IsOnWay bounds start n laps t → bound_met bounds n start ≡ None → MayStop bounds start n
-ends-stopped bounds start n laps t on e = record { least = on.least; unmet = e }
+ends-step bounds start n laps t why on e last = ends bounds start n laps t why on (ap (λ o. option_or o (why_no_step (next t.state))) e ∙ last)
 
 -- ---- one step more
 
--- where no bound is met the span isn't
-unspanned : (a b c : Bool) → (if a then Some whys.Lap else (if b then Some whys.Span else (if c then Some whys.Room else None))) ≡ None → b ≡ false
-unspanned true b c e = absurd (cc)
-unspanned false true c e = absurd (cc)
-unspanned false false c e = refl
-
-span-more : (n span : ℕ) → n ≤ span → (n == span) ≡ false → suc n ≤ span
-span-more n span h e = elim (cases_lt n span) [
-  | inl lt ↦ omega arith
-  | inr ge ↦ let same : n ≡ span = omega arith in absurd (false≢true (sym e ∙ eq-eqb n span same))
-]
+-- where no bound is met neither that of steps is nor that of places
+pub unmet : (a b c : Bool) → (if a then Some whys.Lap else (if b then Some whys.Span else (if c then Some whys.Room else None))) ≡ None → (b ≡ false) × (c ≡ false)
+unmet a b c e = (grind arith, grind arith)
 
 -- laps by the last of some steps
 count-last : (p : ℕ → Bool) (a n : ℕ) → count_by p (range_with_len a (suc n)) ≡ count_by p (range_with_len a n) + cond (p (a + n)) 1 0
-count-last p a zero =
-    let one = sum_by-cons (λ k. cond (p k) 1 0) a [] in
-    let at : cond {A = ℕ} (p (a + 0)) 1 0 ≡ cond (p a) 1 0 = ap (λ k. cond {A = ℕ} (p k) 1 0) (add-zero a) in
-    omega (arith, one, at)
-count-last p a (suc n) =
-    let first = sum_by-cons (λ k. cond (p k) 1 0) a (range_with_len (a + 1) (suc n)) in
-    let rest = count-last p (a + 1) n in
-    let front = sum_by-cons (λ k. cond (p k) 1 0) a (range_with_len (a + 1) n) in
-    let at : p (a + 1 + n) ≡ p (a + suc n) = ap p (omega arith) in
-    let last = ap (λ (b : Bool). cond {A = ℕ} b 1 0) at in
-    omega (arith, first, rest, front, last)
+count-last p a n =
+    let once = λ (k : ℕ). cond {A = ℕ} (p k) 1 0 in
+    let next : suc n ≡ n + 1 = omega arith in
+    sym (ap (sum_by once) (map-id (range_with_len a (suc n)))) ∙ ap (λ (m : ℕ). sum_by once (map (λ (k : ℕ). k) (range_with_len a m))) next
+    ∙ sum_by-map-range_with_len_more once (λ k. k) a n (a + n) refl ∙ ap (λ (list : List ℕ). sum_by once list + once (a + n)) (map-id (range_with_len a n))
 
-pub laps-last : (pc n : ℕ) (start after : State) → plain (suc n) start ≡ At after → laps_in pc (suc n) start ≡ laps_in pc n start + cond ((view_of after).pc == pc) 1 0
+laps-last : (pc n : ℕ) (start after : State) → plain (suc n) start ≡ Went after → laps_in pc (suc n) start ≡ laps_in pc n start + cond ((view_of after).pc == pc) 1 0
 laps-last pc n start after e =
     count-last (λ k. leads_to pc (plain k start)) 1 n
     ∙ ap (λ k. laps_in pc n start + cond (leads_to pc (plain k start)) 1 0) (omega arith)
     ∙ ap (λ x. laps_in pc n start + cond (leads_to pc x) 1 0) e
 
 -- where a step is not ended it leads to a state
-goes_by : (x : Next) → why_no_step x ≡ None → (after : State) × (x ≡ At after)
-goes_by (At after) e = (after, refl)
+pub goes_by : (x : Next) → why_no_step x ≡ None → (after : State) × (x ≡ Went after)
+goes_by (Went after) e = (after, refl)
 goes_by Call e = absurd (cc)
-goes_by (Bad fault) e = absurd (cc)
+goes_by (Faulted fault) e = absurd (cc)
 
 -- the state of a face after a step
-state-after : (f : Face) (after : State) → IsState f.state → next f.state ≡ At after → (face_after f).state ≡ after
+state-after : (f : Face) (after : State) → IsState f.state → next f.state ≡ Went after → (face_after f).state ≡ after
 state-after f after good e =
     state-puts (face_after_reads f (places_read f.state)) (writes f.state)
     ∙ ap (λ (s : State). record s { bytes = bytes_after s.bytes (writes f.state) }) (state-reads f (places_read f.state))
     ∙ sym ((step_writes_bytes f.state good).goes after e)
 
 -- nothing ended the trace before one step more
-least-more : (bounds : Bounds) (start : State) (n : ℕ) (t : State) → plain n start ≡ At t → GoesOn bounds start n → bound_met bounds n start ≡ None → why_no_step (next t) ≡ None → GoesOn bounds start (suc n)
-least-more bounds start n t goes least bound step k now lt at = elim (cases_lt k n) [
-  | inl before ↦ least k now before at
-  | inr past ↦
-      let same : k ≡ n = omega arith in
-      let here : At now ≡ At t = sym at ∙ ap (λ j. plain j start) same ∙ goes in
-      let state : now ≡ t = cc in
-      ap (λ j. why_after bounds j start now) same ∙ ap (λ s. why_after bounds n start s) state
-      ∙ ap (λ o. option_or o (why_no_step (next t))) bound ∙ step
-]
+least-more : (bounds : Bounds) (start : State) (n : ℕ) (t : State) → plain n start ≡ Went t → GoesOn bounds start n → bound_met bounds n start ≡ None → why_no_step (next t) ≡ None → GoesOn bounds start (suc n)
+least-more bounds start n t goes least bound step k now lt at = grind (arith, nat_tests, goes, least)
 
 -- the next turn: a step was taken, and it was a lap or not
 pub goes_on : (bounds : Bounds) (start : State) (n laps : ℕ) (t later : Tracing) → IsOnWay bounds start n laps t
@@ -255,8 +177,8 @@ goes_on bounds start n laps t later on good fits bound step face shape same_cap 
     let after = went.0 in
     let places = state-TouchesPlaces t.state good in
     let at : later.state ≡ after = ap (λ (f : Face). f.state) face ∙ state-after (face_of t) after good went.1 in
-    let goes : plain (suc n) start ≡ At later.state =
-    ap (λ k. plain k start) one_more ∙ plain_steps_join n 1 start t.state on.goes ∙ plain-suc_next 0 t.state (At after) went.1 ∙ plain-zero after ∙ ap At (sym at) in
+    let goes : plain (suc n) start ≡ Went later.state =
+    ap (λ k. plain k start) one_more ∙ plain_steps_join n 1 start t.state on.goes ∙ plain-suc_next 0 t.state (Went after) went.1 ∙ plain-zero after ∙ ap Went (sym at) in
     let lap = ap (λ l. l + cond ((view_of later.state).pc == bounds.pc) 1 0) on.counted in
     let bound_lap = cond_most ((view_of later.state).pc == bounds.pc) in
     subst (λ k. IsOnWay bounds start k more later) one_more (record {
@@ -269,7 +191,7 @@ goes_on bounds start n laps t later on good fits bound step face shape same_cap 
       counted = is ∙ lap ∙ sym (laps-last bounds.pc n start later.state goes);
       least = least-more bounds start n t.state on.goes on.least bound step;
       most = omega (arith, is, bound_lap, on.most);
-      span = span-more n bounds.span on.span (unspanned (laps_in bounds.pc n start == bounds.laps) (n == bounds.span) _ bound);
+      span = omega (arith, on.span, eqb-false n bounds.span (unmet (laps_in bounds.pc n start == bounds.laps) (n == bounds.span) _ bound).0);
     })
   where
     cond_most : (b : Bool) → cond b 1 0 ≤ 1
@@ -289,12 +211,10 @@ sure-next span n sure t later was more good fits face = record {
 
 -- at the start none is counted
 pub counted-start : (laps : ℕ) (there : Bool) → laps ≡ (if there then 2 ^ 64 - 1 else 0) → counted laps there ≡ 0
-counted-start laps true e = ap (λ k. (k + 1) % 2 ^ 64) e
-counted-start laps false e = e
+counted-start laps there e = grind arith
 
 pub few-start : (laps all : ℕ) (there : Bool) → laps ≡ (if there then 2 ^ 64 - 1 else 0) → 1 ≤ all → there ≡ false → (laps == all) ≡ false
-few-start laps all true e some away = absurd (false≢true (sym away))
-few-start laps all false e some away = ne_eqb laps all (λ same. omega (arith, some, same, e))
+few-start laps all there e some away = grind (arith, nat_tests)
 
 -- and later one more, where the state stands at the pc of laps
 pub counted-more : (laps : ℕ) (there : Bool) → laps + 1 < 2 ^ 64 → counted laps there ≡ laps + cond there 1 0
@@ -320,10 +240,6 @@ left-next (Some (suc m)) now steps n has loses =
     let same : suc m ≡ has.left = let some = has.told in cc in
     record { left = m; told = loses refl; sum = omega (arith, same, has.sum) }
 
--- no more steps are taken
-pub left-most : (patience : Option ℕ) (steps n : ℕ) → HasLeft patience steps n → steps ≤ n
-left-most patience steps n has = omega (arith, has.sum)
-
 -- ---- questions
 
 -- before a trace asks, its number of questions is as it was
@@ -341,24 +257,12 @@ asked-next (Some first) (Some before) (Some now) n asked one = omega arith
 -- where a bound is met it was not asked after the last step
 pub asked-bound : (b c : Bool) (why : Why) (first now : Option ℕ) (n : ℕ) → Asked first now n
     → (if b then Some whys.Span else (if c then Some whys.Room else None)) ≡ Some why → Asked first now (asks_of n why)
-asked-bound b c why first now n asked e = subst (Asked first now) (sym (by_bound b c why e)) asked
-  where
-    same : (one other : Why) → Some one ≡ Some other → one ≡ other
-    same one other e = cc
-
-    by_bound : (b c : Bool) (why : Why) → (if b then Some whys.Span else (if c then Some whys.Room else None)) ≡ Some why → asks_of n why ≡ n
-    by_bound true c why e = ap (asks_of n) (sym (same whys.Span why e))
-    by_bound false true why e = ap (asks_of n) (sym (same whys.Room why e))
-    by_bound false false why e = absurd (cc)
+asked-bound true c why first now n asked e = subst (λ w. Asked first now (asks_of n w)) (same_Some whys.Span why e) asked
+asked-bound false true why first now n asked e = subst (λ w. Asked first now (asks_of n w)) (same_Some whys.Room why e) asked
+asked-bound false false why first now n asked e = absurd (cc)
 
 -- and where there is no next step it was
 pub asked-step : (s : Next) (why : Why) (first now : Option ℕ) (n : ℕ) → Asked first now (n + 1) → why_no_step s ≡ Some why → Asked first now (asks_of n why)
-asked-step s why first now n asked e = subst (Asked first now) (sym (by_step s e)) asked
-  where
-    same : (one other : Why) → Some one ≡ Some other → one ≡ other
-    same one other e = cc
-
-    by_step : (s : Next) → why_no_step s ≡ Some why → asks_of n why ≡ n + 1
-    by_step (At after) e = absurd (cc)
-    by_step Call e = ap (asks_of n) (sym (same whys.Call why e))
-    by_step (Bad fault) e = ap (asks_of n) (sym (same (whys.Fault fault) why e))
+asked-step (Went after) why first now n asked e = absurd (cc)
+asked-step Call why first now n asked e = subst (λ w. Asked first now (asks_of n w)) (same_Some whys.Call why e) asked
+asked-step (Faulted fault) why first now n asked e = grind (arith, nat_tests, same_Some)

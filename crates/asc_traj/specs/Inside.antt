@@ -13,13 +13,13 @@ use Rattle.asc_traj.specs.Parts.{IsPart, all_cells}
 use Rattle.asc_traj.specs.declared.entry.Halves.{Halves}
 use Rattle.asc_traj.specs.Trace.{CountsAnswer, MayStop, StandsFor, is_stopped, origin_of}
 use Rattle.asc_step.specs.declared.stepped.Stepped.{Stepped}
-use Rattle.asc_step.specs.declared.stepped.Stepped.TheVariants.{Went, Call, Fault}
+use Rattle.asc_step.specs.declared.stepped.Stepped.TheVariants.{Went, Call, Faulted}
 
 -- why a step was not taken
 abbrev pub why_of : Stepped → Option Why
 why_of Went = None
 why_of Call = Some whys.Call
-why_of (Fault fault) = Some (whys.Fault fault)
+why_of (Faulted fault) = Some (whys.Fault fault)
 
 -- A trace of a guess within bounds took n steps of a tracer, and ended for this reason. The count of yes answers of its halt
 -- was so many before, and is so many now.

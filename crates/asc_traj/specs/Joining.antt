@@ -1,9 +1,8 @@
 -- Joining two entries word by word.
 use Rattle.std.specs.Prelude.{◌≡◌, ℕ, ◌+◌, ◌*◌, ◌/◌, ◌%◌, ◌^◌, ◌<◌, ◌≤◌, ◌==◌, ◌&&◌, Bool, true, List, [], ◌∷◌, All, map, length, min, Option, Some, None, if◌then◌else◌}
-use Rattle.std.specs.List.{list_all}
 use Rattle.std.specs.List.Sorted.{IsStrictlyIncreasing}
 use Rattle.asc_model.specs.Entry.{Entry}
-use Rattle.asc_model.specs.Join.{agrees, byte_in, cells_by, left_by_both, read_by_both, known_after}
+use Rattle.asc_model.specs.Join.{agrees, byte_in, cells_by, left_by_both, read_by_both}
 use Rattle.asc_traj.specs.declared.part.Part.{Part}
 use Rattle.asc_traj.specs.declared.entry.Halves.{Halves}
 use Rattle.asc_traj.specs.declared.join.WordBytes.{WordBytes}

@@ -3,7 +3,7 @@ use Rattle.std.specs.Prelude.{◌≡◌, ℕ, zero, suc, ◌+◌, Bool, true, fa
 use Rattle.asc_model.specs.declared.why.Why.{Why}
 use Rattle.asc_model.specs.declared.why.Why.TheVariants.{Lap, Span, Room, Stopped, Call, Fault}
 use Rattle.asc_model.specs.State.{State}
-use Rattle.asc_model.specs.Step.{At}
+use Rattle.asc_model.specs.Step.{Went}
 use Rattle.asc_model.specs.Plain.{plain}
 use Rattle.asc_model.specs.Reach.{Bounds, GoesOn, bound_met}
 use Rattle.asc_shape.specs.Face.{FitPlaces}
@@ -51,7 +51,7 @@ origin_of t = start_of_face (face_of t)
 -- A tracer stands for n steps: they lead from its start to its state, its statuses are theirs, and each touched place
 -- is listed once.
 pub record StandsFor (n : ℕ) (t : Tracing) : Type 0 where
-  pub goes : plain n (origin_of t) ≡ At t.state
+  pub goes : plain n (origin_of t) ≡ Went t.state
   pub statuses : HasStatusesOf n (origin_of t) t
   pub touched : FitPlaces (length t.state.bytes) (face_of t).marks
 

@@ -7,8 +7,9 @@ ghost use Rattle.asc_model.specs.Shape.{length_of};
 
 use crate::beside::Action::{Steps, Undo};
 use asc_depvec::Tracer;
-use asc_shape::Status::{Read, ReadWritten, Untouched, Written};
-use asc_shape::{Bytes, Guess, Shape, Snapshot, State, Status};
+use asc_model::Status;
+use asc_model::Status::{Read, ReadWritten, Untouched, Written};
+use asc_shape::{Bytes, Guess, Shape, Snapshot, State};
 use asc_step::{Stepped, try_step};
 use std::alloc::Global;
 use std::process::Abort;
@@ -372,12 +373,12 @@ fn put_all<R: Abort>(rt: &R, beside: &mut Beside, puts: &[Run]) {
 
 /// One step of a tracer. Where it calls or faults, its reads are taken back, as a trace does.
 fn traced_step<R: Abort>(rt: &R, tracer: &mut Tracer) -> Stepped {
-    let mark = tracer.mark();
+    let count = tracer.touched_count();
     assert!(rt; tracer.room() >= 32);
     let answer = try_step(tracer);
     if answer != Stepped::Went {
-        assert!(rt; mark <= tracer.mark());
-        tracer.undo(mark);
+        assert!(rt; count <= tracer.touched_count());
+        tracer.undo(count);
     }
     answer
 }
@@ -395,22 +396,22 @@ fn steps<R: Abort>(rt: &R, beside: &mut Beside, count: u32) -> Stepped {
 }
 
 /// Makes the places behind so many touched ones untouched, with the bytes of the start.
-fn undo<R: Abort>(rt: &R, beside: &mut Beside, mark: usize) {
-    assert!(rt; mark <= beside.tracer.mark());
-    beside.tracer.undo(mark);
-    for &place in beside.touched.iter().skip(mark) {
+fn undo<R: Abort>(rt: &R, beside: &mut Beside, count: usize) {
+    assert!(rt; count <= beside.tracer.touched_count());
+    beside.tracer.undo(count);
+    for &place in beside.touched.iter().skip(count) {
         let at = place as usize;
         assert!(rt; at < beside.statuses.len() && at < beside.state.len());
         assert!(rt; at < beside.start.len());
         beside.statuses[at] = Untouched;
         beside.state.set(place, beside.start.get(place));
     }
-    beside.touched.truncate(mark);
+    beside.touched.truncate(count);
 }
 
 /// The tracer has the bytes and statuses of the plain state beside it, and no other place is touched.
 fn compare<R: Abort>(rt: &R, beside: &Beside) {
-    assert_eq!(rt; beside.tracer.mark(), beside.touched.len());
+    assert_eq!(rt; beside.tracer.touched_count(), beside.touched.len());
     let count = places(Bytes::shape(&beside.tracer));
     for &place in &beside.touched {
         let at = place as usize;
@@ -429,7 +430,7 @@ fn carry_out<R: Abort>(rt: &R, beside: &mut Beside, actions: &[Action]) -> Stepp
     for action in actions {
         match *action {
             Steps(count) => answer = steps(rt, beside, count),
-            Undo(mark) => undo(rt, beside, mark),
+            Undo(count) => undo(rt, beside, count),
         }
         compare(rt, beside);
     }
@@ -540,9 +541,9 @@ fn random_run<R: Abort>(rt: &R, beside: &mut Beside, seed: u32) {
         let _ = carry_out(rt, beside, &[Steps(number % 64)]);
         let touched = beside.touched.len();
         number = next(number);
-        let mark = touched / 2 + (number % 64) as usize;
-        if mark < touched {
-            let _ = carry_out(rt, beside, &[Undo(mark)]);
+        let count = touched / 2 + (number % 64) as usize;
+        if count < touched {
+            let _ = carry_out(rt, beside, &[Undo(count)]);
         }
     }
 }

@@ -7,7 +7,7 @@ ghost use Rattle.asc_model.specs.Shape.{length_of};
 ghost use Rattle.asc_model.specs.State.{IsState};
 ghost use Rattle.asc_model.specs.Entry.{IsTrueEntry, Matches, put_entry, entry_of};
 ghost use Rattle.asc_model.specs.Join.{can_join, join_of};
-ghost use Rattle.asc_model.specs.Step.{At};
+ghost use Rattle.asc_model.specs.Step.{Went};
 ghost use Rattle.asc_model.specs.Plain.{plain};
 ghost use Rattle.asc_model.specs.Places.{bytes_after, cells, places_from};
 ghost use Rattle.asc_model.specs.Number.{bytes_of};
@@ -23,8 +23,9 @@ use crate::join::{can_join, join_halves};
 use crate::part::{Part, has_parts, push};
 use crate::tracing::known;
 use asc_depvec::{Block, Tracer};
+use asc_model::Status;
 use asc_outside::Memory;
-use asc_shape::{Bytes, Shape, State, Status};
+use asc_shape::{Bytes, Shape, State};
 use std::alloc::{AllocError, Global};
 use std::marker::Model;
 use std::sync::Arc;
@@ -166,7 +167,7 @@ impl Entry {
     pub fn put(&self, state: &mut State)
         requires { state.old.shape ≡ self.now.shape }
         ensures put { state.new ≡ put_entry self.now state.old }
-        ensures steps { Matches self.now state.old → plain self.now.steps state.old ≡ At state.new }
+        ensures steps { Matches self.now state.old → plain self.now.steps state.old ≡ Went state.new }
     {
         // That it is a state.
         let _ = state.shape();

@@ -14,7 +14,6 @@ mod part;
 mod tests;
 mod tracing;
 
-pub use asc_model::Why;
 pub use cells::{Cell, cells_of, next_cell};
 pub use entry::Entry;
 pub use halt::{Halt, Never};

@@ -1,6 +1,6 @@
 ghost use Rattle.std.specs.Prelude.{◌≡◌, ◌≤◌, ◌&&◌, nat_le, nat_lt, true, map, Some, None, IfSome, IfNone};
 ghost use Rattle.std.specs.Arc.{arc_value};
-ghost use Rattle.asc_model.specs.Step.{At};
+ghost use Rattle.asc_model.specs.Step.{Went};
 ghost use Rattle.asc_model.specs.Plain.{plain};
 ghost use Rattle.asc_traj.specs.Content.{longest, matches};
 ghost use Rattle.asc_traj.specs.Jump.{IsJump};
@@ -42,7 +42,7 @@ pub fn jump_by(entry: &Entry, state: &mut State) -> u64
     requires { matches state.old entry.now ≡ true }
     ensures steps { result ≡ entry.now.steps }
     ensures least { 1 ≤ entry.now.steps }
-    ensures goes { plain entry.now.steps state.old ≡ At state.new }
+    ensures goes { plain entry.now.steps state.old ≡ Went state.new }
 {
     entry.truth();
     entry.put(state);

@@ -10,8 +10,9 @@ ghost use Rattle.asc_traj.specs.Inside.{HasTraced};
 ghost use Rattle.asc_traj.specs.Trace.{bounds_of, is_stopped};
 
 use crate::tracing::{attempt_anew, known};
-use crate::{Entry, Halt, Stop, Traced, Why, trace};
+use crate::{Entry, Halt, Stop, Traced, trace};
 use asc_depvec::Tracer;
+use asc_model::Why;
 use asc_shape::Guess;
 use std::alloc::Global;
 use std::sync::Arc;

@@ -1,10 +1,11 @@
 ghost use Rattle.std.specs.Prelude.{◌≡◌};
 ghost use Rattle.asc_traj.specs.Trace.{StandsFor};
 
-use crate::{Entry, Halt, Made, Never, Part, Stop, Traced, Why, cells_of, trace};
+use crate::{Entry, Halt, Made, Never, Part, Stop, Traced, cells_of, trace};
 use asc_depvec::Tracer;
-use asc_shape::{Guess, Shape, Snapshot, State, Status};
-use asc_step::{Fault, FaultKind, Stepped, try_step};
+use asc_model::{Fault, FaultKind, Status, Why};
+use asc_shape::{Guess, Shape, Snapshot, State};
+use asc_step::{Stepped, try_step};
 use std::alloc::Global;
 use std::process::Abort;
 use std::sync::Arc;
@@ -320,7 +321,7 @@ fn statuses(rt: HostRuntime) {
             assert_eq!(rt; tracer.status(place), status, "at {place}");
         }
     }
-    assert_eq!(rt; tracer.mark(), 12);
+    assert_eq!(rt; tracer.touched_count(), 12);
 }
 
 /// SC.W x6, x7, (x10), which succeeds.
@@ -334,7 +335,7 @@ fn conditional_store(rt: HostRuntime) {
         state.set(place, byte);
     }
     let (ended, tracer) = traced(&rt, alloc, &state, 64, stop_at(9, 1), &mut Never);
-    assert_eq!(rt; (ended, tracer.mark()), (end(1, Why::Span), 29));
+    assert_eq!(rt; (ended, tracer.touched_count()), (end(1, Why::Span), 29));
     let entry = entry_of(&rt, alloc, &state, stop_at(9, 1), end(1, Why::Span));
     let reads: [Run; 5] = [
         (0, &[0, 0, 1, 0]),
@@ -445,7 +446,7 @@ fn nothing_touched(rt: HostRuntime) {
     ] {
         let (ended, tracer) = traced(&rt, alloc, state, 64, stop_at(9, 9), &mut Never);
         assert_eq!(rt; ended, end(0, why));
-        assert_eq!(rt; tracer.mark(), 0);
+        assert_eq!(rt; tracer.touched_count(), 0);
         for place in 0..65_664 {
             assert!(rt; tracer.status(place) == Status::Untouched, "at {place}");
         }

@@ -9,8 +9,9 @@ ghost use Rattle.asc_shape.specs.Face.{FitPlaces, room_of};
 ghost use Rattle.asc_traj.specs.Trace.{Asked, CountsAnswer, MayStop, StandsFor, asks_of, bounds_of, is_stopped, origin_of};
 ghost use Rattle.asc_traj.specs.Inside.{AreSure, counted, met, why_of};
 
-use crate::{Halt, Why};
+use crate::Halt;
 use asc_depvec::{LEAST_CAP, Tracer};
+use asc_model::Why;
 use asc_shape::{Bytes, Shape};
 use asc_step::{Stepped, step_anew, step_settled};
 
@@ -214,13 +215,13 @@ pub(crate) fn attempt_anew(tracer: &mut Tracer, why: &mut Why) -> bool
     ensures cap { tracer.new.cap ≡ tracer.old.cap }
 {
     known(tracer);
-    let mark = tracer.mark();
+    let count = tracer.touched_count();
     let mut stepped = Stepped::Went;
     step_anew(tracer, &mut stepped);
     match why_of(stepped) {
         None => true,
         Some(ended) => {
-            tracer.undo(mark);
+            tracer.undo(count);
             *why = ended;
             false
         }
@@ -235,7 +236,7 @@ fn why_of(stepped: Stepped) -> Option<Why>
     match stepped {
         Stepped::Went => None,
         Stepped::Call => Some(Why::Call),
-        Stepped::Fault(fault) => Some(Why::Fault(fault)),
+        Stepped::Faulted(fault) => Some(Why::Fault(fault)),
     }
 }
 
@@ -246,6 +247,6 @@ pub(crate) fn known(tracer: &Tracer)
     ensures state { IsState tracer.now.state }
     ensures marks { FitPlaces (length tracer.now.state.bytes) (face_of tracer.now).marks }
 {
-    let _ = tracer.mark();
+    let _ = tracer.touched_count();
     let _ = Bytes::shape(tracer);
 }

@@ -1,16 +1,17 @@
 //! Walks.
 ghost use Rattle.std.specs.Prelude.{◌≡◌, ◌<◌, ◌^◌};
-ghost use Rattle.asc_run.specs.Helped.{aid, HasRoom};
+ghost use Rattle.asc_run.specs.Helped.{HasRoom};
 ghost use Rattle.asc_run.specs.Visits.{HasBounds};
 
+use asc_calls::Devices;
 use asc_depvec::Tracer;
 use asc_elf::read;
-use asc_find::{Finder, ListFinder, Noted, Nothing};
+use asc_find::{Bare, Finder, Helper, ListFinder, Noted, Nothing};
+use asc_model::{Fault, FaultKind, RunCounts, Version};
 use asc_outside::{CountSink, SureSource};
-use asc_run::{Bare, Counts, Ended, Helper, MOST_STEPS, Recognised, Settings, Walk};
+use asc_run::{Ended, MOST_STEPS, Recognised, Settings, Walk};
 use asc_seek::Seeking;
-use asc_shape::{Guess, Shape, Snapshot, State, Steps, Version};
-use asc_step::{Fault, FaultKind};
+use asc_shape::{Guess, Shape, Snapshot, State, Steps};
 use asc_traj::{Entry, Never, Stop, trace};
 use std::alloc::Global;
 use std::marker::Brand;
@@ -87,12 +88,11 @@ pub(crate) fn run<H: Helper, L: Ledger, R: Abort>(
     words: &[u32; 7],
     settings: Settings,
     helper: &mut H,
-) -> (Ended, Counts)
+) -> (Ended, RunCounts)
     requires name { blank.name ≡ L.name }
     requires parts { blank.parts ≡ L.parts }
     requires some { 0 < L.parts }
-    requires room { HasRoom (2 ^ 61)
-        (aid (H.tally helper.old) (H.replies helper.old) (H.plan helper.old) (H.machine helper.old)) }
+    requires room { HasRoom (2 ^ 61) (H.aid helper.old) }
 {
     assert!(rt; settings.limit <= MOST_STEPS);
     check_bounds(rt, settings.recognised);
@@ -104,12 +104,11 @@ pub(crate) fn run<H: Helper, L: Ledger, R: Abort>(
     let image = read(&file, 65_536, Version::One).expect(rt, "an image");
     let mut walk = Walk::new(alloc, &image, settings).expect(rt, "memory");
     let mut steps = Steps::<L>::new(blank);
-    let mut input = SureSource::new(Vec::new(alloc));
-    let mut out = CountSink::new();
-    let mut err = CountSink::new();
-    let ended = walk.go(helper, &mut input, &mut out, &mut err, &mut steps);
+    let input = SureSource::new(Vec::new(alloc));
+    let mut devices = Devices::new(input, CountSink::new(), CountSink::new());
+    let ended = walk.go(helper, &mut devices, &mut steps);
     let counts = walk.counts();
-    let again = walk.go(helper, &mut input, &mut out, &mut err, &mut steps);
+    let again = walk.go(helper, &mut devices, &mut steps);
     assert_eq!(rt; again, ended);
     assert_eq!(rt; walk.counts(), counts);
     (ended, counts)
@@ -177,8 +176,7 @@ fn runs(rt: HostRuntime) {
             settings,
             &mut helper,
         );
-        let counts = Counts {
-            count,
+        let counts = RunCounts {
             executed: count,
             skipped: 0,
             asked,
@@ -231,12 +229,11 @@ fn entry_of<R: Abort>(rt: &R, alloc: Global, laps: u64, steps: u64) -> Arc<Entry
 fn jumps(rt: HostRuntime) {
     let alloc = rt.alloc();
     // The limit, and then how the run ends, and its numbers.
-    let cases: [(u64, Ended, Counts, &[Option<u64>]); 2] = [
+    let cases: [(u64, Ended, RunCounts, &[Option<u64>]); 2] = [
         (
             MOST_STEPS,
             Ended::Exit(0),
-            Counts {
-                count: 13,
+            RunCounts {
                 executed: 9,
                 skipped: 4,
                 asked: 3,
@@ -247,8 +244,7 @@ fn jumps(rt: HostRuntime) {
         (
             5,
             Ended::Limit,
-            Counts {
-                count: 5,
+            RunCounts {
                 executed: 3,
                 skipped: 2,
                 asked: 2,

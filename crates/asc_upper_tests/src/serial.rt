@@ -1,15 +1,17 @@
 //! Walks whose helper follows its guesses itself.
 ghost use Rattle.std.specs.Prelude.{◌≡◌, ◌≤◌, ◌<◌, ◌^◌, IsNone};
-ghost use Rattle.asc_run.specs.Helped.{aid, HasRoom};
-ghost use Rattle.asc_run.specs.SerialHelper.{plan_of, told_machine};
+ghost use Rattle.asc_run.specs.Helped.{HasRoom};
+ghost use Rattle.asc_run.specs.SerialHelper.{aid_of};
 
 use crate::run::{COUNTING, HEAD, run};
+use asc_calls::Devices;
 use asc_elf::read;
-use asc_find::{Finder, Guessing};
+use asc_find::{Finder, Guessing, Helper};
 use asc_guess::Kind;
+use asc_model::{RunCounts, Version};
 use asc_outside::{CountSink, SureSource};
-use asc_run::{Counts, Ended, Helper, MOST_AHEAD, MOST_STEPS, Recognised, Serial, Settings, Walk};
-use asc_shape::{Shape, State, Steps, Version};
+use asc_run::{Ended, MOST_AHEAD, MOST_STEPS, Recognised, Serial, Settings, Walk};
+use asc_shape::{Shape, State, Steps};
 use asc_shard::Inserted;
 use asc_traj::Made;
 use std::alloc::Global;
@@ -37,15 +39,14 @@ fn two_ahead(last: bool, stride: bool, join: bool) -> Guessing
 
 /// Of the loop that counts: which kinds are on, whether entries are joined, and the limit, and then how the run ends, its
 /// numbers, and how many guesses were made.
-static RUNS: [(bool, bool, bool, u64, Ended, Counts, u64); 7] = [
+static RUNS: [(bool, bool, bool, u64, Ended, RunCounts, u64); 7] = [
     (
         false,
         true,
         false,
         MOST_STEPS,
         Ended::Exit(0),
-        Counts {
-            count: 13,
+        RunCounts {
             executed: 7,
             skipped: 6,
             asked: 4,
@@ -59,8 +60,7 @@ static RUNS: [(bool, bool, bool, u64, Ended, Counts, u64); 7] = [
         false,
         MOST_STEPS,
         Ended::Exit(0),
-        Counts {
-            count: 13,
+        RunCounts {
             executed: 5,
             skipped: 8,
             asked: 4,
@@ -74,8 +74,7 @@ static RUNS: [(bool, bool, bool, u64, Ended, Counts, u64); 7] = [
         false,
         12,
         Ended::Limit,
-        Counts {
-            count: 12,
+        RunCounts {
             executed: 6,
             skipped: 6,
             asked: 4,
@@ -89,8 +88,7 @@ static RUNS: [(bool, bool, bool, u64, Ended, Counts, u64); 7] = [
         false,
         11,
         Ended::Limit,
-        Counts {
-            count: 11,
+        RunCounts {
             executed: 9,
             skipped: 2,
             asked: 4,
@@ -104,8 +102,7 @@ static RUNS: [(bool, bool, bool, u64, Ended, Counts, u64); 7] = [
         false,
         MOST_STEPS,
         Ended::Exit(0),
-        Counts {
-            count: 13,
+        RunCounts {
             executed: 13,
             skipped: 0,
             asked: 4,
@@ -119,8 +116,7 @@ static RUNS: [(bool, bool, bool, u64, Ended, Counts, u64); 7] = [
         true,
         MOST_STEPS,
         Ended::Exit(0),
-        Counts {
-            count: 13,
+        RunCounts {
             executed: 7,
             skipped: 6,
             asked: 3,
@@ -134,8 +130,7 @@ static RUNS: [(bool, bool, bool, u64, Ended, Counts, u64); 7] = [
         true,
         11,
         Ended::Limit,
-        Counts {
-            count: 11,
+        RunCounts {
             executed: 9,
             skipped: 2,
             asked: 4,
@@ -161,10 +156,10 @@ fn runs_alone(rt: HostRuntime) {
             recognised: Recognised::At(0x10008),
         };
         let got = run::<_, Brand, _>(&rt, alloc, Blank::new(1), &COUNTING, settings, &mut serial);
-        assert_eq!(rt; (got.0, got.1.count), (ended, counts.count));
+        assert_eq!(rt; got.0, ended);
         assert_eq!(rt;
             got.1.executed.checked_add(got.1.skipped),
-            Some(counts.count)
+            counts.executed.checked_add(counts.skipped)
         );
         if serial.refused() == 0 {
             assert_eq!(rt;
@@ -207,8 +202,7 @@ fn runs_preloaded(rt: HostRuntime) {
     if first.refused() == 0 {
         assert_eq!(rt;
             got.1,
-            Counts {
-                count: 13,
+            RunCounts {
                 executed: 7,
                 skipped: 6,
                 asked: 4,
@@ -237,7 +231,7 @@ static READING: [u32; 13] = [
 
 /// Fails where a helper has counted so much that it has no room for a run.
 fn check_room<R: Abort>(rt: &R, serial: &Serial)
-    ensures { HasRoom (2 ^ 61) (aid serial.now.tally None (plan_of serial.now) (told_machine serial.now)) }
+    ensures { HasRoom (2 ^ 61) (aid_of serial.now) }
 {
     assert!(rt; serial.asked() < 1 << 40);
     assert!(rt; serial.given() < 1 << 40);
@@ -253,7 +247,7 @@ fn check_run<R: Abort, L: Ledger>(
     serial: &mut Serial,
     byte: u8,
     steps: &mut Steps<L>,
-    want: Counts,
+    want: RunCounts,
 )
     requires { IsNone walk.old.ended }
     ensures { walk.new.state.shape ≡ walk.old.state.shape }
@@ -261,17 +255,11 @@ fn check_run<R: Abort, L: Ledger>(
     check_room(rt, serial);
     let mut input = Vec::new(alloc);
     input.push(byte).expect(rt, "memory");
-    let (mut out, mut err) = (CountSink::new(), CountSink::new());
-    let ended = walk.go(
-        serial,
-        &mut SureSource::new(input),
-        &mut out,
-        &mut err,
-        steps,
-    );
+    let mut devices = Devices::new(SureSource::new(input), CountSink::new(), CountSink::new());
+    let ended = walk.go(serial, &mut devices, steps);
     assert_eq!(rt; ended, Ended::Exit(0));
     let got = walk.counts();
-    assert_eq!(rt; got.count, want.count);
+    assert_eq!(rt; walk.count(), want.executed.saturating_add(want.skipped));
     if serial.refused() == 0 {
         assert_eq!(rt; got, want, "input {byte}");
     }
@@ -302,8 +290,7 @@ fn check_again<R: Abort, L: Ledger>(rt: &R, alloc: Global, blank: Blank) -> Resu
         rt, "memory",
     );
     let mut steps = Steps::<L>::new(blank);
-    let first = Counts {
-        count: 19,
+    let first = RunCounts {
         executed: 13,
         skipped: 6,
         asked: 4,
@@ -312,8 +299,7 @@ fn check_again<R: Abort, L: Ledger>(rt: &R, alloc: Global, blank: Blank) -> Resu
     check_run(rt, alloc, &mut walk, &mut serial, 0, &mut steps, first);
     walk.again(&image);
     serial.begin();
-    let second = Counts {
-        count: 15,
+    let second = RunCounts {
         executed: 9,
         skipped: 6,
         asked: 2,

@@ -1,11 +1,9 @@
 //! Command lines, answers and texts.
 use asc_elf::ElfFault;
-use asc_model::SaveFault;
-use asc_shape::Version;
-use asc_step::{Fault, FaultKind};
+use asc_model::{Fault, FaultKind, RunCounts, SaveFault, Tally, Version};
 use asc_words::{
-    Answer, Bad, BatchLine, BatchRun, Counts, Line, LineFault, Outcome, RunEnd, RunLine,
-    SavedFault, TrialOutcome, WorkerCounts, batch_text, given_words, parse, text, trial_text,
+    Answer, Bad, BatchLine, BatchRun, Conclusion, Counts, Line, LineFault, RunEnd, RunLine,
+    SavedFault, TrialRun, WorkerCounts, batch_text, given_words, parse, text, trial_text,
 };
 use std::alloc::{AllocError, Global};
 use std::env;
@@ -716,10 +714,12 @@ static ANSWERS: [(Answer, u8, &str); 57] = [
 static NUMBERS: [(Counts, &str); 3] = [
     (
         Counts {
-            executed: 0,
-            skipped: 0,
-            asked: 0,
-            hits: 0,
+            run: RunCounts {
+                executed: 0,
+                skipped: 0,
+                asked: 0,
+                hits: 0,
+            },
             made: 0,
             refused: 0,
         },
@@ -727,10 +727,12 @@ static NUMBERS: [(Counts, &str); 3] = [
     ),
     (
         Counts {
-            executed: 1,
-            skipped: 20,
-            asked: 300,
-            hits: 4000,
+            run: RunCounts {
+                executed: 1,
+                skipped: 20,
+                asked: 300,
+                hits: 4000,
+            },
             made: 50_000,
             refused: 600_000,
         },
@@ -738,10 +740,12 @@ static NUMBERS: [(Counts, &str); 3] = [
     ),
     (
         Counts {
-            executed: u64::MAX,
-            skipped: u64::MAX,
-            asked: u64::MAX,
-            hits: u64::MAX,
+            run: RunCounts {
+                executed: u64::MAX,
+                skipped: u64::MAX,
+                asked: u64::MAX,
+                hits: u64::MAX,
+            },
             made: u64::MAX,
             refused: u64::MAX,
         },
@@ -750,55 +754,48 @@ static NUMBERS: [(Counts, &str); 3] = [
     ),
 ];
 
-// The numbers of workers, and their line.
-static WORKERS: [(WorkerCounts, &str); 3] = [
+// What five columns may have each at most: their sum is then the greatest number, and the text the longest.
+const FIFTH: u64 = u64::MAX / 5;
+
+// The numbers of workers: jobs left, stored, known, empty, dropped and stopped, and guesses for which there was no room; and
+// their line.
+static WORKERS: [([u64; 7], &str); 3] = [
     (
-        WorkerCounts {
-            ran: 4,
-            left: 0,
-            stored: 4,
-            known: 0,
-            empty: 0,
-            dropped: 0,
-            stopped: 0,
-            full: 0,
-        },
+        [0, 4, 0, 0, 0, 0, 0],
         "asc: ran 4 left 0 stored 4 known 0 empty 0 dropped 0 stopped 0 full 0\n",
     ),
     (
-        WorkerCounts {
-            ran: 1,
-            left: 20,
-            stored: 300,
-            known: 4000,
-            empty: 50_000,
-            dropped: 600_000,
-            stopped: 7_000_000,
-            full: 80_000_000,
-        },
-        "asc: ran 1 left 20 stored 300 known 4000 empty 50000 dropped 600000 stopped 7000000 full 80000000\n",
+        [20, 300, 4000, 50_000, 600_000, 7_000_000, 80_000_000],
+        "asc: ran 7654300 left 20 stored 300 known 4000 empty 50000 dropped 600000 stopped 7000000 full 80000000\n",
     ),
     (
-        WorkerCounts {
-            ran: u64::MAX,
-            left: u64::MAX,
-            stored: u64::MAX,
-            known: u64::MAX,
-            empty: u64::MAX,
-            dropped: u64::MAX,
-            stopped: u64::MAX,
-            full: u64::MAX,
-        },
-        "asc: ran 18446744073709551615 left 18446744073709551615 stored 18446744073709551615 \
-         known 18446744073709551615 empty 18446744073709551615 dropped 18446744073709551615 \
-         stopped 18446744073709551615 full 18446744073709551615\n",
+        [u64::MAX, FIFTH, FIFTH, FIFTH, FIFTH, FIFTH, u64::MAX],
+        "asc: ran 18446744073709551615 left 18446744073709551615 stored 3689348814741910323 \
+         known 3689348814741910323 empty 3689348814741910323 dropped 3689348814741910323 \
+         stopped 3689348814741910323 full 18446744073709551615\n",
     ),
 ];
 
-// Whether this is the text of an outcome, and all bytes behind it stay.
-fn is_text(outcome: Outcome, want: &str) -> bool {
+// The numbers of workers, whose jobs that were run are those in the columns.
+fn workers_of<R: Abort>(rt: &R, numbers: [u64; 7]) -> WorkerCounts {
+    let [left, stored, known, empty, dropped, stopped, full] = numbers;
+    assert!(rt; stored <= FIFTH && known <= FIFTH && empty <= FIFTH);
+    assert!(rt; dropped <= FIFTH && stopped <= FIFTH);
+    let tally = Tally {
+        ran: stored + known + empty + dropped + stopped,
+        stored,
+        known,
+        empty,
+        dropped,
+        stopped,
+    };
+    WorkerCounts { tally, left, full }
+}
+
+// Whether this is the text of a conclusion, and all bytes behind it stay.
+fn is_text(conclusion: Conclusion, want: &str) -> bool {
     let mut into = [0xEE; 512];
-    let length = text(&outcome, &mut into);
+    let length = text(&conclusion, &mut into);
     &into[..length] == want.as_bytes() && into[length..].iter().all(|byte| *byte == 0xEE)
 }
 
@@ -807,17 +804,17 @@ fn answers(rt: HostRuntime) -> Result<(), Fail> {
     let alloc = rt.alloc();
     for (answer, code, line) in &ANSWERS {
         assert_eq!(rt; answer.code(), *code, "code of {line}");
-        let mut outcome = Outcome::of(*answer);
-        assert!(rt; is_text(outcome, line), "text of {line}");
+        let mut conclusion = Conclusion::of(*answer);
+        assert!(rt; is_text(conclusion, line), "text of {line}");
         for (counts, numbers) in &NUMBERS {
-            outcome.counts = Some(*counts);
-            outcome.workers = None;
+            conclusion.counts = Some(*counts);
+            conclusion.workers = None;
             let want = format!(in alloc; "{line}{numbers}")?;
-            assert!(rt; is_text(outcome, want.as_str()), "{want}");
+            assert!(rt; is_text(conclusion, want.as_str()), "{want}");
             for (workers, more) in &WORKERS {
-                outcome.workers = Some(*workers);
+                conclusion.workers = Some(workers_of(&rt, *workers));
                 let want = format!(in alloc; "{line}{numbers}{more}")?;
-                assert!(rt; is_text(outcome, want.as_str()), "{want}");
+                assert!(rt; is_text(conclusion, want.as_str()), "{want}");
             }
         }
     }
@@ -825,18 +822,20 @@ fn answers(rt: HostRuntime) -> Result<(), Fail> {
 }
 
 // Trials, and their texts.
-static TRIALS: [(TrialOutcome, &str); 5] = [
+static TRIALS: [(TrialRun, &str); 5] = [
     (
-        TrialOutcome {
+        TrialRun {
             n: 0,
             status: 0,
             steps: 3310,
             output: 64,
             counts: Some(Counts {
-                executed: 422,
-                skipped: 2888,
-                asked: 16,
-                hits: 14,
+                run: RunCounts {
+                    executed: 422,
+                    skipped: 2888,
+                    asked: 16,
+                    hits: 14,
+                },
                 made: 16,
                 refused: 1,
             }),
@@ -844,16 +843,18 @@ static TRIALS: [(TrialOutcome, &str); 5] = [
         "trial 0: status 0, steps 3310, output 64\nexecuted 422, skipped 2888, asked 16, hits 14, made 16\n",
     ),
     (
-        TrialOutcome {
+        TrialRun {
             n: 300,
             status: 0,
             steps: 15464,
             output: 300,
             counts: Some(Counts {
-                executed: 422,
-                skipped: 15042,
-                asked: 75,
-                hits: 73,
+                run: RunCounts {
+                    executed: 422,
+                    skipped: 15042,
+                    asked: 75,
+                    hits: 73,
+                },
                 made: 75,
                 refused: 0,
             }),
@@ -861,7 +862,7 @@ static TRIALS: [(TrialOutcome, &str); 5] = [
         "trial 300: status 0, steps 15464, output 300\nexecuted 422, skipped 15042, asked 75, hits 73, made 75\n",
     ),
     (
-        TrialOutcome {
+        TrialRun {
             n: u64::MAX,
             status: 0,
             steps: 49454,
@@ -871,7 +872,7 @@ static TRIALS: [(TrialOutcome, &str); 5] = [
         "trial 18446744073709551615: status 0, steps 49454, output 960\n",
     ),
     (
-        TrialOutcome {
+        TrialRun {
             n: 1,
             status: 20,
             steps: 300,
@@ -881,16 +882,18 @@ static TRIALS: [(TrialOutcome, &str); 5] = [
         "trial 1: status 20, steps 300, output 4000\n",
     ),
     (
-        TrialOutcome {
+        TrialRun {
             n: u64::MAX,
             status: 255,
             steps: u64::MAX,
             output: u64::MAX,
             counts: Some(Counts {
-                executed: u64::MAX,
-                skipped: u64::MAX,
-                asked: u64::MAX,
-                hits: u64::MAX,
+                run: RunCounts {
+                    executed: u64::MAX,
+                    skipped: u64::MAX,
+                    asked: u64::MAX,
+                    hits: u64::MAX,
+                },
                 made: u64::MAX,
                 refused: u64::MAX,
             }),
@@ -902,7 +905,7 @@ static TRIALS: [(TrialOutcome, &str); 5] = [
 ];
 
 // Whether this is the text of a trial, and all bytes behind it stay.
-fn is_trial_text(trial: &TrialOutcome, want: &str) -> bool {
+fn is_trial_text(trial: &TrialRun, want: &str) -> bool {
     let mut into = [0xEE; 512];
     let length = trial_text(trial, &mut into);
     &into[..length] == want.as_bytes() && into[length..].iter().all(|byte| *byte == 0xEE)
@@ -915,85 +918,70 @@ fn trials(rt: HostRuntime) {
     }
 }
 
-// Runs of a batch, and their texts.
-static BATCH_RUNS: [(BatchRun, &str); 5] = [
+// Runs of a batch: the number, the end, the steps, the numbers of the run and of its workers, and the text.
+static BATCH_RUNS: [(usize, RunEnd, u64, Option<Counts>, Option<[u64; 7]>, &str); 5] = [
     (
-        BatchRun {
-            number: 0,
-            end: RunEnd::Exit(0),
-            steps: 19,
-            counts: Some(Counts {
+        0,
+        RunEnd::Exit(0),
+        19,
+        Some(Counts {
+            run: RunCounts {
                 executed: 13,
                 skipped: 6,
                 asked: 4,
                 hits: 2,
-                made: 4,
-                refused: 0,
-            }),
-            workers: None,
-        },
+            },
+            made: 4,
+            refused: 0,
+        }),
+        None,
         "asc: run 0: exit 0 after 19\nasc: executed 13 skipped 6 asked 4 hits 2 made 4 refused 0\n",
     ),
     (
-        BatchRun {
-            number: 63,
-            end: RunEnd::Limit,
-            steps: 1_099_511_627_776,
-            counts: None,
-            workers: None,
-        },
+        63,
+        RunEnd::Limit,
+        1_099_511_627_776,
+        None,
+        None,
         "asc: run 63: limit after 1099511627776\n",
     ),
     (
-        BatchRun {
-            number: 7,
-            end: RunEnd::Fault(Fault {
-                kind: FaultKind::LoadOutside,
-                pc: 0x10004,
-                value: 0x1FFFD,
-            }),
-            steps: 1,
-            counts: None,
-            workers: None,
-        },
+        7,
+        RunEnd::Fault(Fault {
+            kind: FaultKind::LoadOutside,
+            pc: 0x10004,
+            value: 0x1FFFD,
+        }),
+        1,
+        None,
+        None,
         "asc: run 7: fault 4 at 00010004 value 0001fffd after 1\n",
     ),
     (
-        BatchRun {
-            number: 1,
-            end: RunEnd::Exit(255),
-            steps: 21,
-            counts: Some(Counts {
+        1,
+        RunEnd::Exit(255),
+        21,
+        Some(Counts {
+            run: RunCounts {
                 executed: 1,
                 skipped: 20,
                 asked: 300,
                 hits: 4000,
-                made: 50_000,
-                refused: 600_000,
-            }),
-            workers: Some(WorkerCounts {
-                ran: 4,
-                left: 0,
-                stored: 4,
-                known: 0,
-                empty: 0,
-                dropped: 0,
-                stopped: 0,
-                full: 0,
-            }),
-        },
+            },
+            made: 50_000,
+            refused: 600_000,
+        }),
+        Some([0, 4, 0, 0, 0, 0, 0]),
         "asc: run 1: exit 255 after 21\n\
          asc: executed 1 skipped 20 asked 300 hits 4000 made 50000 refused 600000\n\
          asc: ran 4 left 0 stored 4 known 0 empty 0 dropped 0 stopped 0 full 0\n",
     ),
     (
-        BatchRun {
-            number: usize::MAX,
-            end: RunEnd::Fault(LAST),
-            steps: u64::MAX,
-            counts: None,
-            workers: None,
-        },
+        usize::MAX,
+        RunEnd::Fault(LAST),
+        u64::MAX,
+        None,
+        None,
         "asc: run 18446744073709551615: fault 7 at ffffffff value ffffffff after 18446744073709551615\n",
     ),
 ];
@@ -1007,8 +995,15 @@ fn is_batch_text(run: &BatchRun, want: &str) -> bool {
 
 #[test]
 fn batch_runs(rt: HostRuntime) {
-    for (run, want) in &BATCH_RUNS {
-        assert!(rt; is_batch_text(run, want), "{want}");
+    for &(number, end, steps, counts, workers, want) in &BATCH_RUNS {
+        let run = BatchRun {
+            number,
+            end,
+            steps,
+            counts,
+            workers: workers.map(|numbers| workers_of(&rt, numbers)),
+        };
+        assert!(rt; is_batch_text(&run, want), "{want}");
     }
 }
 

@@ -1,13 +1,15 @@
 //! Workers and their teams.
 ghost use Rattle.std.specs.Prelude.{◌≡◌, Some, None, All, length};
-ghost use Rattle.asc_jobs.specs.Tally.{no_jobs};
+ghost use Rattle.asc_model.specs.Tally.{no_jobs};
 
 use asc_cache::{Cache, ListWriter, ShardWriter};
-use asc_jobs::{Giver, Job, Jobs, Kind, Tally};
+use asc_guess::Kind;
+use asc_jobs::{Giver, Job, Jobs};
+use asc_model::{Column, Tally};
 use asc_outside::{Gate, Hold, HoldGate, Open, Point};
 use asc_shape::{Shape, Snapshot, State};
 use asc_shard::Shard;
-use asc_work::{Flag, Halter, Ran, Team, Worker, work_loop};
+use asc_work::{Flag, Halter, Team, Worker, work_loop};
 use crossbeam_utils::sync::{Parker, Unparker};
 use std::alloc::Global;
 use std::process::Abort;
@@ -69,7 +71,7 @@ fn flag<R: Abort>(rt: &R, alloc: Global, halted: bool) -> Flag {
 }
 
 /// What a new worker answers to the same job twice, and its tally.
-fn answers<R: Abort>(rt: &R, alloc: Global, pc: u32, halted: bool) -> (Ran, Ran, Tally) {
+fn answers<R: Abort>(rt: &R, alloc: Global, pc: u32, halted: bool) -> (Column, Column, Tally) {
     let last = counting(rt, alloc, 65_536, pc, 0);
     let mut shard = Shard::new(alloc, 4).expect(rt, "memory");
     let writer = ListWriter::new(&mut shard);
@@ -87,10 +89,10 @@ fn answers<R: Abort>(rt: &R, alloc: Global, pc: u32, halted: bool) -> (Ran, Ran,
 #[test]
 fn one_job(rt: HostRuntime) {
     for (pc, halted, first, second) in [
-        (0x10008, false, Ran::Stored, Ran::Known),
-        (0x10008, true, Ran::Stopped, Ran::Stopped),
-        (0x10018, false, Ran::Empty, Ran::Empty),
-        (0x10018, true, Ran::Empty, Ran::Empty),
+        (0x10008, false, Column::Stored, Column::Known),
+        (0x10008, true, Column::Stopped, Column::Stopped),
+        (0x10018, false, Column::Empty, Column::Empty),
+        (0x10018, true, Column::Empty, Column::Empty),
     ] {
         let (one, two, tally) = answers(&rt, rt.alloc(), pc, halted);
         assert_eq!(rt; (one, two), (first, second));
@@ -108,23 +110,27 @@ fn one_job(rt: HostRuntime) {
 
 /// Whether a worker joins entries; its jobs, each by how far ahead its guess is, with what becomes of it; and the steps of
 /// the entries that are held then.
-type Joins = (bool, &'static [(u32, Ran)], &'static [u64]);
+type Joins = (bool, &'static [(u32, Column)], &'static [u64]);
 
 /// The guesses go on from 0 and then 1 in x5. The one that is 1 ahead has 2 there, and runs a lap of two steps. The one
 /// that is 2 ahead has 3 there, and runs the last lap and two steps more. The one that is 5 ahead has 6 there, and runs a
 /// lap, behind which none of the others goes on.
 static JOINS: [Joins; 4] = [
-    (false, &[(1, Ran::Stored), (2, Ran::Stored)], &[2, 4]),
-    (true, &[(1, Ran::Stored), (2, Ran::Stored)], &[2, 4, 6]),
-    (true, &[(2, Ran::Stored), (1, Ran::Stored)], &[4, 2]),
+    (false, &[(1, Column::Stored), (2, Column::Stored)], &[2, 4]),
+    (
+        true,
+        &[(1, Column::Stored), (2, Column::Stored)],
+        &[2, 4, 6],
+    ),
+    (true, &[(2, Column::Stored), (1, Column::Stored)], &[4, 2]),
     // The entry of the second job is kept once the third job's is known.
     (
         true,
         &[
-            (5, Ran::Stored),
-            (1, Ran::Stored),
-            (5, Ran::Known),
-            (2, Ran::Stored),
+            (5, Column::Stored),
+            (1, Column::Stored),
+            (5, Column::Known),
+            (2, Column::Stored),
         ],
         &[2, 2, 4, 6],
     ),
@@ -136,7 +142,7 @@ fn run_ahead<R: Abort>(
     alloc: Global,
     shard: &mut Shard,
     join: bool,
-    jobs: &[(u32, Ran)],
+    jobs: &[(u32, Column)],
 ) -> u64 {
     let prev = counting(rt, alloc, 65_536, 0x10008, 0);
     let last = counting(rt, alloc, 65_536, 0x10008, 1);

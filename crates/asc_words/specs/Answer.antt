@@ -1,6 +1,6 @@
 -- The exit codes of the answers, and answers without numbers.
 use Rattle.std.specs.Prelude.{ℕ, None}
-use Rattle.asc_words.specs.declared.answer.Outcome.{Outcome}
+use Rattle.asc_words.specs.declared.answer.Conclusion.{Conclusion}
 use Rattle.asc_words.specs.declared.line.LineFault.{LineFault}
 use Rattle.asc_words.specs.declared.line.LineFault.TheVariants as LineFaults
 use Rattle.asc_words.specs.declared.answer.Answer.{Answer}
@@ -31,5 +31,5 @@ refusal_of (LineFaults.Usage bad) = Usage bad
 refusal_of LineFaults.Memory = Memory
 
 -- an answer of which no numbers are reported
-abbrev pub outcome_of : Answer → Outcome
-outcome_of answer = record { answer = answer; counts = None; workers = None }
+abbrev pub conclusion_of : Answer → Conclusion
+conclusion_of answer = record { answer = answer; counts = None; workers = None }

@@ -11,12 +11,12 @@ use Rattle.asc_elf.specs.declared.fault.ElfFault.TheVariants as elf
 use Rattle.asc_words.specs.declared.answer.Answer.{Answer}
 use Rattle.asc_words.specs.declared.answer.BatchRun.{BatchRun}
 use Rattle.asc_words.specs.declared.answer.Counts.{Counts}
-use Rattle.asc_words.specs.declared.answer.Outcome.{Outcome}
+use Rattle.asc_words.specs.declared.answer.Conclusion.{Conclusion}
 use Rattle.asc_words.specs.declared.answer.RunEnd.{RunEnd}
 use Rattle.asc_words.specs.declared.answer.RunEnd.TheVariants as ends
 use Rattle.asc_words.specs.declared.answer.SavedFault.{SavedFault}
 use Rattle.asc_words.specs.declared.answer.SavedFault.TheVariants as saved
-use Rattle.asc_words.specs.declared.answer.TrialOutcome.{TrialOutcome}
+use Rattle.asc_words.specs.declared.answer.TrialRun.{TrialRun}
 use Rattle.asc_words.specs.declared.answer.WorkerCounts.{WorkerCounts}
 use Rattle.asc_words.specs.declared.answer.Answer.TheVariants.{Exit, Done, Usage, Image, TooLong, InputTooLong, Saved, StoreFault, Memory, ReadFault, WriteFault, ErrFault, ReportFault, Limit, Fault as Failed}
 
@@ -85,7 +85,7 @@ fault_text fault =
     ++ codes " value " ++ word_text fault.value
 
 -- The line of an answer. A guest that ends by itself has none, nor has a text that was written. Where the report itself
--- fails, it has a prefix of the text of the outcome that this answer replaces, and gets no more.
+-- fails, it has a prefix of the text of the conclusion that this answer replaces, and gets no more.
 unfoldable pub answer_text : Answer → List ℕ
 answer_text (Exit code) = []
 answer_text (Done refused) = []
@@ -107,10 +107,10 @@ answer_text (Failed fault count) = codes "asc: " ++ fault_text fault ++ codes " 
 -- the line of the numbers of a run
 unfoldable pub counts_text : Counts → List ℕ
 counts_text counts =
-    codes "asc: executed " ++ decimal counts.executed
-    ++ codes " skipped " ++ decimal counts.skipped
-    ++ codes " asked " ++ decimal counts.asked
-    ++ codes " hits " ++ decimal counts.hits
+    codes "asc: executed " ++ decimal counts.run.executed
+    ++ codes " skipped " ++ decimal counts.run.skipped
+    ++ codes " asked " ++ decimal counts.run.asked
+    ++ codes " hits " ++ decimal counts.run.hits
     ++ codes " made " ++ decimal counts.made
     ++ codes " refused " ++ decimal counts.refused ++ codes "\n"
 
@@ -122,13 +122,13 @@ reported_counts_text None = []
 -- the line of the numbers of its workers
 unfoldable pub workers_text : WorkerCounts → List ℕ
 workers_text workers =
-    codes "asc: ran " ++ decimal workers.ran
+    codes "asc: ran " ++ decimal workers.tally.ran
     ++ codes " left " ++ decimal workers.left
-    ++ codes " stored " ++ decimal workers.stored
-    ++ codes " known " ++ decimal workers.known
-    ++ codes " empty " ++ decimal workers.empty
-    ++ codes " dropped " ++ decimal workers.dropped
-    ++ codes " stopped " ++ decimal workers.stopped
+    ++ codes " stored " ++ decimal workers.tally.stored
+    ++ codes " known " ++ decimal workers.tally.known
+    ++ codes " empty " ++ decimal workers.tally.empty
+    ++ codes " dropped " ++ decimal workers.tally.dropped
+    ++ codes " stopped " ++ decimal workers.tally.stopped
     ++ codes " full " ++ decimal workers.full ++ codes "\n"
 
 -- the line of these numbers, where they are reported
@@ -140,14 +140,14 @@ reported_workers_text None = []
 abbrev pub numbers_text : Option Counts → Option WorkerCounts → List ℕ
 numbers_text counts workers = reported_counts_text counts ++ reported_workers_text workers
 
--- The text of an outcome: the line of its answer, and behind it those of its numbers.
-unfoldable pub report_text : Outcome → List ℕ
-report_text outcome = answer_text outcome.answer ++ numbers_text outcome.counts outcome.workers
+-- The text of a conclusion: the line of its answer, and behind it those of its numbers.
+unfoldable pub report_text : Conclusion → List ℕ
+report_text conclusion = answer_text conclusion.answer ++ numbers_text conclusion.counts conclusion.workers
 
 -- ---- trials
 
 -- the line of a trial that ended
-abbrev pub trial_line : TrialOutcome → List ℕ
+abbrev pub trial_line : TrialRun → List ℕ
 trial_line trial =
     codes "trial " ++ decimal trial.n
     ++ codes ": status " ++ decimal trial.status
@@ -157,10 +157,10 @@ trial_line trial =
 -- the line of its numbers
 abbrev pub trial_counts_text : Counts → List ℕ
 trial_counts_text counts =
-    codes "executed " ++ decimal counts.executed
-    ++ codes ", skipped " ++ decimal counts.skipped
-    ++ codes ", asked " ++ decimal counts.asked
-    ++ codes ", hits " ++ decimal counts.hits
+    codes "executed " ++ decimal counts.run.executed
+    ++ codes ", skipped " ++ decimal counts.run.skipped
+    ++ codes ", asked " ++ decimal counts.run.asked
+    ++ codes ", hits " ++ decimal counts.run.hits
     ++ codes ", made " ++ decimal counts.made ++ codes "\n"
 
 -- the line of these numbers, where they are reported
@@ -169,7 +169,7 @@ reported_trial_counts_text (Some counts) = trial_counts_text counts
 reported_trial_counts_text None = []
 
 -- The text of a trial: its line, and behind it that of its numbers.
-unfoldable pub trial_text : TrialOutcome → List ℕ
+unfoldable pub trial_text : TrialRun → List ℕ
 trial_text trial = trial_line trial ++ reported_trial_counts_text trial.counts
 
 -- ---- runs of a batch

@@ -2,8 +2,7 @@ ghost use Rattle.std.specs.Prelude.{◌≡◌};
 
 use crate::line::LineFault;
 use asc_elf::ElfFault;
-use asc_model::SaveFault;
-use asc_step::Fault;
+use asc_model::{Fault, RunCounts, SaveFault, Tally};
 
 /// What is wrong with a command line.
 #[derive(Clone, Copy, Debug, PartialEq, Eq)]
@@ -63,17 +62,11 @@ pub enum Answer {
     ReportFault,
 }
 
-/// The numbers of a run.
+/// The numbers of a run and of what was guessed for it.
 #[derive(Clone, Copy, Debug, PartialEq, Eq)]
 pub struct Counts {
-    /// Steps done.
-    pub executed: u64,
-    /// Steps jumped over.
-    pub skipped: u64,
-    /// How often a jump was asked for.
-    pub asked: u64,
-    /// Jumps.
-    pub hits: u64,
+    /// Those of its walk.
+    pub run: RunCounts,
     /// Guesses made.
     pub made: u64,
     /// How often memory was wanting.
@@ -83,27 +76,17 @@ pub struct Counts {
 /// The numbers of a run's workers: of the jobs that they took, and of those that they did not.
 #[derive(Clone, Copy, Debug, PartialEq, Eq)]
 pub struct WorkerCounts {
-    /// Jobs that workers took.
-    pub ran: u64,
+    /// Jobs that workers took, and what became of them.
+    pub tally: Tally,
     /// Jobs that were left in the queue.
     pub left: u64,
-    /// Entries that were stored.
-    pub stored: u64,
-    /// Entries that were known already.
-    pub known: u64,
-    /// Guesses from which no step was done.
-    pub empty: u64,
-    /// Jobs that were given up for want of memory.
-    pub dropped: u64,
-    /// Jobs that the end of the run stopped.
-    pub stopped: u64,
     /// Guesses for which the queue had no room, or that were not offered once it had been filled up.
     pub full: u64,
 }
 
 /// What the words of a command line come to: an answer, and the numbers of its run where they are reported.
 #[derive(Clone, Copy, Debug, PartialEq, Eq)]
-pub struct Outcome {
+pub struct Conclusion {
     pub answer: Answer,
     /// The numbers of the run.
     pub counts: Option<Counts>,
@@ -113,7 +96,7 @@ pub struct Outcome {
 
 /// What a trial came to whose guest ended.
 #[derive(Clone, Copy, Debug, PartialEq, Eq)]
-pub struct TrialOutcome {
+pub struct TrialRun {
     /// The number of its image.
     pub n: u64,
     /// The guest's code.
@@ -152,14 +135,14 @@ pub struct BatchRun {
     pub workers: Option<WorkerCounts>,
 }
 
-impl Outcome {
-    ghost use Rattle.asc_words.specs.Answer.{outcome_of};
+impl Conclusion {
+    ghost use Rattle.asc_words.specs.Answer.{conclusion_of};
 
     /// An answer of which no numbers are reported.
-    pub fn of(answer: Answer) -> Outcome
-        ensures { result ≡ outcome_of answer }
+    pub fn of(answer: Answer) -> Conclusion
+        ensures { result ≡ conclusion_of answer }
     {
-        Outcome {
+        Conclusion {
             answer,
             counts: None,
             workers: None,

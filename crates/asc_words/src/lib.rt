@@ -9,7 +9,7 @@ mod line;
 mod report;
 
 pub use answer::{
-    Answer, Bad, BatchRun, Counts, Outcome, RunEnd, SavedFault, TrialOutcome, WorkerCounts,
+    Answer, Bad, BatchRun, Conclusion, Counts, RunEnd, SavedFault, TrialRun, WorkerCounts,
 };
 pub use given::given_words;
 pub use laws::{lines_are_within, taken_words_have_lines};

@@ -7,8 +7,8 @@ ghost use Rattle.asc_words.specs.Line.{IsRunWithin, IsWithin, address_of, batch_
 
 use crate::answer::Bad;
 use crate::command::asc_command;
+use asc_model::Version;
 use asc_seek::Seeking;
-use asc_shape::Version;
 use clap::ArgMatches;
 use clap::error::ErrorKind;
 use std::alloc::{AllocError, Global};

@@ -4,30 +4,29 @@ ghost use Rattle.arrayvec.specs.ArrayVec.{array_vec_len};
 ghost use Rattle.asc_words.specs.Report.{answer_text, batch_line, batch_text, counts_text, end_text, entry_text, fault_text, header_text, image_number, kind_number, numbers_text, report_text, saved_number, trial_counts_text, trial_line, trial_text, word_text, workers_text};
 
 use crate::answer::{
-    Answer, BatchRun, Counts, Outcome, RunEnd, SavedFault, TrialOutcome, WorkerCounts,
+    Answer, BatchRun, Conclusion, Counts, RunEnd, SavedFault, TrialRun, WorkerCounts,
 };
 use arrayvec::ArrayVec;
 use asc_elf::ElfFault;
-use asc_model::SaveFault;
-use asc_step::{Fault, FaultKind};
+use asc_model::{Fault, FaultKind, SaveFault};
 use itoa::Buffer;
 
 /// A text as far as it is built.
 type Text = ArrayVec<u8, 512>;
 
-/// Puts the text of an outcome, which is at most three lines, at the front of `into`, and answers its length. It takes no
+/// Puts the text of a conclusion, which is at most three lines, at the front of `into`, and answers its length. It takes no
 /// memory.
-pub fn text(outcome: &Outcome, into: &mut [u8]) -> usize
+pub fn text(conclusion: &Conclusion, into: &mut [u8]) -> usize
     requires { 512 ≤ length into.old }
-    ensures text { into.new ≡ report_text outcome.now ++ drop (length (report_text outcome.now)) into.old }
-    ensures length { result ≡ length (report_text outcome.now) }
+    ensures text { into.new ≡ report_text conclusion.now ++ drop (length (report_text conclusion.now)) into.old }
+    ensures length { result ≡ length (report_text conclusion.now) }
 {
-    place(&text_of(outcome), into)
+    place(&text_of(conclusion), into)
 }
 
 /// Puts the text of a trial, which is at most two lines, at the front of `into`, and answers its length. It takes no
 /// memory.
-pub fn trial_text(trial: &TrialOutcome, into: &mut [u8]) -> usize
+pub fn trial_text(trial: &TrialRun, into: &mut [u8]) -> usize
     requires { 512 ≤ length into.old }
     ensures text { into.new ≡ trial_text trial.now ++ drop (length (trial_text trial.now)) into.old }
     ensures length { result ≡ length (trial_text trial.now) }
@@ -56,19 +55,19 @@ fn place(text: &Text, into: &mut [u8]) -> usize
     length
 }
 
-/// The text of an outcome.
+/// The text of a conclusion.
 #[tactic(auto, unfolding(crate::specs::Report::report_text))]
-fn text_of(outcome: &Outcome) -> Text
-    ensures { result.items ≡ report_text outcome.now }
+fn text_of(conclusion: &Conclusion) -> Text
+    ensures { result.items ≡ report_text conclusion.now }
 {
-    let mut text = line(&outcome.answer);
-    put_numbers(&mut text, &outcome.counts, &outcome.workers);
+    let mut text = line(&conclusion.answer);
+    put_numbers(&mut text, &conclusion.counts, &conclusion.workers);
     text
 }
 
 /// The text of a trial.
 #[tactic(auto, unfolding(crate::specs::Report::trial_text))]
-fn trial_text_of(trial: &TrialOutcome) -> Text
+fn trial_text_of(trial: &TrialRun) -> Text
     ensures { result.items ≡ trial_text trial.now }
 {
     let mut text = Text::new();
@@ -240,10 +239,10 @@ fn put_counts(line: &mut Text, counts: &Counts)
     ensures line { line.new.items ≡ line.old.items ++ counts_text counts.now }
     ensures room { array_vec_len line.new ≤ 284 }
 {
-    put_labelled(line, b"asc: executed ", counts.executed);
-    put_labelled(line, b" skipped ", counts.skipped);
-    put_labelled(line, b" asked ", counts.asked);
-    put_labelled(line, b" hits ", counts.hits);
+    put_labelled(line, b"asc: executed ", counts.run.executed);
+    put_labelled(line, b" skipped ", counts.run.skipped);
+    put_labelled(line, b" asked ", counts.run.asked);
+    put_labelled(line, b" hits ", counts.run.hits);
     put_labelled(line, b" made ", counts.made);
     put_labelled(line, b" refused ", counts.refused);
     put(line, b"\n");
@@ -255,19 +254,19 @@ fn put_workers(line: &mut Text, workers: &WorkerCounts)
     requires { array_vec_len line.old ≤ 284 }
     ensures { line.new.items ≡ line.old.items ++ workers_text workers.now }
 {
-    put_labelled(line, b"asc: ran ", workers.ran);
+    put_labelled(line, b"asc: ran ", workers.tally.ran);
     put_labelled(line, b" left ", workers.left);
-    put_labelled(line, b" stored ", workers.stored);
-    put_labelled(line, b" known ", workers.known);
-    put_labelled(line, b" empty ", workers.empty);
-    put_labelled(line, b" dropped ", workers.dropped);
-    put_labelled(line, b" stopped ", workers.stopped);
+    put_labelled(line, b" stored ", workers.tally.stored);
+    put_labelled(line, b" known ", workers.tally.known);
+    put_labelled(line, b" empty ", workers.tally.empty);
+    put_labelled(line, b" dropped ", workers.tally.dropped);
+    put_labelled(line, b" stopped ", workers.tally.stopped);
     put_labelled(line, b" full ", workers.full);
     put(line, b"\n");
 }
 
 /// Appends the line of a trial.
-fn put_trial(line: &mut Text, trial: &TrialOutcome)
+fn put_trial(line: &mut Text, trial: &TrialRun)
     requires { array_vec_len line.old ≡ 0 }
     ensures line { line.new.items ≡ line.old.items ++ trial_line trial.now }
     ensures room { array_vec_len line.new ≤ 128 }
@@ -284,10 +283,10 @@ fn put_trial_counts(line: &mut Text, counts: &Counts)
     requires { array_vec_len line.old ≤ 128 }
     ensures { line.new.items ≡ line.old.items ++ trial_counts_text counts.now }
 {
-    put_labelled(line, b"executed ", counts.executed);
-    put_labelled(line, b", skipped ", counts.skipped);
-    put_labelled(line, b", asked ", counts.asked);
-    put_labelled(line, b", hits ", counts.hits);
+    put_labelled(line, b"executed ", counts.run.executed);
+    put_labelled(line, b", skipped ", counts.run.skipped);
+    put_labelled(line, b", asked ", counts.run.asked);
+    put_labelled(line, b", hits ", counts.run.hits);
     put_labelled(line, b", made ", counts.made);
     put(line, b"\n");
 }

@@ -11,8 +11,8 @@ use Rattle.asc_shard.specs.declared.shard.Inserted.TheVariants as answers
 use Rattle.asc_shard.specs.Content.{outcome_of}
 use Rattle.asc_cache.specs.Insert.{shard_after}
 use Rattle.asc_jobs.specs.declared.job.Job.{Job}
-use Rattle.asc_jobs.specs.declared.tally.Column.{Column}
-use Rattle.asc_jobs.specs.declared.tally.Column.TheVariants.{Stored, Known, Empty, Dropped, Stopped}
+use Rattle.asc_model.specs.declared.tally.Column.{Column}
+use Rattle.asc_model.specs.declared.tally.Column.TheVariants.{Stored, Known, Empty, Dropped, Stopped}
 use Rattle.asc_work.specs.Worker.{Worker, IsOfShape, HasJoined, HasStored, HasInserted, Ends, entry_for, join_behind, shard_with, steps_for}
 
 pub on_err : {A E P : Type 0} (r : Result A E) → P → OnErr r P

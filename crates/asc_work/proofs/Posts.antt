@@ -1,12 +1,12 @@
 -- Posts before and after workers have served, and the last of several.
-use Rattle.std.proofs.Common.{◌≡◌, ◌≢◌, ℕ, ◌+◌, ◌*◌, ◌^◌, ◌<◌, ◌≤◌, List, [], ◌∷◌, ◌++◌, false, zero, suc, Option, Some, None, All, length, map, get_or, set, take, drop, refl, sym, ap, ◌∙◌, subst, subst₂, arith, length-append, append-nil, drop_of_length-le, take_all, add_assoc, add-zero, zero-add, add_comm, append_assoc}
+use Rattle.std.proofs.Common.{◌≡◌, ◌≢◌, ℕ, ◌+◌, ◌*◌, ◌^◌, ◌<◌, ◌≤◌, List, [], ◌∷◌, ◌++◌, false, zero, suc, Option, Some, None, All, length, map, get_or, set, take, drop, refl, sym, ap, ◌∙◌, subst, subst₂, arith, length-append, append-nil, drop_of_length-le, take_all, add_assoc, add-zero, zero-add, append_assoc}
 use Rattle.std.specs.Option.{is_some, option_map, option_to_list}
 use borrow.Author.Count.{below_more}
 use Rattle.std.proofs.lemmas.List.{drop-drop, drop-set-lt, get_or_default, get_or-drop, get_or-set_other, get_or-set_same, length-map, length-set, take_more_set}
 use Rattle.std.proofs.lemmas.List.Elements.{All-nil, All-cons, All-head, All-tail, All-push}
 use Rattle.atomic_table.specs.Seated.{TableId}
 use Rattle.asc_jobs.specs.Hands.{hand, join_hands}
-use Rattle.asc_jobs.specs.Tally.{Counts, no_jobs, added}
+use Rattle.asc_model.specs.Tally.{JobCounts, no_jobs, added}
 use Rattle.asc_jobs.specs.Jobs.{Taker, new_taker}
 use Rattle.asc_jobs.specs.declared.hand.Hand.{Hand}
 use Rattle.asc_jobs.specs.declared.job.Job.{Job}
@@ -42,15 +42,6 @@ worked_by : {W H : Type 0} (identity : W → Option ShardId) (w v : Worker W H) 
 worked_by identity w v s t None e h = absurd (subst (λ (x : Option Taker). HaveWorked identity w x v None) e h)
 worked_by identity w v s t (Some u) e h = (u, refl, subst (λ (x : Option Taker). HaveWorked identity w x v (Some u)) e h)
 
--- what a worker that has served has done, whatever its takers
-pub served_worked : {W H : Type 0} (count : H → ℕ) (identity : W → Option ShardId) (p q : Post W H) → HasServed count identity p q → (t : Taker) × (u : Taker) × HasWorked identity p.worker t q.worker u
-served_worked {W} {H} count identity p q served = by p.taker q.taker served.worked
-  where
-    by : (s r : Option Taker) → HaveWorked identity p.worker s q.worker r → (t : Taker) × (u : Taker) × HasWorked identity p.worker t q.worker u
-    by None r h = absurd h
-    by (Some t) None h = absurd h
-    by (Some t) (Some u) h = (t, u, h)
-
 -- a worker that has served has in its tally each job that its taker took, if it had before
 stays_manned : {W H : Type 0} (count : H → ℕ) (identity : W → Option ShardId) (queue : TableId) (p q : Post W H) → HasServed count identity p q → IsManned queue p → IsManned queue q
 stays_manned count identity queue p q served m =
@@ -81,25 +72,21 @@ all_manned count identity queue old new size served manned =
 
 -- ---- tallies
 
-added_assoc : (a b c : Counts) → added (added a b) c ≡ added a (added b c)
+added_assoc : (a b c : JobCounts) → added (added a b) c ≡ added a (added b c)
 added_assoc a b c = simp add_assoc
 
-added_none : (a c : Counts) → added (added a no_jobs) c ≡ added no_jobs (added a c)
+added_none : (a c : JobCounts) → added (added a no_jobs) c ≡ added no_jobs (added a c)
 added_none a c = simp (add-zero, zero-add)
 
-tallies_last : {W H : Type 0} (qs : List (Post W H)) (q : Post W H) (c : Counts) → added (all_tallies (qs ++ q ∷ [])) c ≡ added (all_tallies qs) (added q.worker.tally c)
+tallies_last : {W H : Type 0} (qs : List (Post W H)) (q : Post W H) (c : JobCounts) → added (all_tallies (qs ++ q ∷ [])) c ≡ added (all_tallies qs) (added q.worker.tally c)
 tallies_last [] q c = added_none q.worker.tally c
 tallies_last (p ∷ qs) q c =
     added_assoc p.worker.tally (all_tallies (qs ++ q ∷ [])) c
     ∙ ap (added p.worker.tally) (tallies_last qs q c)
     ∙ sym (added_assoc p.worker.tally (all_tallies qs) (added q.worker.tally c))
 
-added_comm : (a b : Counts) → added a b ≡ added b a
-added_comm a b =
-    rw (add_comm a.ran b.ran, add_comm a.stored b.stored, add_comm a.known b.known, add_comm a.empty b.empty, add_comm a.dropped b.dropped, add_comm a.stopped b.stopped) refl
-
 -- the tally of the last is added to those of the others
-tallies_popped : {W H : Type 0} (ps qs : List (Post W H)) (q : Post W H) (c : Counts) → ps ≡ qs ++ q ∷ []
+tallies_popped : {W H : Type 0} (ps qs : List (Post W H)) (q : Post W H) (c : JobCounts) → ps ≡ qs ++ q ∷ []
     → added (all_tallies ps) c ≡ added (all_tallies qs) (added q.worker.tally c)
 tallies_popped ps qs q c is = ap (λ l. added (all_tallies l) c) is ∙ tallies_last qs q c
 
@@ -124,21 +111,21 @@ one_taker found a b e f = let g : Some a ≡ Some b = sym e ∙ f in cc
 -- ---- posts that are changed one after another
 
 -- these posts were taken in, with a hand and a tally
-pub record AreTaken {W H : Type 0} (done : List (Post W H)) (v : Hand) (c : Counts) : Type 0 where
+pub record AreTaken {W H : Type 0} (done : List (Post W H)) (v : Hand) (c : JobCounts) : Type 0 where
   pub hand_is : v ≡ hand false [] 0 (length done) v.popped
   pub jobs : length v.popped ≡ c.ran
   pub few : c.ran ≤ length done * 2 ^ 57
   pub tallies : all_tallies done ≡ c
 
 -- one more was taken in
-pub next_taken : {W H : Type 0} (queue : TableId) (done more : List (Post W H)) (q : Post W H) (t : Taker) (v u : Hand) (c d : Counts) → more ≡ done ++ q ∷ [] → AreTaken done v c
+pub next_taken : {W H : Type 0} (queue : TableId) (done more : List (Post W H)) (q : Post W H) (t : Taker) (v u : Hand) (c d : JobCounts) → more ≡ done ++ q ∷ [] → AreTaken done v c
     → IsManned queue q → q.taker ≡ Some t → u ≡ join_hands v t.hand → d ≡ added c q.worker.tally → AreTaken more u d
 next_taken queue done more q t v u c d is taken m there joined summed =
     let one : m.taker ≡ t = one_taker q.taker m.taker t m.there there in
     let popped : t.hand ≡ hand false [] 0 1 t.hand.popped = subst (λ (w : Taker). w.hand ≡ hand false [] 0 1 w.hand.popped) one m.popped in
     let jobs : length t.hand.popped ≡ q.worker.tally.ran = subst (λ (w : Taker). length w.hand.popped ≡ q.worker.tally.ran) one m.jobs in
     let n : length more ≡ length done + 1 = one_less more done q is in
-    let ran : d.ran ≡ c.ran + q.worker.tally.ran = ap (λ (e : Counts). e.ran) summed in
+    let ran : d.ran ≡ c.ran + q.worker.tally.ran = ap (λ (e : JobCounts). e.ran) summed in
     let parts : v.parts ≡ length done = ap (λ (w : Hand). w.parts) taken.hand_is in
     let v_is : v ≡ hand false [] 0 v.parts v.popped = taken.hand_is ∙ ap (λ k. hand false [] 0 k v.popped) (sym parts) in
     let now : u ≡ hand false [] 0 (v.parts + 1) u.popped = joined ∙ joined_hands v t.hand v_is popped ∙ ap (λ (w : Hand). hand false [] 0 (v.parts + 1) w.popped) (sym joined) in
@@ -170,7 +157,7 @@ pub new_manned : {W H : Type 0} (queue : TableId) (t : Taker) (halt : H) (p : Po
 new_manned queue t halt p e idle =
     let v : t.hand ≡ hand false [] 0 1 [] = ap (λ (u : Taker). u.hand) e in
     let popped : t.hand.popped ≡ [] = ap (λ (u : Hand). u.popped) v in
-    let ran : p.worker.tally.ran ≡ 0 = ap (λ (c : Counts). c.ran) idle.tally in record {
+    let ran : p.worker.tally.ran ≡ 0 = ap (λ (c : JobCounts). c.ran) idle.tally in record {
       taker = t;
       there = refl;
       queue_is = ap (λ (u : Taker). u.queue) e;
@@ -267,12 +254,6 @@ pub all_at : {W H : Type 0} (P : Worker W H → Type 0) (posts : List (Post W H)
 all_at P [] h = All-nil (λ p. P p.worker)
 all_at P (p ∷ posts) h =
     let s = split_last P (workers_at posts) p.worker h in All-cons (λ p. P p.worker) p posts s.1 (all_at P posts s.0)
-
--- and what holds of each halt holds at each post
-pub all_halts_at : {W H : Type 0} (P : H → Type 0) (posts : List (Post W H)) → All P (halts_at posts) → All (λ p. P p.worker.halt) posts
-all_halts_at P [] h = All-nil (λ p. P p.worker.halt)
-all_halts_at P (p ∷ posts) h =
-    let s = split_last P (halts_at posts) p.worker.halt h in All-cons (λ p. P p.worker.halt) p posts s.1 (all_halts_at P posts s.0)
 
 -- ---- teams
 

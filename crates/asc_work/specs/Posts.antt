@@ -6,7 +6,7 @@ use Rattle.asc_outside.specs.Outside.{one_more}
 use Rattle.asc_cache.specs.Insert.{ShardId}
 use Rattle.asc_jobs.specs.Hands.{hand}
 use Rattle.asc_jobs.specs.Jobs.{Taker}
-use Rattle.asc_jobs.specs.Tally.{Counts, no_jobs, added}
+use Rattle.asc_model.specs.Tally.{JobCounts, no_jobs, added}
 use Rattle.asc_work.specs.Worker.{Worker}
 use Rattle.asc_work.specs.declared.post.Post.{Post}
 
@@ -60,7 +60,7 @@ pub record IsTakenIn {W H : Type 0} (p q : Post W H) : Type 0 where
   pub worker : q.worker ≡ record p.worker { tally = no_jobs }
 
 -- the tallies of workers, column by column
-abbrev pub all_tallies : {W H : Type 0} → List (Post W H) → Counts
+abbrev pub all_tallies : {W H : Type 0} → List (Post W H) → JobCounts
 all_tallies [] = no_jobs
 all_tallies (p ∷ posts) = added p.worker.tally (all_tallies posts)
 

@@ -16,10 +16,10 @@ use Rattle.asc_shard.specs.declared.shard.Inserted.{Inserted}
 use Rattle.asc_shard.specs.declared.shard.Inserted.TheVariants as answers
 use Rattle.asc_shard.specs.Content.{outcome_of}
 use Rattle.asc_cache.specs.Insert.{shard_after}
-use Rattle.asc_jobs.specs.Tally.{Counts, noted}
+use Rattle.asc_model.specs.Tally.{JobCounts, noted}
 use Rattle.asc_jobs.specs.declared.job.Job.{Job}
-use Rattle.asc_jobs.specs.declared.tally.Column.{Column}
-use Rattle.asc_jobs.specs.declared.tally.Column.TheVariants.{Stored, Known, Empty, Dropped, Stopped}
+use Rattle.asc_model.specs.declared.tally.Column.{Column}
+use Rattle.asc_model.specs.declared.tally.Column.TheVariants.{Stored, Known, Empty, Dropped, Stopped}
 
 -- A worker: the shape of its states, how far it traces a guess, where it inserts entries, what stops it, and its tally.
 -- Where it joins entries it keeps the entry of the last job that was stored. It counts the jobs at which a join, or an entry
@@ -30,7 +30,7 @@ pub record Worker (W H : Type 0) : Type 0 where
   pub span : ℕ
   pub writer : W
   pub halt : H
-  pub tally : Counts
+  pub tally : JobCounts
   pub join : Bool
   pub kept : Option Entry
   pub left_out : ℕ

@@ -11,7 +11,6 @@ mod team;
 mod work;
 mod worker;
 
-pub use asc_jobs::Column as Ran;
 pub use halter::{Flag, Halter};
 pub use lanes::{Lanes, MOST_JOBS};
 pub use post::TakenIn;

@@ -1,14 +1,15 @@
 ghost use Rattle.std.specs.Prelude.{◌≡◌, ℕ, ◌+◌, ◌<◌, ◌≤◌, Some, true, length, map, slice_index_or, All, IfOk};
 ghost use Rattle.std.specs.Option.{is_some};
 ghost use Rattle.asc_jobs.specs.Jobs.{HasAllParts, new_taker};
-ghost use Rattle.asc_jobs.specs.Tally.{counts_of, no_jobs};
+ghost use Rattle.asc_model.specs.Tally.{counts_of, no_jobs};
 ghost use Rattle.atomic_table.specs.Seated.{TableId};
 ghost use Rattle.asc_work.specs.Posts.{HasServed, IsIdle, IsManned, IsReady, IsRehalted, all_tallies, halts_at, manned_with, relieved, workers_at};
 ghost use Rattle.asc_work.specs.declared.post.Post.{Post};
 
 use crate::{Worker, work_loop};
 use asc_cache::Insert;
-use asc_jobs::{Giver, Taker, Tally};
+use asc_jobs::{Giver, Taker};
+use asc_model::Tally;
 use asc_outside::{Gate, Memory};
 use asc_traj::Halt;
 use crossbeam_utils::sync::{Parker, Unparker};

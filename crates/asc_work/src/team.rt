@@ -1,7 +1,7 @@
 ghost use Rattle.std.specs.Prelude.{◌≡◌, ℕ, ◌+◌, ◌<◌, ◌≤◌, Some, None, All, IfOk, length, slice_index_or};
 ghost use Rattle.atomic_table.specs.Seated.{TableId};
 ghost use Rattle.asc_jobs.specs.Jobs.{new_taker};
-ghost use Rattle.asc_jobs.specs.Tally.{counts_of, no_jobs};
+ghost use Rattle.asc_model.specs.Tally.{counts_of, no_jobs};
 ghost use Rattle.asc_work.specs.Posts.{HasServed, IsRehalted, IsTakenIn, all_tallies, halts_at, workers_at};
 ghost use Rattle.asc_work.specs.declared.post.Post.{Post};
 

@@ -1,20 +1,20 @@
 ghost use Rattle.std.specs.Prelude.{◌≡◌, ◌<◌, ◌≤◌, ◌^◌, Some, None, IfOk, IfErr, IfSome};
 ghost use Rattle.std.specs.Arc.{arc_value};
 ghost use Rattle.asc_model.specs.Shape.{Shape};
-ghost use Rattle.asc_jobs.specs.declared.tally.Column.TheVariants as ran;
+ghost use Rattle.asc_model.specs.declared.tally.Column.TheVariants as ran;
 ghost use Rattle.asc_traj.specs.declared.made.Made.TheVariants as made;
 ghost use Rattle.asc_traj.specs.Made.{IsMade};
 ghost use Rattle.asc_traj.specs.Trace.{CountsAnswer, trace_cap};
-ghost use Rattle.asc_jobs.specs.Tally.{no_jobs, noted, counts_of};
+ghost use Rattle.asc_model.specs.Tally.{no_jobs, noted, counts_of};
 ghost use Rattle.asc_work.specs.Inside.{HasOwn, HasTracer};
 ghost use Rattle.asc_work.specs.Worker.{IsOfShape, IsEmpty, HasInserted, HasJoined, HasAsked, Ends, bounds_for, guess_for, steps_for};
 
-use crate::Ran;
 use crate::joining::Joining;
 use asc_cache::Insert;
 use asc_depvec::{Tracer, Unfilled};
 use asc_guess::guess;
-use asc_jobs::{Job, Tally};
+use asc_jobs::Job;
+use asc_model::{Column, Tally};
 use asc_outside::{Gate, Memory, Point};
 use asc_shape::Shape;
 use asc_shard::Inserted;
@@ -44,7 +44,7 @@ pub struct Worker<W: Insert + Drop, H: Halt + Drop> {
 }
 
 impl<W: Insert + Drop, H: Halt + Drop> Model for Worker<W, H> {
-    ghost use Rattle.asc_jobs.specs.Tally.{counts_of};
+    ghost use Rattle.asc_model.specs.Tally.{counts_of};
     ghost use Rattle.asc_work.specs.Worker as model;
     ghost use Rattle.asc_work.specs.Inside.{HasOwn};
     ghost use Rattle.std.specs.Arc.{arc_value};
@@ -121,7 +121,7 @@ impl<W: Insert + Drop, H: Halt + Drop> Worker<W, H> {
     ///
     /// A worker that joins also inserts the join of the entry that it keeps and one that is stored, where there is one. It
     /// then keeps the stored one. Where memory is wanting for either, the answer is still `Stored`, and `left_out` counts it.
-    pub fn run_job<G: Gate>(&mut self, job: Job, gate: &G) -> Ran
+    pub fn run_job<G: Gate>(&mut self, job: Job, gate: &G) -> Column
         requires { self.old.tally.ran < 2 ^ 62 }
         ensures empty { result ≡ ran.Empty → IsEmpty self.old job }
         ensures other { (IsOfShape self.old.shape job → ⊥) → result ≡ ran.Empty }
@@ -218,7 +218,7 @@ impl<W: Insert + Drop, H: Halt + Drop> Worker<W, H> {
     }
 
     // Runs a job, but for its tally.
-    fn outcome<G: Gate>(&mut self, job: Job, gate: &G) -> Ran
+    fn outcome<G: Gate>(&mut self, job: Job, gate: &G) -> Column
         ensures empty { result ≡ ran.Empty → IsEmpty self.old job }
         ensures other { (IsOfShape self.old.shape job → ⊥) → result ≡ ran.Empty }
         ensures steps { IsEmpty self.old job → result ≡ ran.Empty }
@@ -232,7 +232,7 @@ impl<W: Insert + Drop, H: Halt + Drop> Worker<W, H> {
         ensures identity { W.identity self.new.writer ≡ W.identity self.old.writer }
     {
         if job.prev.shape() != self.shape || job.last.shape() != self.shape {
-            return Ran::Empty;
+            return Column::Empty;
         }
         make_tracer(&mut self.unfilled, &mut self.tracer);
         let Some(tracer) = &mut self.tracer else {
@@ -248,14 +248,14 @@ impl<W: Insert + Drop, H: Halt + Drop> Worker<W, H> {
             self.span,
         ) {
             Made::One(entry) => self.insert(entry, ticket, gate),
-            Made::Empty => Ran::Empty,
-            Made::Stopped => Ran::Stopped,
-            Made::Refused => Ran::Dropped,
+            Made::Empty => Column::Empty,
+            Made::Stopped => Column::Stopped,
+            Made::Refused => Column::Dropped,
         }
     }
 
     // Passes the gate, and inserts an entry. Where that is stored and the worker joins, it is joined and kept.
-    fn insert<G: Gate>(&mut self, entry: Arc<Entry>, ticket: u64, gate: &G) -> Ran
+    fn insert<G: Gate>(&mut self, entry: Arc<Entry>, ticket: u64, gate: &G) -> Column
         ensures ends { Ends result self.old self.new (Some (arc_value entry)) (W.content self.old.writer) (W.content self.new.writer) }
         ensures same { self.new ≡ record self.old { writer = self.new.writer; kept = self.new.kept; left_out = self.new.left_out } }
         ensures identity { W.identity self.new.writer ≡ W.identity self.old.writer }
@@ -267,10 +267,10 @@ impl<W: Insert + Drop, H: Halt + Drop> Worker<W, H> {
                 if self.joining.join {
                     self.join_stored(copy);
                 }
-                Ran::Stored
+                Column::Stored
             }
-            Ok(Inserted::Known) => Ran::Known,
-            Err(Memory) => Ran::Dropped,
+            Ok(Inserted::Known) => Column::Known,
+            Err(Memory) => Column::Dropped,
         }
     }
 

@@ -1,10 +1,7 @@
-use Rattle.std.proofs.Common.{◌≡◌, ℕ, ◌+◌, ◌-◌, ◌*◌, ◌/◌, ◌%◌, ◌^◌, ◌==◌, ◌||◌, ◌∙◌, Bool, take, slice_index_or, refl, sym, ap, arith}
-use Rattle.std.specs.List.{list_any}
+use Rattle.std.proofs.Common.{◌≡◌, ◌+◌, ◌-◌, ◌*◌, ◌/◌, ◌%◌, ◌^◌, slice_index_or, refl, arith}
 use Rattle.std.proofs.Math.Bool.{or_assoc, or-false}
 use Rattle.std.proofs.lemmas.List.Folds.{list_any-append}
 use Rattle.std.proofs.lemmas.Nat.{one_shl}
-use Rattle.asc_depvec.specs.Inside.{is_bit_of}
-use Rattle.asc_depvec.specs.Tracer.{places_of, places_of_item}
 use Rattle.asc_depvec.proofs.Bits.{bit_of-more, bit_of-none, item_bit, rotated}
 use Rattle.asc_depvec.proofs.Items.{places_of-take}
 use Rattle.asc_depvec.proofs.bitmap.bits_of.Goals as goal
@@ -14,8 +11,7 @@ loop-at-init c = record {
   least = omega arith;
   most = c.requires.from;
   bits = λ word.
-      let any = list_any (λ place. place / 4 == word) (places_of (take c.args.from c.args.items.now)) in
-      sym (ap (λ (b : Bool). any || b) (bit_of-none (c.args.first / 512) 0 word refl) ∙ or-false any);
+      rw (bit_of-none (c.args.first / 512) 0 word refl, or-false);
 }
 
 pub loop-at-preserved : goal.loop-at-preserved
@@ -36,13 +32,6 @@ loop-at-preserved c =
       least = omega (arith, c.loop-at.invariant.least);
       most = omega (arith, c.loop-at-test.true);
       bits = λ word.
-          let test : ℕ → Bool = λ place. place / 4 == word in
-          let before = list_any test (places_of (take c.args.from items)) in
-          ap (list_any test) (places_of-take items at 0 c.loop-at-test.true) ∙ list_any-append test (places_of (take at items)) (places_of_item item)
-          ∙ ap (λ (b : Bool). b || list_any test (places_of_item item)) (c.loop-at.invariant.bits word)
-          ∙ ap (λ (b : Bool). (before || is_bit_of (first / 512) bits word) || b) (item_bit item word whole)
-          ∙ or_assoc before (is_bit_of (first / 512) bits word) (item / 8 == word)
-          ∙ ap (λ (b : Bool). before || b)
-          (ap (λ (n : ℕ). is_bit_of (first / 512) bits word || n == word) (sym here)
-          ∙ sym (bit_of-more (first / 512) bits bit (1 * 2 ^ bit % 2 ^ 64) word (omega (arith, low)) (one_shl bit 64 (omega (arith, low)))));
+          let more = bit_of-more (first / 512) bits bit (1 * 2 ^ bit % 2 ^ 64) word (omega (arith, low)) (one_shl bit 64 (omega (arith, low))) in
+          rw (places_of-take items at 0 c.loop-at-test.true, list_any-append, c.loop-at.invariant.bits word, item_bit item word whole, ← here, or_assoc, more);
     }

@@ -8,18 +8,18 @@ use Rattle.asc_depvec.proofs.bitmap.push_blocks.Goals as goal
 
 pub overflow_mul-block : goal.overflow_mul-block
 overflow_mul-block c =
-    let next = next_bit c.args.group c.loop-rest.rest c.loop-rest.at (trailing_zeros w64 c.loop-rest.rest) (omega (arith, c.ranges.group)) c.loop-rest.invariant.rest (omega (arith, c.loop-rest.auto.rest-fits)) c.loop-rest-test.true refl in
+    let next = next_bit c.args.group c.loop-rest.rest c.loop-rest.at (omega (arith, c.ranges.group)) c.loop-rest.invariant.rest c.loop-rest-test.true in
     omega (arith, next.within, c.requires.within, c.requires.low)
 
 pub bounds-blocks-block : goal.bounds-blocks-block
 bounds-blocks-block c =
-    let next = next_bit c.args.group c.loop-rest.rest c.loop-rest.at (trailing_zeros w64 c.loop-rest.rest) (omega (arith, c.ranges.group)) c.loop-rest.invariant.rest (omega (arith, c.loop-rest.auto.rest-fits)) c.loop-rest-test.true refl in
+    let next = next_bit c.args.group c.loop-rest.rest c.loop-rest.at (omega (arith, c.ranges.group)) c.loop-rest.invariant.rest c.loop-rest-test.true in
     omega (arith, next.within, c.requires.within)
 
 pub push_reserved-requires : goal.push_reserved-requires
 push_reserved-requires c =
     let skip = trailing_zeros w64 c.loop-rest.rest in
-    let next = next_bit c.args.group c.loop-rest.rest c.loop-rest.at skip (omega (arith, c.ranges.group)) c.loop-rest.invariant.rest (omega (arith, c.loop-rest.auto.rest-fits)) c.loop-rest-test.true refl in
+    let next = next_bit c.args.group c.loop-rest.rest c.loop-rest.at (omega (arith, c.ranges.group)) c.loop-rest.invariant.rest c.loop-rest-test.true in
     omega (arith, block-room c.args.group c.args.from c.loop-rest.at skip (omega (arith, c.ranges.group)) next, c.requires.room, c.loop-rest.invariant.few, c.loop-rest.invariant.capacity)
 
 pub returns-clause-few : goal.returns-clause-few
@@ -30,7 +30,7 @@ returns-clause-few c =
 pub loop-rest-preserved : goal.loop-rest-preserved
 loop-rest-preserved c =
     let skip = trailing_zeros w64 c.loop-rest.rest in
-    let next = next_bit c.args.group c.loop-rest.rest c.loop-rest.at skip (omega (arith, c.ranges.group)) c.loop-rest.invariant.rest (omega (arith, c.loop-rest.auto.rest-fits)) c.loop-rest-test.true refl in
+    let next = next_bit c.args.group c.loop-rest.rest c.loop-rest.at (omega (arith, c.ranges.group)) c.loop-rest.invariant.rest c.loop-rest-test.true in
     let before = filter (has_bit c.args.group c.args.from) (places_from c.args.from c.loop-rest.at) in
     let longer = ap (λ (list : List ℕ). length list) (word-more c.args.group c.args.from c.loop-rest.at skip [] before next refl) in
     let first = length-append before ((c.args.from + (c.loop-rest.at + skip)) ∷ []) in

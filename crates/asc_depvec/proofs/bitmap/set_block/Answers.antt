@@ -1,5 +1,4 @@
-use Rattle.std.proofs.Common.{◌≡◌, ℕ, ◌==◌, List, [], ◌∷◌, not, cond, length-append, ◌*◌, ◌/◌, ◌%◌, ◌^◌, ◌<◌, ◌∙◌, length, bit_or, slice_index, slice_set, sym, ap, subst, arith}
-use Rattle.std.specs.Prelude.{All}
+use Rattle.std.proofs.Common.{ℕ, ◌==◌, [], ◌∷◌, not, length-append, ◌*◌, ◌/◌, ◌%◌, ◌^◌, ◌<◌, length, bit_or, slice_index, ap, arith}
 use Rattle.std.specs.Global.{Vec}
 use Rattle.std.proofs.lemmas.List.{length-set}
 use Rattle.std.proofs.lemmas.List.Elements.{All-push}
@@ -13,15 +12,10 @@ returns-clause-bits c = λ other. has-added c.args.groups.now c.args.block (1 * 
 
 pub returns-clause-used : goal.returns-clause-used
 returns-clause-used c =
-    let groups = c.args.groups.now in
-    let new = slice_set groups (c.args.block / 64) (bit_or (slice_index groups (c.args.block / 64)) (1 * 2 ^ (c.args.block % 64) % 2 ^ 64)) in
-    let size : length new ≡ length groups = length-set groups (c.args.block / 64) (bit_or (slice_index groups (c.args.block / 64)) (1 * 2 ^ (c.args.block % 64) % 2 ^ 64)) in
-    subst (λ (n : ℕ). All (λ block. block < n) c.if-before-eq0.used.items) (sym size)
-    (elim c.if-before-eq0.branch [
-      | then-before-eq0 w ↦
-          subst (All (λ block. block < length groups)) (sym (ap (λ v. v.items) w.used-is ∙ w.push_reserved.ensures.items))
-          (All-push (λ block. block < length groups) c.args.used.now.items (c.args.block / 64) c.requires.used c.requires.within)
-      | else-before-eq0 w ↦ subst (All (λ block. block < length groups)) (sym (ap (λ v. v.items) w.used-is)) c.requires.used
+    let P = λ (block : ℕ). block < length c.args.groups.now in
+    rw length-set (elim c.if-before-eq0.branch [
+      | then-before-eq0 w ↦ rw (w.used-is, w.push_reserved.ensures.items) (All-push P c.args.used.now.items (c.args.block / 64) c.requires.used c.requires.within)
+      | else-before-eq0 w ↦ rw w.used-is c.requires.used
     ])
 
 pub push_reserved-requires : goal.push_reserved-requires
@@ -37,11 +31,6 @@ returns-clause-few c =
     let value = bit_or (slice_index groups group) power in
     let set = live-set groups group value c.requires.within (or-some (slice_index groups group) power bit (one_shl bit 64 (omega arith))) in
     elim c.if-before-eq0.branch [
-      | then-before-eq0 w ↦
-          let longer = ap (λ (v : Vec ℕ). length v.items) w.used-is ∙ ap (λ (list : List ℕ). length list) w.push_reserved.ensures.items ∙ length-append c.args.used.now.items (group ∷ []) in
-          let free = ap (λ (k : ℕ). cond {A = ℕ} (not (k == 0)) 1 0) w.if-before-eq0.true in
-          omega (arith, set, longer, free, c.requires.few)
-      | else-before-eq0 w ↦
-          let same = ap (λ (v : Vec ℕ). length v.items) w.used-is in
-          omega (arith, set, same, cond-most (not (slice_index groups group == 0)), c.requires.few)
+      | then-before-eq0 w ↦ grind (arith, set, ap (λ (v : Vec ℕ). v.items) w.used-is, w.push_reserved.ensures.items, length-append c.args.used.now.items (group ∷ []), w.if-before-eq0.true, c.requires.few)
+      | else-before-eq0 w ↦ omega (arith, set, ap (λ (v : Vec ℕ). length v.items) w.used-is, cond-most (not (slice_index groups group == 0)), c.requires.few)
     ]

@@ -1,7 +1,5 @@
-use Rattle.std.proofs.Common.{◌*◌, ◌/◌, ◌<◌, ◌∙◌, List, length, sym, subst, arith}
-use Rattle.std.specs.Prelude.{All}
+use Rattle.std.proofs.Common.{◌*◌, ◌/◌, ◌<◌, ◌∙◌, length, arith}
 use Rattle.asc_depvec.specs.Bits.{block_at, has_word}
-use Rattle.asc_depvec.specs.declared.bitmap.Block.{Block}
 use Rattle.asc_depvec.proofs.Bits.{found-all, found-listed}
 use Rattle.asc_depvec.proofs.bitmap.take_blocks.Goals as goal
 
@@ -13,5 +11,5 @@ pub clear_blocks-requires-clause-used : goal.clear_blocks-requires-clause-used
 clear_blocks-requires-clause-used c =
     let blocks = c.args.blocks.now in
     let groups = c.args.groups.now in
-    subst (λ (list : List Block). All (λ block. block.first / 64 < length blocks) list) (sym (c.deref.ensures.value ∙ c.in-Ok.ensures))
+    rw (c.deref.ensures.value, c.in-Ok.ensures)
     (found-all (λ block. block.first / 64 < length blocks) (block_at blocks) (has_word groups) (64 * length groups) 0 (λ p lt. omega (arith, lt, c.requires.groups)))

@@ -8,6 +8,4 @@ returns-clause-mark c h =
     mark_of_word c.args.marks.now c.args.place c.args.mark c.are_bytes.ensures (omega (arith, c.ranges.mark)) c.requires (sym c.word_of.ensures ∙ eqb-true _ _ h ∙ c.from_le_bytes.ensures)
 
 pub returns-clause-status : goal.returns-clause-status
-returns-clause-status c h =
-    status_of_word c.args.marks.now c.args.place c.args.mark c.requires
-    (mark_of_word c.args.marks.now c.args.place c.args.mark c.are_bytes.ensures (omega (arith, c.ranges.mark)) c.requires (sym c.word_of.ensures ∙ eqb-true _ _ h ∙ c.from_le_bytes.ensures))
+returns-clause-status c h = status_of_word c.args.marks.now c.args.place c.args.mark c.requires (returns-clause-mark c h)

@@ -1,7 +1,7 @@
-use Rattle.std.proofs.Common.{ℕ, List, ◌∷◌, length, drop, ap, ◌∙◌, arith, length-append, []}
+use Rattle.std.proofs.lemmas.List.{map-set}
+use Rattle.std.proofs.Common.{ℕ, List, ◌∷◌, length, ap, ◌∙◌, arith, length-append, []}
 use Rattle.asc_depvec.specs.Tracer.{places_of}
-use Rattle.asc_depvec.specs.Inside.{statuses_of}
-use Rattle.asc_depvec.proofs.Items.{back_more, given_more, pop_step}
+use Rattle.asc_depvec.proofs.Items.{pop_step}
 use Rattle.asc_depvec.proofs.Settling.{less-join, less-set}
 use Rattle.asc_depvec.proofs.tracer.take_back.Goals as goal
 
@@ -14,8 +14,8 @@ loop-touched-preserved c =
     record {
       least = omega (arith, c.loop-touched-test.true, c.len.ensures, ap (λ (l : List ℕ). length l) c.pop-place.ensures.places, length-append new (c.pop-place.result ∷ []));
       listed = step.0;
-      statuses = back_more (statuses_of c.args.marks.now) c.loop-touched.marks (drop (length old) all) (drop (length new) all) c.pop-place.result c.loop-touched.invariant.statuses step.1;
+      statuses = rw (map-set, c.loop-touched.invariant.statuses, step.1);
       less = less-join c.args.marks.now c.loop-touched.marks _ c.loop-touched.invariant.less (less-set c.loop-touched.marks c.pop-place.result 3 (λ e. absurd (omega (arith, e))));
-      bytes = given_more c.args.start.now.bytes c.args.bytes.now c.loop-touched.bytes (drop (length old) all) (drop (length new) all) c.pop-place.result c.byte.result c.loop-touched.invariant.bytes c.byte.ensures step.1;
+      bytes = rw (c.loop-touched.invariant.bytes, c.byte.ensures, step.1);
       cap = c.pop-place.ensures.cap ∙ c.loop-touched.invariant.cap;
     }

@@ -6,7 +6,7 @@ use Rattle.asc_depvec.proofs.tracer.take_back.Given as goal
 
 abbrev pub invariant-loop-touched : goal.invariant-loop-touched
 invariant-loop-touched l = record {
-  least : l.mark ≤ length (places_of l.touched.items);
+  least : l.count ≤ length (places_of l.touched.items);
   listed : places_of l.touched.items ≡ take (length (places_of l.touched.items)) (places_of l.fn.touched.items);
   statuses : statuses_of l.marks ≡ without (statuses_of l.fn.marks) (drop (length (places_of l.touched.items)) (places_of l.fn.touched.items));
   less : TellNoMore l.fn.marks l.marks;

@@ -3,19 +3,19 @@ use Rattle.std.proofs.Common.{◌≡◌, ℕ, Some, None, refl, sym, ap, subst, 
 use Rattle.std.specs.Arc.{arc_value}
 use Rattle.asc_model.specs.State.{State}
 use Rattle.asc_model.specs.Entry.{Entry, entry_of}
-use Rattle.asc_model.specs.Step.{Next, At, Call, Bad}
+use Rattle.asc_model.specs.Step.{Next, Went, Call, Faulted}
 use Rattle.asc_model.specs.Plain.{plain}
 use Rattle.asc_model.proofs.Entries.{entry_of-is, made}
 use Rattle.asc_embed.proofs.entries.entry_from.Goals as goal
 
 -- the entry of n steps has n steps
 own_steps : (n : ℕ) (s : State) (e : Entry) (x : Next) → plain n s ≡ x → entry_of n s ≡ Some e → entry_of e.steps s ≡ Some e
-own_steps n s e (At after) goes is =
-    let same : Some e ≡ Some (made n s after) = sym is ∙ entry_of-is n s (At after) goes in
+own_steps n s e (Went after) goes is =
+    let same : Some e ≡ Some (made n s after) = sym is ∙ entry_of-is n s (Went after) goes in
     let alike : e ≡ made n s after = cc in
     ap (λ entry. entry_of entry.steps s) alike ∙ is
 own_steps n s e Call goes is = let none : None ≡ Some e = sym (entry_of-is n s Call goes) ∙ is in absurd (cc)
-own_steps n s e (Bad fault) goes is = let none : None ≡ Some e = sym (entry_of-is n s (Bad fault) goes) ∙ is in absurd (cc)
+own_steps n s e (Faulted fault) goes is = let none : None ≡ Some e = sym (entry_of-is n s (Faulted fault) goes) ∙ is in absurd (cc)
 
 pub returns-in-One : goal.returns-in-One
 returns-in-One c =

@@ -1,15 +1,15 @@
 -- Steps that lead on behind others.
 use Rattle.std.proofs.Common.{◌≡◌, ℕ, ◌+◌, ◌<◌, refl, ◌∙◌, subst, lit≤, arith}
 use Rattle.asc_model.specs.State.{State}
-use Rattle.asc_model.specs.Step.{At}
+use Rattle.asc_model.specs.Step.{Went}
 use Rattle.asc_model.specs.Plain.{plain}
 use Rattle.asc_model.proofs.PlainSteps.{plain-zero, plain_steps_join}
 use Rattle.asc_embed.proofs.walk.walk.Goals.{then-pc-stop+in-None+in_ok-keep-in-None, else-pc-stop}
 use Rattle.asc_embed.proofs.walk.walk.Goals as goal
 
 -- m steps and then n, where both are so many in all
-further : (m n total : ℕ) (s between after : State) → plain m s ≡ At between → plain n between ≡ At after → total ≡ m + n
-    → plain total s ≡ At after
+further : (m n total : ℕ) (s between after : State) → plain m s ≡ Went between → plain n between ≡ Went after → total ≡ m + n
+    → plain total s ≡ Went after
 further m n total s between after first second all = rw all (plain_steps_join m n s between first ∙ second)
 
 pub loop-visit-init : goal.loop-visit-init
@@ -40,7 +40,7 @@ returns-then-ne-clause-goes g c = λ below.
     ] in
     further (before.executed + before.jumped) n (before.executed + n + before.jumped) _ before.state _
     (before.invariant.goes below)
-    (subst (λ (s : State). plain n s ≡ At c.step_until-n.new.state) stays c.step_until-n.ensures.goes) (omega arith)
+    (subst (λ (s : State). plain n s ≡ Went c.step_until-n.new.state) stays c.step_until-n.ensures.goes) (omega arith)
 
 pub loop-visit-preserved : goal.loop-visit-preserved
 loop-visit-preserved g c =
@@ -58,6 +58,6 @@ loop-visit-preserved g c =
       few = omega (arith, few, most);
       goes = λ below. further (before.executed + before.jumped) n (before.executed + n + before.jumped) _ before.state _
           (before.invariant.goes below)
-          (subst (λ (s : State). plain n s ≡ At c.step_until-n.new.state) stays c.step_until-n.ensures.goes) (omega arith);
+          (subst (λ (s : State). plain n s ≡ Went c.step_until-n.new.state) stays c.step_until-n.ensures.goes) (omega arith);
       counter = omega (arith, counted, counter);
     }

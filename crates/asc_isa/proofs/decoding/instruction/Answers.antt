@@ -3,7 +3,7 @@ use Rattle.std.proofs.lemmas.Bool.{and_parts, eqb-true}
 use Rattle.asc_model.specs.declared.instruction.Op.TheVariants.{Add, Addi, And, Andi, Auipc, Beq, Bge, Bgeu, Blt, Bltu, Bne, Div, Divu, Fence, FenceI, Jal, Jalr, Lb, Lbu, Lh, Lhu, Lui, Lw, Mul, Mulh, Mulhsu, Mulhu, Or, Ori, Rem, Remu, Sb, Sh, Sll, Slt, Slti, Sltiu, Sltu, Sra, Srl, Sub, Sw, Xor, Xori}
 use Rattle.asc_model.specs.Instruction.{Major, Minor, U, J, I, S, B, R, Plain}
 use Rattle.asc_isa.proofs.Rows.{decode-for, decode-atomic, decode-no_atomic}
-use Rattle.asc_isa.proofs.ByKind.{decode-only, decode-chosen, decode-none}
+use Rattle.asc_isa.proofs.ByEncoding.{decode-only, decode-chosen, decode-none}
 use Rattle.asc_isa.proofs.decoding.instruction.Goals as goal
 
 pub returns-in-Lui : goal.returns-in-Lui

@@ -1,6 +1,6 @@
 use Rattle.std.proofs.Common.{◌≡◌, [], ◌∷◌, ◌++◌, All, sym, ap, subst, arith}
 use Rattle.std.proofs.lemmas.List.Elements.{All-push}
-use Rattle.asc_jobs.specs.Tally.{no_jobs}
+use Rattle.asc_model.specs.Tally.{no_jobs}
 use Rattle.asc_work.proofs.Posts.{all_popped, is_popped, one_less}
 use Rattle.asc_live.specs.Crew.{HasBoundsOf, IsWriterOf}
 use Rattle.asc_live.proofs.open_crew.workers_of.Goals as goal

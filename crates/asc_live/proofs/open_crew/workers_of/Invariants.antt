@@ -1,6 +1,6 @@
 use Rattle.std.proofs.Common.{◌≡◌, ◌+◌, List, All, length}
 use Rattle.asc_cache.specs.Cache.{ShardReader}
-use Rattle.asc_jobs.specs.Tally.{no_jobs}
+use Rattle.asc_model.specs.Tally.{no_jobs}
 use Rattle.asc_live.specs.Crew.{HasBoundsOf, IsWriterOf}
 use Rattle.asc_live.proofs.open_crew.workers_of.Given as goal
 

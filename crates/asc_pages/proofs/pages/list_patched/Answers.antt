@@ -7,11 +7,11 @@ loop-p-preserved c =
     let one = c.in_ok-list_changed.ensures c.if-not-branch.false in
     record {
       first = λ q other. so.first q (one q other).0;
-      marked = λ q other. below_more _ _ (so.marked q (one q other).0)
+      dirtied = λ q other. below_more _ _ (so.dirtied q (one q other).0)
           ((one q other).1 (so.first q (one q other).0));
     }
 
 pub returns : goal.returns
 returns c few p other =
     let so = c.loop-p.invariant in
-    (so.first p other, λ inside. c.in-Some.ensures.pages p inside (λ j below. so.marked p other j (omega arith)))
+    (so.first p other, λ inside. c.in-Some.ensures.pages p inside (λ j below. so.dirtied p other j (omega arith)))

@@ -7,7 +7,7 @@ use Rattle.asc_pages.proofs.pages.put_top.Goals as goal
 
 pub returns-in_ok-top-2 : goal.returns-in_ok-top-2
 returns-in_ok-top-2 c =
-    told_patched c.args.changed.now c.args.bytes.now c.args.base.now _ c.requires.marks c.requires.kept
+    told_patched c.args.changed.now c.args.bytes.now c.args.base.now _ c.requires.dirty c.requires.kept
     (groups_shared c.in_ok-top.field-0 c.args.base.now.groups c.in_ok-top.ensures)
     (c.in_ok-list_patched.ensures c.if-branch.true)
     (λ k below. subst (λ (l : List ℕ). k < length l → IsPage c.args.bytes.now (slice_index l k) (page_in c.in_ok-top-2.field-0.items k)) c.list.ensures (c.in_ok-top-2.ensures k) below)

@@ -1,8 +1,8 @@
 -- What a function does that is called for a visit is a visit.
 use Rattle.asc_run.proofs.visited.visit_by.Goals as goal
 
-pub returns-clause-tally : goal.returns-clause-tally
-returns-clause-tally g c = (c.requires.visit.visits _ _ _ _ _ (record { few = c.requires.number; made = c.requires.made; full = c.requires.full }) c.visit.ensures).tally
+pub returns-clause-jumps : goal.returns-clause-jumps
+returns-clause-jumps g c = (c.requires.visit.visits _ _ _ _ _ (record { few = c.requires.number; made = c.requires.made; full = c.requires.full }) c.visit.ensures).jumps
 
 pub returns-clause-replies : goal.returns-clause-replies
 returns-clause-replies g c = (c.requires.visit.visits _ _ _ _ _ (record { few = c.requires.number; made = c.requires.made; full = c.requires.full }) c.visit.ensures).replies

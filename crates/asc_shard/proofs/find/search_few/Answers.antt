@@ -34,7 +34,7 @@ loop-at-preserved g c =
 pub returns-clause-probes : goal.returns-clause-probes
 returns-clause-probes g c =
     let r = c.requires in
-    let all = asked-few (map arc_value c.args.entries.now) (positions_of c.args.index.now) c.args.state.now c.args.low c.args.high r.index.entries r.range.1 r.few r.marks r.prints r.range.0 in (
+    let all = asked-few (map arc_value c.args.entries.now) (positions_of c.args.index.now) c.args.state.now c.args.low c.args.high r.index.entries r.range.1 r.few r.keys r.prints r.range.0 in (
       all.0,
       all.1,
       all.2,

@@ -1,6 +1,6 @@
 use Rattle.std.proofs.Common.{◌∙◌, sym, ap}
 use Rattle.asc_shard.specs.Inside.{places_of}
-use Rattle.asc_shard.proofs.Marks.{same-places}
+use Rattle.asc_shard.proofs.Keying.{same-places}
 use Rattle.asc_shard.proofs.heads.head_of.Goals as goal
 
 pub returns-clause-head : goal.returns-clause-head

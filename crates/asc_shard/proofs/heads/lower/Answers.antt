@@ -1,12 +1,14 @@
-use Rattle.std.proofs.Common.{◌-◌, ◌∙◌, sym, ap, subst, arith}
+use Rattle.std.proofs.Common.{set, ◌-◌, ◌∙◌, sym, ap, subst, arith}
 use Rattle.asc_shard.specs.declared.heads.Head.{Head}
 use Rattle.asc_shard.specs.Inside.{AreHeads, runs}
-use Rattle.asc_shard.proofs.Runs.{heads-counted, heads-gone, lowered-read, one-left, read-head, runs-gone}
+use Rattle.asc_shard.proofs.Runs.{heads-counted, heads-gone, one-left, read-head, runs-gone, runs-lower}
 use Rattle.asc_shard.proofs.heads.lower.Goals as goal
 
 pub returns-then-index-gt1-clause-runs : goal.returns-then-index-gt1-clause-runs
 returns-then-index-gt1-clause-runs c = λ at least most.
-    lowered-read c.args.heads.now.items c.args.head at c.index_mut.result.now c.requires.some c.index_mut.ensures.value least most
+    let heads = c.args.heads.now.items in
+    ap (λ (x : Head). runs (set heads c.args.head (record x { count = x.count - 1 }))) (read-head heads c.args.head c.index_mut.result.now c.requires.some c.index_mut.ensures.value)
+    ∙ runs-lower heads c.args.head at c.requires.some least most
 
 pub returns-then-index-gt1-clause-heads : goal.returns-then-index-gt1-clause-heads
 returns-then-index-gt1-clause-heads c =

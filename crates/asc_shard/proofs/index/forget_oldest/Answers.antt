@@ -1,132 +1,69 @@
 use Rattle.std.proofs.Common.{◌≡◌, ◌+◌, ◌%◌, ◌∙◌, List, map, drop, refl, sym, ap, subst, arith}
 use Rattle.std.specs.Arc.{arc_value}
-use Rattle.std.proofs.lemmas.List.{drop-map, length-map}
+use Rattle.std.proofs.lemmas.List.{drop-map, get_or-map, length-map}
 use Rattle.asc_model.specs.Entry.{Entry}
 use Rattle.asc_shard.specs.declared.index.Index.{Index}
-use Rattle.asc_shard.specs.Inside.{IsIndexed, mark_of, no_entry, total}
-use Rattle.asc_shard.proofs.Finding.{at-map}
-use Rattle.asc_shard.proofs.Placing.{beginning-range, begins-of, head-there, indexed-without, oldest-sought, prints-size, prints-up, same-mask, size, sought, total-size}
+use Rattle.asc_shard.specs.Inside.{IsBeginning, IsIndexed, key_of, no_entry, total}
+use Rattle.asc_shard.proofs.Placing.{IsSought, beginning-range, begins-of, own-up, between, head-there, indexed-without, oldest-sought, prints-size, size, sought, total-size, within}
+use Rattle.asc_shard.proofs.index.forget_oldest.Goals.{After-beginning_of-beginning, After-range_of-low}
 use Rattle.asc_shard.proofs.index.forget_oldest.Goals as goal
 
 pub beginning_of-beginning-requires-clause-few : goal.beginning_of-beginning-requires-clause-few
-beginning_of-beginning-requires-clause-few c =
-    omega (arith, ap total c.deref-2.ensures.value, total-size (map arc_value c.args.entries.now.items) c.args.index.now c.requires.index, c.requires.index.few)
+beginning_of-beginning-requires-clause-few c = omega (arith, ap total c.deref-2.ensures.value, total-size c.requires.index, c.requires.index.few)
+
+-- where the mask of the oldest begins
+begins : (c : After-beginning_of-beginning) → IsBeginning c.args.index.now.heads.items (key_of c.deref.result.now).mask c.beginning_of-beginning.result
+begins c = begins-of c.key_of-key.ensures c.deref-2.ensures.value c.beginning_of-beginning.ensures
+
+-- and its fingerprint there
+known : (c : After-range_of-low)
+    → IsSought (map arc_value c.args.entries.now.items) c.args.index.now c.deref.result.now c.beginning_of-beginning.result c.range_of-low.result.0 c.range_of-low.result.1
+known c = sought c.requires.index c.key_of-key.ensures c.deref-2.ensures.value c.beginning_of-beginning.ensures
+    c.range_of-low.ensures.range c.range_of-low.ensures.before c.range_of-low.ensures.inside c.range_of-low.ensures.behind
 
 pub range_of-low-requires-clause-range : goal.range_of-low-requires-clause-range
 range_of-low-requires-clause-range c =
-    let items = c.args.entries.now.items in
-    let held = map arc_value items in
-    let index = c.args.index.now in
-    let is = c.requires.index in
-    let e = c.deref.result.now in
-    let b = c.beginning_of-beginning.result in
-    let begins = begins-of c.mark_of-mark.result (mark_of e) b _ index.heads.items c.mark_of-mark.ensures c.deref-2.ensures.value c.beginning_of-beginning.ensures in
-    let bounds = beginning-range held index is e b begins in
-    (bounds.0, omega (arith, bounds.1, prints-size held index is))
+    let bounds = beginning-range c.requires.index c.deref.result.now (begins (goal.at.range_of-low-requires-clause-range c).After-beginning_of-beginning) in
+    (bounds.0, omega (arith, bounds.1, prints-size c.requires.index))
 
 pub range_of-low-requires-clause-rise : goal.range_of-low-requires-clause-rise
-range_of-low-requires-clause-rise c = λ i j least le lt.
-    let items = c.args.entries.now.items in
-    let held = map arc_value items in
-    let index = c.args.index.now in
-    let is = c.requires.index in
-    let e = c.deref.result.now in
-    let b = c.beginning_of-beginning.result in
-    let begins = begins-of c.mark_of-mark.result (mark_of e) b _ index.heads.items c.mark_of-mark.ensures c.deref-2.ensures.value c.beginning_of-beginning.ensures in
-    let bounds = beginning-range held index is e b begins in
-    let mask = same-mask held index is e b begins in
-    prints-up held index is i j le (omega (arith, lt, bounds.1)) (mask i least (omega (arith, le, lt)) ∙ sym (mask j (omega (arith, least, le)) lt))
+range_of-low-requires-clause-rise c = own-up c.requires.index c.deref.result.now (begins (goal.at.range_of-low-requires-clause-rise c).After-beginning_of-beginning)
 
 pub place_of_oldest-at-requires-clause-range : goal.place_of_oldest-at-requires-clause-range
 place_of_oldest-at-requires-clause-range c =
-    let items = c.args.entries.now.items in
-    let held = map arc_value items in
-    let index = c.args.index.now in
-    let is = c.requires.index in
-    let e = c.deref.result.now in
-    let b = c.beginning_of-beginning.result in
-    let begins = begins-of c.mark_of-mark.result (mark_of e) b _ index.heads.items c.mark_of-mark.ensures c.deref-2.ensures.value c.beginning_of-beginning.ensures in
-    let bounds = beginning-range held index is e b begins in
-    omega (arith, c.range_of-low.ensures.range.2, bounds.1, is.entries.size)
+    let k = known (goal.at.place_of_oldest-at-requires-clause-range c).After-range_of-low in
+    omega (arith, k.range.2, (within k).1, c.requires.index.entries.size)
 
 pub place_of_oldest-at-requires-clause-there : goal.place_of_oldest-at-requires-clause-there
 place_of_oldest-at-requires-clause-there c =
     let items = c.args.entries.now.items in
-    let held = map arc_value items in
-    let index = c.args.index.now in
-    let is = c.requires.index in
-    let e = c.deref.result.now in
-    let b = c.beginning_of-beginning.result in
-    let begins = begins-of c.mark_of-mark.result (mark_of e) b _ index.heads.items c.mark_of-mark.ensures c.deref-2.ensures.value c.beginning_of-beginning.ensures in
-    let bounds = beginning-range held index is e b begins in
-    let low = c.range_of-low.result.0 in
-    let high = c.range_of-low.result.1 in
-    let first = c.deref.ensures ∙ ap arc_value c.index.ensures ∙ sym (at-map items 0 c.index.result.now no_entry c.requires.some) in
-    oldest-sought held index b low high e first (omega (arith, c.requires.some, length-map items arc_value))
-    (sought held index e c.mark_of-mark.result b _ low high is c.mark_of-mark.ensures c.deref-2.ensures.value c.beginning_of-beginning.ensures
-    c.range_of-low.ensures.range c.range_of-low.ensures.before c.range_of-low.ensures.inside c.range_of-low.ensures.behind)
+    oldest-sought (known (goal.at.place_of_oldest-at-requires-clause-there c).After-range_of-low)
+    (c.deref.ensures ∙ ap arc_value c.index.ensures ∙ sym (get_or-map arc_value items 0 c.index.result.now no_entry c.requires.some)) (omega (arith, c.requires.some, length-map items arc_value))
 
 pub remove-requires : goal.remove-requires
 remove-requires c =
-    let items = c.args.entries.now.items in
-    let held = map arc_value items in
-    let index = c.args.index.now in
-    let is = c.requires.index in
-    let e = c.deref.result.now in
-    let b = c.beginning_of-beginning.result in
-    let begins = begins-of c.mark_of-mark.result (mark_of e) b _ index.heads.items c.mark_of-mark.ensures c.deref-2.ensures.value c.beginning_of-beginning.ensures in
-    let bounds = beginning-range held index is e b begins in
-    let range = c.range_of-low.ensures.range in
-    let at = c.place_of_oldest-at.result in
-    let there = c.place_of_oldest-at.ensures.range in
-    omega (arith, there.1, range.2, bounds.1, size held index is, index.numbers.ok)
+    let at = between (known (goal.at.remove-requires c).After-range_of-low) c.place_of_oldest-at.result c.place_of_oldest-at.ensures.range in
+    omega (arith, at.2, size c.requires.index, c.args.index.now.numbers.ok)
 
 pub remove-requires-2 : goal.remove-requires-2
 remove-requires-2 c =
-    let items = c.args.entries.now.items in
-    let held = map arc_value items in
-    let index = c.args.index.now in
-    let is = c.requires.index in
-    let e = c.deref.result.now in
-    let b = c.beginning_of-beginning.result in
-    let begins = begins-of c.mark_of-mark.result (mark_of e) b _ index.heads.items c.mark_of-mark.ensures c.deref-2.ensures.value c.beginning_of-beginning.ensures in
-    let bounds = beginning-range held index is e b begins in
-    let range = c.range_of-low.ensures.range in
-    let at = c.place_of_oldest-at.result in
-    let there = c.place_of_oldest-at.ensures.range in
-    omega (arith, there.1, range.2, bounds.1, prints-size held index is, index.prints.ok)
+    let at = between (known (goal.at.remove-requires-2 c).After-range_of-low) c.place_of_oldest-at.result c.place_of_oldest-at.ensures.range in
+    omega (arith, at.2, prints-size c.requires.index, c.args.index.now.prints.ok)
 
 pub lower-requires-clause-some : goal.lower-requires-clause-some
 lower-requires-clause-some c =
-    let items = c.args.entries.now.items in
-    let held = map arc_value items in
-    let index = c.args.index.now in
-    let is = c.requires.index in
-    let e = c.deref.result.now in
-    let b = c.beginning_of-beginning.result in
-    let begins = begins-of c.mark_of-mark.result (mark_of e) b _ index.heads.items c.mark_of-mark.ensures c.deref-2.ensures.value c.beginning_of-beginning.ensures in
-    let bounds = beginning-range held index is e b begins in
-    let range = c.range_of-low.ensures.range in
-    let at = c.place_of_oldest-at.result in
-    let there = c.place_of_oldest-at.ensures.range in
-    (head-there index.heads.items (mark_of e).mask b at begins (omega (arith, range.0, there.0)) (omega (arith, there.1, range.2))).0
+    let at = between (known (goal.at.lower-requires-clause-some c).After-range_of-low) c.place_of_oldest-at.result c.place_of_oldest-at.ensures.range in
+    (head-there c.place_of_oldest-at.result (begins (goal.at.lower-requires-clause-some c).After-beginning_of-beginning) at.0 at.1).0
 
 pub returns-clause-index : goal.returns-clause-index
 returns-clause-index c =
-    let items = c.args.entries.now.items in
-    let held = map arc_value items in
+    let held = map arc_value c.args.entries.now.items in
     let index = c.args.index.now in
-    let is = c.requires.index in
-    let e = c.deref.result.now in
-    let b = c.beginning_of-beginning.result in
-    let begins = begins-of c.mark_of-mark.result (mark_of e) b _ index.heads.items c.mark_of-mark.ensures c.deref-2.ensures.value c.beginning_of-beginning.ensures in
-    let bounds = beginning-range held index is e b begins in
-    let range = c.range_of-low.ensures.range in
-    let at = c.place_of_oldest-at.result in
-    let there = c.place_of_oldest-at.ensures.range in
-    let head = head-there index.heads.items (mark_of e).mask b at begins (omega (arith, range.0, there.0)) (omega (arith, there.1, range.2)) in
+    let place = c.place_of_oldest-at.result in
+    let at = between (known (goal.at.returns-clause-index c).After-range_of-low) c.place_of_oldest-at.result c.place_of_oldest-at.ensures.range in
+    let head = head-there place (begins (goal.at.returns-clause-index c).After-beginning_of-beginning) at.0 at.1 in
     let new : Index = record { oldest = (index.oldest + 1) % 4294967296; numbers = c.remove.new.self; prints = c.remove-2.new.self; heads = c.lower.new.heads } in
-    let left : map arc_value c.remove-3.new.self.items ≡ drop 1 held = ap (map arc_value) c.remove-3.ensures.items ∙ sym (drop-map arc_value 1 items) in
+    let left : map arc_value c.remove-3.new.self.items ≡ drop 1 held = ap (map arc_value) c.remove-3.ensures.items ∙ sym (drop-map arc_value 1 c.args.entries.now.items) in
     subst (λ (list : List Entry). IsIndexed list new) (sym left)
-    (indexed-without held index new at is (omega (arith, there.1, range.2, bounds.1)) c.place_of_oldest-at.ensures.oldest refl c.remove.ensures.items c.remove-2.ensures.items
-    (c.lower.ensures.runs at head.1 head.2) c.lower.ensures.heads)
+    (indexed-without held index new place c.requires.index at.2 c.place_of_oldest-at.ensures.oldest refl c.remove.ensures.items c.remove-2.ensures.items
+    (c.lower.ensures.runs place head.1 head.2) c.lower.ensures.heads)

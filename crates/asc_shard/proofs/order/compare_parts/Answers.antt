@@ -18,7 +18,5 @@ compare_parts_from-requires-clause-within c = rest-below (length_of c.args.state
 
 pub returns : goal.returns
 returns c =
-    let s = c.args.state.now in
-    c.compare_parts_from.ensures
-    ∙ ap (λ (list : List (ℕ × ℕ)). slice_cmp nat_cmp (bytes_of list) (bytes_at s list)) (cells-whole c.args.parts.now c.loop-i.i)
+    c.compare_parts_from.ensures ∙ ap (λ (list : List (ℕ × ℕ)). slice_cmp nat_cmp (bytes_of list) (bytes_at c.args.state.now list)) (cells-whole c.args.parts.now c.loop-i.i)
     ∙ sym c.loop-i.invariant.rest

@@ -1,6 +1,6 @@
 -- The program has come as far as plain execution, and its counts so far are noted.
 use Rattle.std.proofs.Common.{◌≡◌, ℕ, ◌-◌, ◌<◌, ◌≤◌, min, length, slice_index_or, vec_capacity}
-use Rattle.asc_calls.specs.World.{world, faults}
+use Rattle.asc_calls.specs.World.{outside_of, world_in}
 use Rattle.asc_run.specs.Way.{Reaches}
 use Rattle.asc_run.proofs.Profiled.{AreNumbered}
 use Rattle.asc_show.specs.Profile.{no_meetings}
@@ -11,10 +11,8 @@ abbrev pub invariant-loop-process : goal.invariant-loop-process
 invariant-loop-process g l = record {
   way : Reaches (IsWatched l.fn.notes.base l.fn.notes.profile l.notes.table.items l.notes.list.items l.back l.process.count)
       l.fn.process.calls.low l.fn.process.calls.high l.fn.process.state
-      (world l.fn.process.state l.fn.process.calls (g.I.Source.left l.fn.input) (g.O.Sink.given l.fn.out) (g.E.Sink.given l.fn.err) l.fn.steps
-      (faults (g.I.Source.faults l.fn.input) (g.O.Sink.faults l.fn.out) (g.E.Sink.faults l.fn.err)))
-      (world l.process.state l.process.calls (g.I.Source.left l.input) (g.O.Sink.given l.out) (g.E.Sink.given l.err) l.steps
-      (faults (g.I.Source.faults l.input) (g.O.Sink.faults l.out) (g.E.Sink.faults l.err))) l.process.count 0;
+      (world_in l.fn.process.state l.fn.process.calls (outside_of l.fn.devices l.fn.steps))
+      (world_in l.process.state l.process.calls (outside_of l.devices l.steps)) l.process.count 0;
   within : l.process.count ≤ l.limit;
   base : l.notes.base ≡ l.fn.notes.base;
   profile : l.notes.profile ≡ l.fn.notes.profile;
@@ -23,8 +21,7 @@ invariant-loop-process g l = record {
   long : length l.notes.list.items ≡ min l.fn.notes.profile l.process.count;
   numbered : AreNumbered l.notes.list.items;
   room : l.fn.notes.profile ≤ vec_capacity l.notes.list;
-  faults : faults (g.I.Source.faults l.input) (g.O.Sink.faults l.out) (g.E.Sink.faults l.err)
-      ≡ faults (g.I.Source.faults l.fn.input) (g.O.Sink.faults l.fn.out) (g.E.Sink.faults l.fn.err);
+  faults : l.devices.told.faults ≡ l.fn.devices.told.faults;
 }
 
 abbrev pub decreases-loop-process : goal.decreases-loop-process

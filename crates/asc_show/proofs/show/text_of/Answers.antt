@@ -1,24 +1,36 @@
--- The text of the question that is asked, of the program of the image.
-use Rattle.std.proofs.Common.{IfErr, IfOk, subst}
-use Rattle.asc_show.specs.Shown.{HasNoText, ShowsText}
-use Rattle.asc_show.proofs.Answered.{same-start}
+-- What is told of the devices as they are made, and as they are given back.
+use Rattle.std.proofs.Common.{◌≡◌, ℕ, List, Option, IfErr, IfOk, sym, ap, ◌∙◌, subst}
+use Rattle.asc_calls.specs.World.{BlamesOnly, DeviceFaults, Outside, Told, faults}
+use Rattle.asc_show.specs.Shown.{HasNoText, ShowsText, device_of_result, first_world}
+use Rattle.asc_show.proofs.Answered.{blames-input, no-output-failed, nothing-put}
 use Rattle.asc_show.proofs.show.text_of.Goals as goal
 
-pub returns-in_ok-process-in-Entry-clause-ended : goal.returns-in_ok-process-in-Entry-clause-ended
-returns-in_ok-process-in-Entry-clause-ended g c = subst (λ start. IfErr c.entry_of_visit.result (λ answer. HasNoText c.args.request.now.line c.args.request.now.question start (g.I.Source.left c.entry_of_visit.new.input) c.entry_of_visit.new.steps answer))
-    (same-start _ _ _ _ _ _ _ c.in_ok-process-in-Entry.ensures.state c.in_ok-process-in-Entry.ensures.calls) (rw c.in-Entry.is c.entry_of_visit.ensures.ended)
+-- what holds of two terms holds of their equals
+both : {A B : Type 0} (P : A → B → Type 0) (a a' : A) (b b' : B) → a ≡ a' → b ≡ b' → P a b → P a' b'
+both P a a' b b' p q h = subst (λ x. P x b') p (subst (P a) q h)
 
-pub returns-in_ok-process-in-Miss-clause-shown : goal.returns-in_ok-process-in-Miss-clause-shown
-returns-in_ok-process-in-Miss-clause-shown g c = subst (λ start. IfOk c.misses_at.result (λ text. ShowsText c.args.request.now.line c.args.request.now.question start (g.I.Source.left c.misses_at.new.input) c.misses_at.new.steps text.items))
-    (same-start _ _ _ _ _ _ _ c.in_ok-process-in-Miss.ensures.state c.in_ok-process-in-Miss.ensures.calls) (rw c.in-Miss.is c.misses_at.ensures.shown)
+pub returns-clause-shown : goal.returns-clause-shown
+returns-clause-shown g c =
+    let r = c.args.request.now in let told = c.into_parts-input.ensures.told in let parts = c.into_parts-input.ensures.parts in
+    let start = nothing-put _ _ _ _ c.args.steps.now _ (ap (λ d. d.told) c.new-guest.ensures) c.new.ensures c.new-2.ensures in
+    let left = ap (λ (t : Told). t.left) told ∙ ap (λ p. g.I.Source.left p.0) (sym parts) in
+    both (λ (o : Outside) (left : Option (List ℕ)). IfOk c.guest_text-text.result (λ text. ShowsText r.line r.question (first_world c.args.image.now o) left c.guest_text-text.new.steps text.items)) _ _ _ _ start left c.guest_text-text.ensures.shown
 
-pub returns-in_ok-process-in-At-clause-shown : goal.returns-in_ok-process-in-At-clause-shown
-returns-in_ok-process-in-At-clause-shown g c = subst (λ start. IfOk c.registers_after.result (λ text. ShowsText c.args.request.now.line c.args.request.now.question start (g.I.Source.left c.registers_after.new.input) c.registers_after.new.steps text.items))
-    (same-start _ _ _ _ _ _ _ c.in_ok-process-in-At.ensures.state c.in_ok-process-in-At.ensures.calls) (rw c.in-At.is c.registers_after.ensures.shown)
+pub returns-clause-ended : goal.returns-clause-ended
+returns-clause-ended g c =
+    let r = c.args.request.now in let told = c.into_parts-input.ensures.told in let parts = c.into_parts-input.ensures.parts in
+    let start = nothing-put _ _ _ _ c.args.steps.now _ (ap (λ d. d.told) c.new-guest.ensures) c.new.ensures c.new-2.ensures in
+    let left = ap (λ (t : Told). t.left) told ∙ ap (λ p. g.I.Source.left p.0) (sym parts) in
+    both (λ (o : Outside) (left : Option (List ℕ)). IfErr c.guest_text-text.result (λ answer. HasNoText r.line r.question (first_world c.args.image.now o) left c.guest_text-text.new.steps answer)) _ _ _ _ start left c.guest_text-text.ensures.ended
 
-pub returns-in_ok-process-in-Profile-clause-shown : goal.returns-in_ok-process-in-Profile-clause-shown
-returns-in_ok-process-in-Profile-clause-shown g c = subst (λ start. IfOk c.profile.result (λ text. ShowsText c.args.request.now.line c.args.request.now.question start (g.I.Source.left c.profile.new.input) c.profile.new.steps text.items))
-    (same-start _ _ _ _ _ _ _ c.in_ok-process-in-Profile.ensures.state c.in_ok-process-in-Profile.ensures.calls) (rw c.in-Profile.is c.profile.ensures.shown)
+pub returns-clause-input : goal.returns-clause-input
+returns-clause-input g c =
+    let told = c.into_parts-input.ensures.told in let parts = c.into_parts-input.ensures.parts in
+    let after = ap (λ (t : Told). t.faults) told ∙ ap (λ p. faults (g.I.Source.faults p.0) 0 0) (sym parts) in
+    blames-input c.guest_text-text.result _ _ (both (λ (old new : DeviceFaults). BlamesOnly (device_of_result c.guest_text-text.result) old new) _ _ _ _ (ap (λ d. d.told.faults) c.new-guest.ensures) after c.guest_text-text.ensures.faults)
 
-pub returns-in-Seek-clause-shown : goal.returns-in-Seek-clause-shown
-returns-in-Seek-clause-shown g c = rw c.in-Seek.is c.sought.ensures.shown
+pub returns-clause-counted : goal.returns-clause-counted
+returns-clause-counted g c =
+    let told = c.into_parts-input.ensures.told in let parts = c.into_parts-input.ensures.parts in
+    let after = ap (λ (t : Told). t.faults) told ∙ ap (λ p. faults (g.I.Source.faults p.0) 0 0) (sym parts) in
+    no-output-failed c.guest_text-text.result _ _ (both (λ (old new : DeviceFaults). BlamesOnly (device_of_result c.guest_text-text.result) old new) _ _ _ _ (ap (λ d. d.told.faults) c.new-guest.ensures) after c.guest_text-text.ensures.faults)

@@ -1,96 +1,40 @@
--- What a batch comes to.
-use Rattle.std.proofs.Common.{rules, ◌≡◌, ◌∙◌, refl, ap, subst, arith, inl, inr}
-use Rattle.asc_calls.specs.World.{faults, outside}
-use Rattle.asc_words.specs.Batch.{BatchLine}
-use Rattle.asc_words.specs.declared.line.RunLine.{RunLine}
-use Rattle.asc_words.specs.declared.answer.Answer.{Answer}
-use Rattle.asc_words.specs.declared.answer.Answer.TheVariants as answers
-use Rattle.asc_words.specs.declared.answer.Outcome.{Outcome}
-use Rattle.asc_top.specs.Program.{load_of}
-use Rattle.asc_top.specs.Answered.{devices}
+-- A batch leaves the input as it is.
+use Rattle.std.proofs.Common.{◌≡◌, ◌∙◌, ℕ, ap, subst, sym}
+use Rattle.asc_calls.specs.World.{Devices, Outside, Told, faults, outside, outside_of}
+use Rattle.asc_top.specs.Answered.{around}
 use Rattle.asc_top.specs.BatchAnswer.{IsBatchAnswer}
-use Rattle.asc_top.specs.Reported.{IsReported, report_with}
-use Rattle.asc_top.specs.Runner.{BreaksRuns, EndsRuns, outputs}
-use Rattle.asc_top.proofs.BatchReads.{all_counted}
-use Rattle.asc_top.proofs.BatchAnswers.{Breaks, answer_of_break, answer_of_end, answer_of_failed_report, answer_of_refused_batch}
+use Rattle.asc_top.specs.Reported.{report_with}
+use Rattle.asc_top.specs.Runner.{guest_of}
 use Rattle.asc_top.proofs.batch.batch.Goals as goal
 
-pub run_batch-requires-clause-inputs : goal.run_batch-requires-clause-inputs
-run_batch-requires-clause-inputs g c =
-    let all = all_counted c.args.line.now c.in-Ok.files _ _ _ _ _ _ c.in-Ok.ensures.read in
-    let some = c.requires.some in
-    let few = c.requires.few in
-    λ _ _. (omega (arith, all, some), omega (arith, all, few))
+abbrev over : Told → ℕ → Outside
+over t steps = outside t.left t.out t.err steps t.faults
 
-pub returns-in-Err : goal.returns-in-Err
-returns-in-Err g c = λ left input_faults.
-    answer_of_refused_batch c.args.line.now c.in-Err.answer _ _ _ _ _ _ c.in-Err.ensures.refused _ _ _ c.reported.result
-    (subst (λ (o : Outcome). IsReported (report_with (g.R.Sink.given c.args.report.now) (g.R.Sink.faults c.args.report.now))
-    (report_with (g.R.Sink.given c.reported.new.report) (g.R.Sink.faults c.reported.new.report)) o c.reported.result) c.of.ensures c.reported.ensures)
-
-pub returns-in-Ok-run_batch : goal.returns-in-Ok-run_batch
-returns-in-Ok-run_batch g c = λ left input_faults.
-    let line = c.args.line.now in
-    let r = c.in-Ok.ensures.read in
-    let same = ap (λ (l : BatchLine). l.run) c.line.view_is in
-    let loads = ap (λ (l : RunLine). load_of l c.in-Ok.files.image) same ∙ r.loads in
-    answer_of_end line c.in-Ok.files _ _ _ _ _ _ r left input_faults _ _ refl refl _ _
-    (subst (λ (l : RunLine). EndsRuns l r.image c.in-Ok.files.inputs
-    (outputs (g.O.Sink.given c.args.out.now) (g.E.Sink.given c.args.err.now) c.args.steps.now (g.O.Sink.faults c.args.out.now) (g.E.Sink.faults c.args.err.now))
-    (outputs (g.O.Sink.given c.run_batch.new.out) (g.E.Sink.given c.run_batch.new.err) c.run_batch.new.steps (g.O.Sink.faults c.run_batch.new.out) (g.E.Sink.faults c.run_batch.new.err))
-    (report_with (g.R.Sink.given c.args.report.now) (g.R.Sink.faults c.args.report.now)) (report_with (g.R.Sink.given c.run_batch.new.report) (g.R.Sink.faults c.run_batch.new.report)))
-    same (c.in-Ok-run_batch.ensures.ended r.image loads))
-
-pub returns-in-Err-ReportFault : goal.returns-in-Err-ReportFault
-returns-in-Err-ReportFault g c = λ left input_faults.
-    let line = c.args.line.now in
-    let r = c.in-Ok.ensures.read in
-    let answered = c.in-Err-ReportFault.field-0 in
-    let same = ap (λ (l : BatchLine). l.run) c.line.view_is in
-    let loads = ap (λ (l : RunLine). load_of l c.in-Ok.files.image) same ∙ r.loads in
-    let old = outputs (g.O.Sink.given c.args.out.now) (g.E.Sink.given c.args.err.now) c.args.steps.now (g.O.Sink.faults c.args.out.now) (g.E.Sink.faults c.args.err.now) in
-    let new = outputs (g.O.Sink.given c.run_batch.new.out) (g.E.Sink.given c.run_batch.new.err) c.run_batch.new.steps (g.O.Sink.faults c.run_batch.new.out) (g.E.Sink.faults c.run_batch.new.err) in
-    let before = report_with (g.R.Sink.given c.args.report.now) (g.R.Sink.faults c.args.report.now) in
-    let after = report_with (g.R.Sink.given c.run_batch.new.report) (g.R.Sink.faults c.run_batch.new.report) in
-    let breaks : Breaks line.run r.image c.in-Ok.files.inputs old new before after answered =
-    elim (c.in-Err-ReportFault.ensures.broken r.image loads) [
-      | inl still ↦ inl (
-        still.0,
-        (λ i. outputs (g.O.Sink.given (still.1 i)) (g.E.Sink.given (still.2 i)) (still.3 i) (g.O.Sink.faults (still.1 i)) (g.E.Sink.faults (still.2 i))),
-        (λ i. report_with (g.R.Sink.given (still.4 i)) (g.R.Sink.faults (still.4 i))),
-      )
-      | inr b ↦ inr (subst (λ (l : RunLine). BreaksRuns l r.image c.in-Ok.files.inputs old new before after answered) same b)
-    ] in
-    let failed : answered ≡ answers.ReportFault = c.in-Err-ReportFault.field-0-is in
-    subst (λ (a : Answer). IsBatchAnswer line
-    (devices (g.F.Store.files c.args.store.now) (g.F.Store.asked c.args.store.now) (g.F.Store.faults c.args.store.now)
-    (outside left (g.O.Sink.given c.args.out.now) (g.E.Sink.given c.args.err.now) c.args.steps.now (faults input_faults (g.O.Sink.faults c.args.out.now) (g.E.Sink.faults c.args.err.now))))
-    (devices (g.F.Store.files c.read_batch.new.store) (g.F.Store.asked c.read_batch.new.store) (g.F.Store.faults c.read_batch.new.store)
-    (outside left (g.O.Sink.given c.run_batch.new.out) (g.E.Sink.given c.run_batch.new.err) c.run_batch.new.steps (faults input_faults (g.O.Sink.faults c.run_batch.new.out) (g.E.Sink.faults c.run_batch.new.err))))
-    before after a) failed
-    (answer_of_failed_report line c.in-Ok.files _ _ _ _ _ _ r left input_faults old new refl refl before after answered breaks failed)
-
-pub returns-in-Err-run_batch : goal.returns-in-Err-run_batch
-returns-in-Err-run_batch g c = λ left input_faults.
-    let line = c.args.line.now in
-    let r = c.in-Ok.ensures.read in
-    let answered = c.in-Err-run_batch.answer in
-    let other : answered ≡ answers.ReportFault → ⊥ = search rules in
-    let same = ap (λ (l : BatchLine). l.run) c.line.view_is in
-    let loads = ap (λ (l : RunLine). load_of l c.in-Ok.files.image) same ∙ r.loads in
-    let old = outputs (g.O.Sink.given c.args.out.now) (g.E.Sink.given c.args.err.now) c.args.steps.now (g.O.Sink.faults c.args.out.now) (g.E.Sink.faults c.args.err.now) in
-    let new = outputs (g.O.Sink.given c.run_batch.new.out) (g.E.Sink.given c.run_batch.new.err) c.run_batch.new.steps (g.O.Sink.faults c.run_batch.new.out) (g.E.Sink.faults c.run_batch.new.err) in
-    let before = report_with (g.R.Sink.given c.args.report.now) (g.R.Sink.faults c.args.report.now) in
-    let after = report_with (g.R.Sink.given c.run_batch.new.report) (g.R.Sink.faults c.run_batch.new.report) in
-    let last = report_with (g.R.Sink.given c.reported-in-Err-run_batch.new.report) (g.R.Sink.faults c.reported-in-Err-run_batch.new.report) in
-    let breaks : Breaks line.run r.image c.in-Ok.files.inputs old new before after answered =
-    elim (c.in-Err-run_batch.ensures.broken r.image loads) [
-      | inl still ↦ inl (
-        still.0,
-        (λ i. outputs (g.O.Sink.given (still.1 i)) (g.E.Sink.given (still.2 i)) (still.3 i) (g.O.Sink.faults (still.1 i)) (g.E.Sink.faults (still.2 i))),
-        (λ i. report_with (g.R.Sink.given (still.4 i)) (g.R.Sink.faults (still.4 i))),
-      )
-      | inr b ↦ inr (subst (λ (l : RunLine). BreaksRuns l r.image c.in-Ok.files.inputs old new before after answered) same b)
-    ] in
-    answer_of_break line c.in-Ok.files _ _ _ _ _ _ r left input_faults old new refl refl before after answered breaks other last c.reported-in-Err-run_batch.result
-    (subst (λ (o : Outcome). IsReported after last o c.reported-in-Err-run_batch.result) c.of-in-Err-run_batch.ensures c.reported-in-Err-run_batch.ensures)
+pub returns : goal.returns
+returns g c =
+    let d = c.args.devices in
+    let parts = c.into_parts-input.result in
+    let left = g.I.Source.left parts.0 in
+    let input_faults = g.I.Source.faults parts.0 in
+    let before = c.args.steps.now in
+    let after = c.run_all-answer.new.steps in
+    let guest = c.run_all-answer.new.devices in
+    let old_is : guest_of left input_faults c.new-guest.result before ≡ outside_of d before =
+    ap (λ x. guest_of left input_faults x before) c.new-guest.ensures
+    ∙ (λ i. let p = c.into_parts-input.ensures.parts i in outside (g.I.Source.left p.0) (g.O.Sink.given p.1) (g.E.Sink.given p.2) before (faults (g.I.Source.faults p.0) (g.O.Sink.faults p.1) (g.E.Sink.faults p.2)))
+    ∙ sym (ap (λ (t : Told). over t before) c.into_parts-input.ensures.told) in
+    let new_is : guest_of left input_faults guest after ≡ outside_of c.new-3.result after =
+    ap (λ (t : Told). outside left t.out t.err after (faults input_faults t.faults.out t.faults.err)) c.into_parts-out.ensures.told
+    ∙ sym (λ i. let p = c.into_parts-out.ensures.parts i in outside left (g.O.Sink.given p.1) (g.E.Sink.given p.2) after (faults input_faults (g.O.Sink.faults p.1) (g.E.Sink.faults p.2)))
+    ∙ sym (ap (λ x. outside_of x after) c.new-3.ensures) in
+    subst (λ (o : Outside). IsBatchAnswer c.args.line.now
+    (around (g.F.Store.files c.args.store.now) (g.F.Store.asked c.args.store.now) (g.F.Store.faults c.args.store.now) o)
+    (around (g.F.Store.files c.run_all-answer.new.store) (g.F.Store.asked c.run_all-answer.new.store) (g.F.Store.faults c.run_all-answer.new.store) (outside_of c.new-3.result after))
+    (report_with (g.R.Sink.given c.args.report.now) (g.R.Sink.faults c.args.report.now))
+    (report_with (g.R.Sink.given c.run_all-answer.new.report) (g.R.Sink.faults c.run_all-answer.new.report)) c.run_all-answer.result) old_is
+    (subst (λ (o : Outside). IsBatchAnswer c.args.line.now
+    (around (g.F.Store.files c.args.store.now) (g.F.Store.asked c.args.store.now) (g.F.Store.faults c.args.store.now) (guest_of left input_faults c.new-guest.result before))
+    (around (g.F.Store.files c.run_all-answer.new.store) (g.F.Store.asked c.run_all-answer.new.store) (g.F.Store.faults c.run_all-answer.new.store) o)
+    (report_with (g.R.Sink.given c.args.report.now) (g.R.Sink.faults c.args.report.now))
+    (report_with (g.R.Sink.given c.run_all-answer.new.report) (g.R.Sink.faults c.run_all-answer.new.report)) c.run_all-answer.result) new_is
+    (c.run_all-answer.ensures left input_faults))

@@ -14,8 +14,8 @@ same_image read a b x y = cc
 pub returns-clause-ended : goal.returns-clause-ended
 returns-clause-ended g c =
     let line = c.args.line.now in
-    let old = outputs (g.O.Sink.given c.args.out.now) (g.E.Sink.given c.args.err.now) c.args.steps.now (g.O.Sink.faults c.args.out.now) (g.E.Sink.faults c.args.err.now) in
-    let new = outputs (g.O.Sink.given c.run_image.new.out) (g.E.Sink.given c.run_image.new.err) c.run_image.new.steps (g.O.Sink.faults c.run_image.new.out) (g.E.Sink.faults c.run_image.new.err) in
+    let old = outputs c.args.devices.now c.args.steps.now in
+    let new = outputs c.run_image.new.devices c.run_image.new.steps in
     let before = report_with (g.R.Sink.given c.args.report.now) (g.R.Sink.faults c.args.report.now) in
     let after = report_with (g.R.Sink.given c.run_image.new.report) (g.R.Sink.faults c.run_image.new.report) in
     let content = c.deref.ensures.value ∙ ap (λ f. f.image) c.files.view_is in
@@ -29,8 +29,8 @@ returns-clause-ended g c =
 pub returns-clause-broken : goal.returns-clause-broken
 returns-clause-broken g c =
     let line = c.args.line.now in
-    let old = outputs (g.O.Sink.given c.args.out.now) (g.E.Sink.given c.args.err.now) c.args.steps.now (g.O.Sink.faults c.args.out.now) (g.E.Sink.faults c.args.err.now) in
-    let new = outputs (g.O.Sink.given c.run_image.new.out) (g.E.Sink.given c.run_image.new.err) c.run_image.new.steps (g.O.Sink.faults c.run_image.new.out) (g.E.Sink.faults c.run_image.new.err) in
+    let old = outputs c.args.devices.now c.args.steps.now in
+    let new = outputs c.run_image.new.devices c.run_image.new.steps in
     let before = report_with (g.R.Sink.given c.args.report.now) (g.R.Sink.faults c.args.report.now) in
     let after = report_with (g.R.Sink.given c.run_image.new.report) (g.R.Sink.faults c.run_image.new.report) in
     let content = c.deref.ensures.value ∙ ap (λ f. f.image) c.files.view_is in

@@ -7,8 +7,8 @@ use Rattle.asc_top.proofs.batch.run_inputs.Given as goal
 abbrev pub invariant-loop-number : goal.invariant-loop-number
 invariant-loop-number g l =
     At g.row.T.Denot l.line l.image l.initial.inputs
-    (outputs (g.O.Sink.given l.initial.out) (g.E.Sink.given l.initial.err) l.initial.steps (g.O.Sink.faults l.initial.out) (g.E.Sink.faults l.initial.err))
+    (outputs l.initial.devices l.initial.steps)
     (report_with (g.R.Sink.given l.initial.report) (g.R.Sink.faults l.initial.report))
     l.number l.inputs l.walk l.runner
-    (outputs (g.O.Sink.given l.out) (g.E.Sink.given l.err) l.steps (g.O.Sink.faults l.out) (g.E.Sink.faults l.err))
+    (outputs l.devices l.steps)
     (report_with (g.R.Sink.given l.report) (g.R.Sink.faults l.report))

@@ -8,7 +8,7 @@ use Rattle.asc_run.specs.Walk.{Walk}
 use Rattle.asc_top.specs.Program.{entries_for}
 use Rattle.asc_top.specs.Numbers.{settings_of}
 use Rattle.asc_top.specs.Ran.{IsNoEntries, IsRefused, IsWalkOf, Opens}
-use Rattle.asc_top.specs.Answered.{devices}
+use Rattle.asc_top.specs.Answered.{around}
 use Rattle.asc_top.proofs.ReadFiles.{answered_as, answer_of_no_entries, answer_of_no_run, opens_both, opens_one}
 use Rattle.asc_top.proofs.opened.open.Goals as goal
 
@@ -17,7 +17,7 @@ returns-in_err-walk-clause-unopened g c =
     let store = c.args.store.now in
     let refused = c.in_err-walk.ensures.none in
     answered_as c.from_residual.result c.in_err-walk.field-0.0 _ c.from_residual.ensures.1
-    (λ guest. answer_of_no_run c.args.line.now (devices (g.F.Store.files store) (g.F.Store.asked store) (g.F.Store.faults store) guest) _ _ _ refused.stay c.in_err-walk.field-0.0 refused)
+    (λ guest. answer_of_no_run c.args.line.now (around (g.F.Store.files store) (g.F.Store.asked store) (g.F.Store.faults store) guest) _ _ _ refused.stay c.in_err-walk.field-0.0 refused)
 
 pub returns-in_err-first-in-Some-clause-unopened :
     goal.returns-in_err-first-in-Some-clause-unopened

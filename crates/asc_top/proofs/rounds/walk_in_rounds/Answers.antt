@@ -1,11 +1,10 @@
 -- What a walk comes to in rounds: nothing is guessed, or a helper with lanes guesses as a serial one does.
-use Rattle.std.proofs.Common.{◌≡◌, ◌∙◌, None, map, refl, sym, ap, subst}
+use Rattle.std.proofs.Common.{◌≡◌, ◌∙◌, map, refl, sym, ap, subst}
 use Rattle.std.specs.Arc.{arc_value}
-use Rattle.asc_calls.specs.World.{faults, outside}
-use Rattle.asc_run.specs.Helped.{aid}
-use Rattle.asc_run.specs.SerialHelper.{SerialHelper, plan_of, told_machine}
+use Rattle.asc_calls.specs.World.{outside_of}
+use Rattle.asc_run.specs.SerialHelper.{SerialHelper, aid_of, told_machine}
 use Rattle.asc_run.specs.Walk.{Walk}
-use Rattle.asc_words.specs.declared.answer.Outcome.{Outcome}
+use Rattle.asc_words.specs.declared.answer.Conclusion.{Conclusion}
 use Rattle.asc_top.specs.Numbers.{guessing_of}
 use Rattle.asc_top.specs.Ran.{IsNew, Ran, loaded_helper}
 use Rattle.asc_top.proofs.Alone.{ran_serial}
@@ -18,8 +17,8 @@ returns-in-Ok g c = λ files opened.
     let shape_is = c.shape.ensures.shape ∙ ap (λ (walk : Walk). walk.state.shape) opened.own.walk_is in
     let helper_is : c.in-Ok.rounds.helper ≡ loaded_helper opened.own.image.start.shape (guessing_of line) (map arc_value c.args.first.now) =
     c.in-Ok.ensures.helper ∙ (λ i. loaded_helper (shape_is i) (c.guessing_of.ensures i) (map arc_value c.args.first.now)) in
-    let fresh : IsNew (aid c.in-Ok.rounds.helper.tally None (plan_of c.in-Ok.rounds.helper) (told_machine c.in-Ok.rounds.helper)) = record {
-      tally = ap (λ (h : SerialHelper). h.tally) helper_is;
+    let fresh : IsNew (aid_of c.in-Ok.rounds.helper) = record {
+      jumps = ap (λ (h : SerialHelper). h.jumps) helper_is;
       made = ap (λ (h : SerialHelper). h.made) helper_is;
       refused = ap (λ (h : SerialHelper). h.refused) helper_is;
       full = refl;
@@ -28,7 +27,6 @@ returns-in-Ok g c = λ files opened.
 
 pub returns-in-Err : goal.returns-in-Err
 returns-in-Err g c = λ files opened.
-    let guest = outside (g.I.Source.left c.args.input.now) (g.O.Sink.given c.args.out.now) (g.E.Sink.given c.args.err.now) c.args.steps.now
-    (faults (g.I.Source.faults c.args.input.now) (g.O.Sink.faults c.args.out.now) (g.E.Sink.faults c.args.err.now)) in
-    subst (λ (o : Outcome). Ran guest guest c.args.line.now files o) (sym c.of.ensures)
+    let guest = outside_of c.args.devices.now c.args.steps.now in
+    subst (λ (o : Conclusion). Ran guest guest c.args.line.now files o) (sym c.of.ensures)
     (ran_memory c.args.line.now files opened.own.image guest opened.own.loads opened.own.good)

@@ -2,11 +2,11 @@
 use Rattle.std.proofs.Common.{List, Ok, map, ap, subst, sym}
 use Rattle.std.specs.Arc.{arc_value}
 use Rattle.asc_model.specs.Entry.{Entry}
-use Rattle.asc_calls.specs.World.{faults, outside}
+use Rattle.asc_calls.specs.World.{outside_of}
 use Rattle.asc_words.specs.declared.line.Line.TheVariants as lines
-use Rattle.asc_words.specs.declared.answer.Outcome.{Outcome}
+use Rattle.asc_words.specs.declared.answer.Conclusion.{Conclusion}
 use Rattle.asc_top.specs.Ran.{AreOpened}
-use Rattle.asc_top.specs.Answered.{IsAnswerFor, devices}
+use Rattle.asc_top.specs.Answered.{IsAnswerFor, around}
 use Rattle.asc_top.proofs.ReadFiles.{answer_of_opened}
 use Rattle.asc_top.proofs.run.run_alone.Goals as goal
 
@@ -19,9 +19,8 @@ returns-in-Ok g c =
 
 pub returns-in-Err : goal.returns-in-Err
 returns-in-Err g c =
-    let guest = outside (g.I.Source.left c.args.input.now) (g.O.Sink.given c.args.out.now) (g.E.Sink.given c.args.err.now) c.args.steps.now
-    (faults (g.I.Source.faults c.args.input.now) (g.O.Sink.faults c.args.out.now) (g.E.Sink.faults c.args.err.now)) in
-    subst (λ (outcome : Outcome). IsAnswerFor (Ok (lines.Run c.args.line.now))
-    (devices (g.F.Store.files c.args.store.now) (g.F.Store.asked c.args.store.now) (g.F.Store.faults c.args.store.now) guest)
-    (devices (g.F.Store.files c.open.new.store) (g.F.Store.asked c.open.new.store) (g.F.Store.faults c.open.new.store) guest) outcome) (sym c.of.ensures)
+    let guest = outside_of c.args.devices.now c.args.steps.now in
+    subst (λ (conclusion : Conclusion). IsAnswerFor (Ok (lines.Run c.args.line.now))
+    (around (g.F.Store.files c.args.store.now) (g.F.Store.asked c.args.store.now) (g.F.Store.faults c.args.store.now) guest)
+    (around (g.F.Store.files c.open.new.store) (g.F.Store.asked c.open.new.store) (g.F.Store.faults c.open.new.store) guest) conclusion) (sym c.of.ensures)
     (c.in-Err.ensures.unopened guest)

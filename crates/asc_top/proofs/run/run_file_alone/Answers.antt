@@ -1,8 +1,8 @@
 -- What a file comes to without workers.
 use Rattle.std.proofs.Common.{refl, sym, subst}
-use Rattle.asc_calls.specs.World.{faults, outside}
+use Rattle.asc_calls.specs.World.{outside_of}
 use Rattle.asc_run.specs.declared.walk.Settings.{Settings}
-use Rattle.asc_words.specs.declared.answer.Outcome.{Outcome}
+use Rattle.asc_words.specs.declared.answer.Conclusion.{Conclusion}
 use Rattle.asc_top.specs.Program.{image_alone}
 use Rattle.asc_top.specs.Numbers.{settings_of}
 use Rattle.asc_top.specs.Ran.{IsWalkOf, Ran}
@@ -19,7 +19,6 @@ returns-in-Ok g c =
 
 pub returns-in-Err : goal.returns-in-Err
 returns-in-Err g c =
-    let guest = outside (g.I.Source.left c.args.input.now) (g.O.Sink.given c.args.out.now) (g.E.Sink.given c.args.err.now) c.args.steps.now
-    (faults (g.I.Source.faults c.args.input.now) (g.O.Sink.faults c.args.out.now) (g.E.Sink.faults c.args.err.now)) in
-    subst (λ (o : Outcome). Ran guest guest c.args.line.now (image_alone c.args.file.now) o) (sym c.of.ensures)
+    let guest = outside_of c.args.devices.now c.args.steps.now in
+    subst (λ (o : Conclusion). Ran guest guest c.args.line.now (image_alone c.args.file.now) o) (sym c.of.ensures)
     (ran_no_walk c.args.line.now c.args.file.now c.in-Err.answer guest c.requires.file c.in-Err.ensures.none)

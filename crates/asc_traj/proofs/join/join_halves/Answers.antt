@@ -17,9 +17,7 @@ loop-index-init c =
     let br = c.reads-b_reads.result.now in
     let bw = c.writes-b_writes.result.now in
     let joined : Halves = record { reads = c.in_ok-with_capacity.field-0; writes = c.in_ok-with_capacity-2.field-0 } in
-    let next = c.next_of.ensures in
-    let last = c.first_of.ensures in
-    let index = c.min-index.ensures ∙ (λ i. min (next i) (last i)) in
+    let index = c.min-index.ensures ∙ (λ i. min (c.next_of.ensures i) (c.first_of.ensures i)) in
     record {
       index = index;
       way = subst (λ (k : ℕ). IsMerging a b k ar aw br bw joined) (sym index)
@@ -36,18 +34,12 @@ loop-index-init c =
 
 pub loop-index-preserved : goal.loop-index-preserved
 loop-index-preserved c =
-    let a = c.args.a.now in
-    let b = c.args.b.now in
     let old = c.loop-index in
     let after : Halves = record { reads = c.push.new.parts; writes = c.push-in-loop-index.new.parts } in
     let t = c.take_word.ensures in
     let u = c.take_word-in-loop-index.ensures in
     let v = c.take_word-in-loop-index-2.ensures in
     let w = c.take_word-in-loop-index-3.ensures in
-    let ar = c.take_word.result.1.now in
-    let aw = c.take_word-in-loop-index.result.1.now in
-    let br = c.take_word-in-loop-index-2.result.1.now in
-    let bw = c.take_word-in-loop-index-3.result.1.now in
     let way = old.invariant.way in
     let room_reads = room-after _ _ _ _ _ _ _ c.overlay-reads.result.mask c.take_word.result.0.mask c.without-unread.result.mask way.room_reads t.fewer v.fewer t.none
     (λ same. c.without-unread.ensures.none (v.none same)) c.overlay-reads.ensures.none c.push.ensures.few c.push.ensures.none in
@@ -62,13 +54,13 @@ loop-index-preserved c =
       pushed_writes = c.push-in-loop-index.ensures.cells;
       parts = record { reads = c.push.ensures.parts; writes = c.push-in-loop-index.ensures.parts };
     } in
-    let done = merged-on a b old.index old.a_reads.now old.a_writes.now old.b_reads.now old.b_writes.now ar aw br bw old.joined after
-    c.take_word.result.0 c.take_word-in-loop-index.result.0 c.take_word-in-loop-index-2.result.0 c.take_word-in-loop-index-3.result.0 c.overlay.result c.overlay-reads.result c.overlay-writes.result
-    way t u v w merged (omega (arith, room_reads, c.push.ensures.capacity)) (omega (arith, room_writes, c.push-in-loop-index.ensures.capacity)) in
-    let next = c.next_of-in-loop-index.ensures in
-    let last = c.first_of-in-loop-index.ensures in
-    let index = c.min-index-in-loop-index.ensures ∙ (λ i. min (next i) (last i)) in
-    record { index = index; way = subst (λ (k : ℕ). IsMerging a b k ar aw br bw after) (sym index) done }
+    let done = merged-on way t u v w merged (omega (arith, room_reads, c.push.ensures.capacity)) (omega (arith, room_writes, c.push-in-loop-index.ensures.capacity)) in
+    let index = c.min-index-in-loop-index.ensures ∙ (λ i. min (c.next_of-in-loop-index.ensures i) (c.first_of-in-loop-index.ensures i)) in
+    record {
+      index = index;
+      way = subst (λ (k : ℕ). IsMerging c.args.a.now c.args.b.now k c.take_word.result.1.now c.take_word-in-loop-index.result.1.now c.take_word-in-loop-index-2.result.1.now c.take_word-in-loop-index-3.result.1.now after)
+          (sym index) done;
+    }
 
 pub push-requires-clause-room : goal.push-requires-clause-room
 push-requires-clause-room c =
@@ -85,8 +77,4 @@ push-requires-in-loop-index-clause-room c =
     (λ p q. c.overlay-writes.ensures.none q p)
 
 pub returns : goal.returns
-returns c =
-    let old = c.loop-index in
-    let past = c.loop-index-test.false in
-    merge-end c.args.a.now c.args.b.now old.index old.a_reads.now old.a_writes.now old.b_reads.now old.b_writes.now old.joined c.truth.ensures c.truth-2.ensures c.requires.shape
-    old.invariant.way (omega (arith, past))
+returns c = merge-end c.args.a.now c.args.b.now _ _ _ _ _ _ c.truth.ensures c.truth-2.ensures c.requires.shape c.loop-index.invariant.way c.loop-index-test.false

@@ -1,14 +1,13 @@
 use Rattle.std.proofs.Common.{◌+◌, bit_or, ◌∙◌, arith}
 use Rattle.std.proofs.lemmas.Nat.{or_lt}
+use Rattle.std.proofs.lemmas.Bool.Decides.{nat_tests}
+use Rattle.std.proofs.lemmas.Grind.{common_steps}
 use Rattle.asc_traj.specs.Joining.{byte_of}
 use Rattle.asc_traj.proofs.Masks.{word_bytes, overlay-byte, rest-apart, rest_of, sum-low}
 use Rattle.asc_traj.proofs.join.overlay.Goals as goal
 
 pub overflow_add-result : goal.overflow_add-result
-overflow_add-result c =
-    let over = c.args.over in
-    let under = c.args.under in
-    omega (arith, sum-low 4 over.mask (rest_of under.mask over.mask) over.word under.word (rest-apart under.mask over.mask c.requires.over), c.kept.ensures, c.kept-2.ensures)
+overflow_add-result c = grind (arith, common_steps, nat_tests, rest-apart, rest_of, sum-low)
 
 pub returns-clause-low : goal.returns-clause-low
 returns-clause-low c = or_lt 4 c.args.over.mask c.args.under.mask c.requires.over c.requires.under

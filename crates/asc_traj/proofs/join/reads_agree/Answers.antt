@@ -1,5 +1,7 @@
 -- Each turn compares one word.
 use Rattle.std.proofs.Common.{ℕ, sym, subst, ◌∙◌, arith}
+use Rattle.std.proofs.lemmas.Bool.Decides.{nat_tests}
+use Rattle.std.proofs.lemmas.Grind.{common_steps}
 use Rattle.asc_traj.proofs.Merging.{IsTelling, refused, tell-end, tell-start, told-on}
 use Rattle.asc_traj.proofs.Taking.{Rises-of}
 use Rattle.asc_traj.proofs.join.reads_agree.Goals as goal
@@ -23,31 +25,17 @@ loop-index-init c =
 
 pub returns-then-not-meets_all : goal.returns-then-not-meets_all
 returns-then-not-meets_all c =
-    let old = c.loop-index in
-    sym (refused c.args.a.now c.args.b.now old.index old.a_reads.now old.a_writes.now old.b_reads.now
-    c.take_word.result.1.now c.take_word-in-loop-index.result.1.now c.take_word-in-loop-index-2.result.1.now
-    c.take_word.result.0 c.take_word-in-loop-index.result.0 c.take_word-in-loop-index-2.result.0 c.overlay.result
-    old.invariant.way c.take_word.ensures c.take_word-in-loop-index.ensures c.take_word-in-loop-index-2.ensures c.overlay.ensures.bytes
+    sym (refused c.overlay.result c.loop-index.invariant.way c.take_word.ensures c.take_word-in-loop-index.ensures c.take_word-in-loop-index-2.ensures c.overlay.ensures.bytes
     (sym c.meets_all.ensures ∙ c.if-not-meets_all.true))
 
 pub loop-index-preserved : goal.loop-index-preserved
-loop-index-preserved c =
-    let a = c.args.a.now in
-    let b = c.args.b.now in
-    let old = c.loop-index in
-    let next = told-on a b old.index old.a_reads.now old.a_writes.now old.b_reads.now
-    c.take_word.result.1.now c.take_word-in-loop-index.result.1.now c.take_word-in-loop-index-2.result.1.now
-    c.take_word.result.0 c.take_word-in-loop-index.result.0 c.take_word-in-loop-index-2.result.0 c.overlay.result
-    old.invariant.way c.take_word.ensures c.take_word-in-loop-index.ensures c.take_word-in-loop-index-2.ensures c.overlay.ensures.bytes
-    (sym c.meets_all.ensures ∙ c.if-not-meets_all.false) in
-    record {
-      index = c.next_of-index-in-loop-index.ensures;
-      way = subst (λ (k : ℕ). IsTelling a b k c.take_word.result.1.now c.take_word-in-loop-index.result.1.now c.take_word-in-loop-index-2.result.1.now)
-          (sym c.next_of-index-in-loop-index.ensures) next;
-    }
+loop-index-preserved c = record {
+  index = c.next_of-index-in-loop-index.ensures;
+  way = subst (λ (k : ℕ). IsTelling c.args.a.now c.args.b.now k c.take_word.result.1.now c.take_word-in-loop-index.result.1.now c.take_word-in-loop-index-2.result.1.now)
+      (sym c.next_of-index-in-loop-index.ensures)
+      (told-on c.overlay.result c.loop-index.invariant.way c.take_word.ensures c.take_word-in-loop-index.ensures c.take_word-in-loop-index-2.ensures c.overlay.ensures.bytes
+      (sym c.meets_all.ensures ∙ c.if-not-meets_all.false));
+}
 
 pub returns : goal.returns
-returns c =
-    let old = c.loop-index in
-    let past = c.loop-index-test.false in
-    sym (tell-end c.args.a.now c.args.b.now old.index old.a_reads.now old.a_writes.now old.b_reads.now c.truth-2.ensures old.invariant.way (omega (arith, past)))
+returns c = sym (tell-end c.args.a.now c.args.b.now _ _ _ _ c.truth-2.ensures c.loop-index.invariant.way c.loop-index-test.false)

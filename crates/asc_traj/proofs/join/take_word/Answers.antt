@@ -1,5 +1,7 @@
 -- Each part of the word is laid over, and the first one of a later word is left.
-use Rattle.std.proofs.Common.{subst}
+use Rattle.std.proofs.Common.{subst, arith}
+use Rattle.std.proofs.lemmas.Bool.Decides.{nat_tests}
+use Rattle.std.proofs.lemmas.Grind.{common_steps}
 use Rattle.asc_traj.proofs.Taking.{IsTaking, later-first, later-none, takes-all, takes-more, takes-none}
 use Rattle.asc_traj.proofs.join.take_word.Goals as goal
 
@@ -22,6 +24,4 @@ returns-then-not-is_same c =
     c.if-not-is_same.true)
 
 pub returns : goal.returns
-returns c =
-    takes-all c.args.index c.args.parts.now c.loop-part.found c.loop-part.rest.now c.loop-part.invariant
-    (later-none c.args.index c.loop-part.rest.now c.in_default.ensures.cases c.requires.low)
+returns c = grind (arith, common_steps, nat_tests, later-none, takes-all)

@@ -1,6 +1,8 @@
-use Rattle.std.proofs.Common.{◌≡◌, ◌==◌, ◌+◌, ◌≤◌, All, Bool, List, take, true, slice_index, sym, ap, ◌∙◌, subst}
+use Rattle.std.proofs.Common.{◌≡◌, ◌==◌, ◌+◌, ◌≤◌, All, Bool, List, take, true, slice_index, sym, ap, ◌∙◌, subst, arith}
 use Rattle.std.specs.List.{list_all}
 use Rattle.std.proofs.lemmas.List.Elements.{All-drop}
+use Rattle.std.proofs.lemmas.Bool.Decides.{nat_tests}
+use Rattle.std.proofs.lemmas.Grind.{common_steps}
 use Rattle.asc_model.specs.Shape.{length_of}
 use Rattle.asc_traj.specs.declared.part.Part.{Part}
 use Rattle.asc_traj.specs.Parts.{IsPart, part_cells, word_place}

@@ -1,5 +1,5 @@
 -- A step of a settled word goes on, or changes nothing, and is then tried anew.
-use Rattle.std.proofs.Common.{◌≤◌, Bool, Some, None, if◌then◌else◌, sym, ap, subst, ◌∙◌}
+use Rattle.std.proofs.Common.{◌≡◌, ◌≤◌, Bool, Some, None, if◌then◌else◌, sym, ap, subst, ◌∙◌}
 use Rattle.std.proofs.lemmas.Bool.{false≢true}
 use Rattle.asc_model.specs.Step.{next}
 use Rattle.asc_model.specs.Reach.{step_room, why_no_step}
@@ -8,6 +8,7 @@ use Rattle.asc_step.specs.Step.{face_after}
 use Rattle.asc_depvec.specs.Tracer.{Tracing, face_of}
 use Rattle.asc_traj.specs.Inside.{why_of}
 use Rattle.asc_traj.proofs.Attempts.{limits-step, why_of-stepped, unchanged}
+use Rattle.asc_traj.proofs.tracing.attempt.Goals.{Else-step_settled}
 use Rattle.asc_traj.proofs.tracing.attempt.Goals as goal
 
 pub returns-then-step_settled : goal.returns-then-step_settled
@@ -23,14 +24,15 @@ returns-then-step_settled g c =
       cap = limits.1;
     }
 
+same : (g : _) (c : Else-step_settled g) → c.step_settled.new.bytes ≡ c.args.tracer.now
+same g c = unchanged c.args.tracer.now c.step_settled.new.bytes c.requires.room (c.step_settled.ensures.stays c.if-step_settled.false)
+
 pub attempt_anew-requires : goal.attempt_anew-requires
-attempt_anew-requires g c =
-    let same = unchanged c.args.tracer.now c.step_settled.new.bytes c.requires.room (c.step_settled.ensures.stays c.if-step_settled.false) in
-    record { room = subst (λ (t : Tracing). step_room ≤ room_of (face_of t).marks) (sym same) c.requires.room }
+attempt_anew-requires g c = record { room = subst (λ (t : Tracing). step_room ≤ room_of (face_of t).marks) (sym (same g (goal.at.attempt_anew-requires g c).Else-step_settled)) c.requires.room }
 
 pub returns-else-step_settled : goal.returns-else-step_settled
 returns-else-step_settled g c =
-    let same = unchanged c.args.tracer.now c.step_settled.new.bytes c.requires.room (c.step_settled.ensures.stays c.if-step_settled.false) in
+    let same = same g (goal.at.returns-else-step_settled g c).Else-step_settled in
     let tried = c.attempt_anew.ensures in
     record {
       ends = tried.ends ∙ ap (λ (t : Tracing). why_no_step (next t.state)) same;

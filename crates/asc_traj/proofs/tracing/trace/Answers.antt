@@ -1,13 +1,15 @@
 -- The trace is on its way at each turn, and ends as its reach says.
-use Rattle.std.proofs.Common.{◌-◌, ◌==◌, ℕ, refl, sym, ap, subst, ◌∙◌, arith}
+use Rattle.std.proofs.Common.{◌≡◌, ◌-◌, ◌==◌, ℕ, Some, refl, sym, ap, subst, ◌∙◌, arith}
 use Rattle.std.proofs.lemmas.Bool.{eqb-true}
+use Rattle.std.proofs.lemmas.Bool.Decides.{nat_tests}
+use Rattle.std.proofs.lemmas.Grind.{common_steps}
 use Rattle.asc_model.specs.State.{State}
 use Rattle.asc_model.specs.declared.why.Why.TheVariants as whys
 use Rattle.asc_model.specs.Machine.{view_of}
 use Rattle.asc_traj.specs.Inside.{counted}
 use Rattle.asc_traj.specs.Trace.{LosesPatience, bounds_of}
 use Rattle.asc_traj.proofs.Attempts.{ended, went_on}
-use Rattle.asc_traj.proofs.Traces.{IsOnWay, begins, lapped, turn, room_for_step, some_left, ends-bound, ends-step, ends-stopped, counted-start, few-start, counted-more, goes_on, sure-next, left-first, left-next, left-most, asked-none, asked-next, asked-bound, asked-step}
+use Rattle.asc_traj.proofs.Traces.{IsOnWay, begins, lapped, turn, room_for_step, some_left, ends-bound, ends-step, counted-start, few-start, counted-more, goes_on, sure-next, left-first, left-next, asked-none, asked-next, asked-bound, asked-step}
 use Rattle.asc_traj.proofs.tracing.trace.Goals as goal
 
 pub loop-shape-init : goal.loop-shape-init
@@ -24,6 +26,7 @@ loop-shape-init g c =
       count = refl;
       asks = asked-none (g.H.Halt.asks c.args.halt.now);
       patience = left-first (g.H.Halt.patience c.args.halt.now);
+      most = λ n told. omega arith;
     }
 
 pub is_within-requires-clause-own : goal.is_within-requires-clause-own
@@ -37,11 +40,7 @@ pub attempt-requires-clause-room : goal.attempt-requires-clause-room
 attempt-requires-clause-room g c = room_for_step _ c.loop-shape.tracer (sym (went_on _ _ _ c.is_within.ensures.met c.if-not-is_within.false))
 
 pub returns-then-has_all_laps-clause-reach : goal.returns-then-has_all_laps-clause-reach
-returns-then-has_all_laps-clause-reach g c =
-    let laps = c.has_all_laps.new.laps in
-    let way = c.loop-shape.invariant.way in
-    λ _. ends-bound _ _ _ _ _ whys.Lap way
-    (lapped _ _ _ _ _ way (sym c.has_all_laps.ensures.counts ∙ eqb-true laps c.args.stop.now.laps (sym c.has_all_laps.ensures.all ∙ c.if-has_all_laps.true)))
+returns-then-has_all_laps-clause-reach g c = grind (arith, common_steps, nat_tests, ends-bound, lapped)
 
 pub returns-then-not-is_within-clause-reach : goal.returns-then-not-is_within-clause-reach
 returns-then-not-is_within-clause-reach g c =
@@ -53,7 +52,7 @@ pub returns-then-asked-clause-stopped : goal.returns-then-asked-clause-stopped
 returns-then-asked-clause-stopped g c =
     let way = c.loop-shape.invariant.way in
     let bound = turn way c.has_all_laps.ensures.counts c.has_all_laps.ensures.all c.if-has_all_laps.false c.known-in-loop-shape.ensures.tracer c.known-in-loop-shape.ensures.marks in
-    λ _. ends-stopped _ _ _ _ _ way (bound ∙ sym (went_on _ _ _ c.is_within.ensures.met c.if-not-is_within.false))
+    λ _. record { least = way.least; unmet = bound ∙ sym (went_on _ _ _ c.is_within.ensures.met c.if-not-is_within.false) }
 
 pub returns-then-not-attempt-clause-reach : goal.returns-then-not-attempt-clause-reach
 returns-then-not-attempt-clause-reach g c =
@@ -77,6 +76,9 @@ loop-shape-preserved g c =
     let there = (view_of later.state).pc == c.args.stop.now.pc in
     let face = c.attempt.ensures.goes c.if-not-attempt.false in
     let some = some_left (bounds.span - n) t unmet in
+    let patience = λ (k : ℕ) (told : g.H.Halt.patience c.args.halt.now ≡ Some k).
+    left-next (g.H.Halt.patience c.loop-shape.halt) (g.H.Halt.patience c.asked.new.self) n k (inv.patience k told)
+    (subst (LosesPatience (g.H.Halt.patience c.loop-shape.halt) (g.H.Halt.patience c.asked.new.self)) c.if-asked.false c.asked.ensures.patience) in
     record {
       way = goes_on bounds _ n laps t later way known.state known.marks (bound ∙ unmet) (sym (went_on _ _ _ c.attempt.ensures.ends c.if-not-attempt.false)) face
           c.attempt.ensures.shape c.attempt.ensures.cap (counted laps there) (counted-more laps there (omega (arith, way.most, some)));
@@ -84,22 +86,9 @@ loop-shape-preserved g c =
       sure = sure-next bounds.span n c.is_within.new.sure t later (c.is_within.ensures.sure c.if-not-is_within.false) (c.is_within.ensures.more c.if-not-is_within.false) known.state known.marks face;
       count = c.asked.ensures.count.stays c.if-asked.false ∙ inv.count;
       asks = asked-next _ _ _ n inv.asks c.asked.ensures.asks;
-      patience = λ k told.
-          left-next (g.H.Halt.patience c.loop-shape.halt) (g.H.Halt.patience c.asked.new.self) n k (inv.patience k told)
-          (subst (LosesPatience (g.H.Halt.patience c.loop-shape.halt) (g.H.Halt.patience c.asked.new.self)) c.if-asked.false c.asked.ensures.patience);
+      patience = patience;
+      most = λ k told. omega (arith, (patience k told).sum);
     }
-
-pub returns-then-has_all_laps-clause-patience : goal.returns-then-has_all_laps-clause-patience
-returns-then-has_all_laps-clause-patience g c = λ k told. left-most _ _ k (c.loop-shape.invariant.patience k told)
-
-pub returns-then-not-is_within-clause-patience : goal.returns-then-not-is_within-clause-patience
-returns-then-not-is_within-clause-patience g c = λ k told. left-most _ _ k (c.loop-shape.invariant.patience k told)
-
-pub returns-then-asked-clause-patience : goal.returns-then-asked-clause-patience
-returns-then-asked-clause-patience g c = λ k told. left-most _ _ k (c.loop-shape.invariant.patience k told)
-
-pub returns-then-not-attempt-clause-patience : goal.returns-then-not-attempt-clause-patience
-returns-then-not-attempt-clause-patience g c = λ k told. left-most _ _ k (c.loop-shape.invariant.patience k told)
 
 pub returns-then-not-is_within-clause-asks : goal.returns-then-not-is_within-clause-asks
 returns-then-not-is_within-clause-asks g c =
@@ -109,6 +98,4 @@ pub returns-then-asked-clause-asks : goal.returns-then-asked-clause-asks
 returns-then-asked-clause-asks g c = asked-next _ _ _ c.loop-shape.steps c.loop-shape.invariant.asks c.asked.ensures.asks
 
 pub returns-then-not-attempt-clause-asks : goal.returns-then-not-attempt-clause-asks
-returns-then-not-attempt-clause-asks g c =
-    asked-step _ c.attempt.new.why _ _ c.loop-shape.steps (asked-next _ _ _ c.loop-shape.steps c.loop-shape.invariant.asks c.asked.ensures.asks)
-    (sym (ended _ _ _ c.attempt.ensures.ends c.if-not-attempt.true))
+returns-then-not-attempt-clause-asks g c = grind (arith, common_steps, nat_tests, asked-next, asked-step, ended)

@@ -1,5 +1,5 @@
 -- The trace is on its way, and the halt has not asked to stop it.
-use Rattle.std.proofs.Common.{◌≡◌, ℕ, ◌-◌, ◌==◌, false, Some}
+use Rattle.std.proofs.Common.{◌≡◌, ℕ, ◌-◌, ◌==◌, ◌≤◌, false, Some}
 use Rattle.asc_model.specs.Machine.{view_of}
 use Rattle.asc_shape.specs.Face.{room_of}
 use Rattle.asc_depvec.specs.Tracer.{face_of}
@@ -16,6 +16,7 @@ invariant-loop-shape g l = record {
   count : g.H.Halt.count l.halt ≡ g.H.Halt.count l.fn.halt;
   asks : Asked (g.H.Halt.asks l.fn.halt) (g.H.Halt.asks l.halt) l.steps;
   patience : (n : ℕ) → g.H.Halt.patience l.fn.halt ≡ Some n → HasLeft (g.H.Halt.patience l.halt) l.steps n;
+  most : (n : ℕ) → g.H.Halt.patience l.fn.halt ≡ Some n → l.steps ≤ n;
 }
 
 abbrev pub decreases-loop-shape : goal.decreases-loop-shape

@@ -3,7 +3,7 @@ use Rattle.std.specs.Result.{is_ok}
 use Rattle.std.proofs.lemmas.List.Elements.{All-nil, All-push}
 use Rattle.asc_cache.specs.declared.writer.ShardWriter.{ShardWriter}
 use Rattle.asc_work.specs.declared.halter.Flag.{Flag}
-use Rattle.asc_jobs.specs.Tally.{no_jobs}
+use Rattle.asc_model.specs.Tally.{no_jobs}
 use Rattle.asc_work.specs.declared.worker.Worker.{Worker}
 use Rattle.asc_upper_tests.proofs.work.two_workers_of.Goals as goal
 

@@ -1,5 +1,5 @@
 use Rattle.std.proofs.Common.{◌≡◌, ◌+◌, ◌++◌, All, length}
-use Rattle.asc_jobs.specs.Tally.{no_jobs}
+use Rattle.asc_model.specs.Tally.{no_jobs}
 use Rattle.asc_work.specs.Posts.{IsIdle, workers_at}
 use Rattle.asc_work.proofs.post.new_posts.Given as goal
 

@@ -2,7 +2,7 @@ use Rattle.std.proofs.Common.{◌≡◌, ◌+◌, ◌<◌, ◌∙◌, Some, leng
 use Rattle.std.proofs.lemmas.List.{length-set, take_more}
 use Rattle.std.proofs.lemmas.List.Edits.{map_over_more}
 use Rattle.asc_jobs.specs.Jobs.{Taker}
-use Rattle.asc_jobs.specs.Tally.{added, counts_of}
+use Rattle.asc_model.specs.Tally.{added, counts_of}
 use Rattle.asc_work.specs.Posts.{relieved}
 use Rattle.asc_work.specs.declared.post.Post.{Post}
 use Rattle.asc_work.proofs.Posts.{next_is, next_taken}

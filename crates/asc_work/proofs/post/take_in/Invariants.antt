@@ -1,5 +1,5 @@
 use Rattle.std.proofs.Common.{◌≡◌, ◌++◌, take, drop, map}
-use Rattle.asc_jobs.specs.Tally.{counts_of}
+use Rattle.asc_model.specs.Tally.{counts_of}
 use Rattle.asc_work.specs.Posts.{relieved}
 use Rattle.asc_work.proofs.Posts.{AreTaken}
 use Rattle.asc_work.proofs.post.take_in.Given as goal

@@ -1,6 +1,6 @@
 -- The calls that ask no device.
 use Rattle.std.proofs.Common.{◌<◌, ◌≤◌, ◌⊎◌, refl, sym, subst, arith}
-use Rattle.asc_calls.specs.World.{CallState, faults, world}
+use Rattle.asc_calls.specs.World.{CallState, outside_of, world_in}
 use Rattle.asc_calls.specs.Serving.{Serves}
 use Rattle.asc_calls.proofs.Serve.{Serves-break, Serves-exit, Serves-unknown}
 use Rattle.asc_calls.proofs.calls.Calls.serve.Goals as goal
@@ -8,10 +8,8 @@ use Rattle.asc_calls.proofs.calls.Calls.serve.Goals as goal
 pub returns-in-214-clause-served : goal.returns-in-214-clause-served
 returns-in-214-clause-served g c =
     let answer = c.move_break-answer.result in
-    subst (λ (k : CallState). Serves (world c.args.state.now c.args.self.now (g.I.Source.left c.args.input.now) (g.O.Sink.given c.args.out.now) (g.E.Sink.given c.args.err.now) c.args.steps.now
-    (faults (g.I.Source.faults c.args.input.now) (g.O.Sink.faults c.args.out.now) (g.E.Sink.faults c.args.err.now)))
-    (world c.go_on.new.state k (g.I.Source.left c.args.input.now) (g.O.Sink.given c.args.out.now) (g.E.Sink.given c.args.err.now) c.go_on.new.steps
-    (faults (g.I.Source.faults c.args.input.now) (g.O.Sink.faults c.args.out.now) (g.E.Sink.faults c.args.err.now))) c.go_on.result)
+    subst (λ (k : CallState). Serves (world_in c.args.state.now c.args.self.now (outside_of c.args.devices.now c.args.steps.now))
+    (world_in c.go_on.new.state k (outside_of c.args.devices.now c.go_on.new.steps)) c.go_on.result)
     (sym c.move_break-answer.ensures.brk)
     (Serves-break c.args.state.now _ c.args.self.now answer _ _ _ _ _ answer _ _ c.go_on.ensures.state c.go_on.ensures.steps _ c.go_on.ensures.went
     c.reg.result c.reg-in-214.result c.reg.ensures c.reg-in-214.ensures c.in-214.is c.move_break-answer.ensures.answer refl)

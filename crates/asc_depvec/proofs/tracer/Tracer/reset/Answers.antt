@@ -1,7 +1,5 @@
-use Rattle.std.proofs.Common.{ap, ◌∙◌}
+use Rattle.std.proofs.Common.{◌∙◌}
 use Rattle.std.specs.Vec.{with_items}
-use Rattle.asc_depvec.specs.Inside.{statuses_of}
-use Rattle.asc_depvec.specs.Tracer.{Tracing, face_of, fresh, start_of_face}
 use Rattle.asc_depvec.proofs.Insides.{IsTracer-fresh, back_is, fresh_is, marks_within, started}
 use Rattle.asc_depvec.proofs.tracer.Tracer.reset.Goals as goal
 
@@ -19,8 +17,5 @@ pub returns : goal.returns
 returns c =
     let t = c.self.inside in
     let all = back_is t c.deref_mut.result.now c.untouch_all.new.marks c.all.result.now c.self.invariant c.deref_mut.ensures.value c.untouch_all.auto.marks c.all.ensures c.untouch_all.ensures in
-    let inv = IsTracer-fresh t t.start c.put_word.new.bytes c.deref_mut-2.result.now (with_items t.marks c.untouch_all.new.marks) c.clear.new.self c.word.result c.self.invariant c.self.invariant.start
-    c.self.invariant.own c.word.ensures c.deref_mut-2.ensures.value c.put_word.auto.bytes c.put_word.ensures all c.clear.ensures.items c.clear.ensures.cap in
-    fresh_is t.shape t.cap t.start (with_items t.bytes c.put_word.new.bytes).items (statuses_of (with_items t.marks c.untouch_all.new.marks).items) c.clear.new.self.items c.self.invariant.start c.self.invariant.own inv.size all c.clear.ensures.items
-    ∙ ap (fresh t.shape t.cap) (started t _ c.self.view_is c.self.invariant)
-    ∙ ap (λ (v : Tracing). fresh v.shape v.cap (start_of_face (face_of c.args.self.now))) c.self.view_is
+    fresh_is t.shape t.cap t.start _ _ c.clear.new.self.items c.self.invariant.start c.self.invariant.own (invariant_of-self c).size all c.clear.ensures.items
+    ∙ rw (started t _ c.self.view_is c.self.invariant, ← c.self.view_is)

@@ -1,27 +1,19 @@
-use Rattle.std.proofs.Common.{refl}
 use Rattle.std.specs.Vec.{with_items}
 use Rattle.asc_model.specs.Number.{bytes_of}
 use Rattle.asc_model.specs.Places.{cells, places_from}
-use Rattle.asc_depvec.specs.Inside.{tracing_of}
-use Rattle.asc_depvec.proofs.Insides.{IsTracer-later, Leaves-word_written, face-put_written, marks_written, put_is, settled-put}
+use Rattle.asc_shape.specs.Face.{face_after_puts}
+use Rattle.asc_depvec.proofs.Insides.{Left, Left-word_written, marks_written}
 use Rattle.asc_depvec.proofs.tracer.TracerWords.put_written.Goals as goal
+use Rattle.asc_depvec.proofs.tracer.TracerWords.put_written.Goals.{After-self-1}
+
+left : (c : After-self-1) → Left c.self.inside (with_items c.self.inside.bytes c.put_word.new.bytes) c.self.inside.marks c.self.inside.touched
+    (λ f. face_after_puts f (cells c.args.place (bytes_of 4 c.args.word)))
+left c =
+    Left-word_written c.self.inside c.put_word.new.bytes _ c.args.place c.args.word c.self.invariant (marks_written c.self.inside _ (places_from c.args.place 4) c.self.view_is c.requires.written)
+    c.deref_mut.ensures.value c.put_word.auto.bytes c.put_word.ensures
 
 pub invariant_of-self : goal.invariant_of-self
-invariant_of-self c =
-    let t = c.self.inside in
-    let were = marks_written t _ (places_from c.args.place 4) c.self.view_is c.requires.written in
-    let did = Leaves-word_written t c.put_word.new.bytes _ c.args.place c.args.word c.self.invariant were c.deref_mut.ensures.value c.put_word.auto.bytes c.put_word.ensures in
-    let bytes = with_items t.bytes c.put_word.new.bytes in
-    let list = cells c.args.place (bytes_of 4 c.args.word) in
-    IsTracer-later t bytes t.marks t.touched _ _ c.self.invariant did
-    (settled-put t bytes t.marks t.touched list c.self.invariant (λ k e. e)
-    (face-put_written t (tracing_of t) bytes list refl were (put_is t c.put_word.new.bytes _ c.args.place c.args.word c.deref_mut.ensures.value c.put_word.auto.bytes c.put_word.ensures)))
+invariant_of-self c = (left c).inv
 
 pub returns : goal.returns
-returns c =
-    let t = c.self.inside in
-    record {
-      face = face-put_written t _ (with_items t.bytes c.put_word.new.bytes) (cells c.args.place (bytes_of 4 c.args.word)) c.self.view_is
-          (marks_written t _ (places_from c.args.place 4) c.self.view_is c.requires.written)
-          (put_is t c.put_word.new.bytes _ c.args.place c.args.word c.deref_mut.ensures.value c.put_word.auto.bytes c.put_word.ensures);
-    }
+returns c = record { face = (left c).face _ c.self.view_is }

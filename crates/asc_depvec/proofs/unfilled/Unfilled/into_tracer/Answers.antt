@@ -1,7 +1,5 @@
-use Rattle.std.proofs.Common.{◌∙◌, ℕ, List, ◌+◌, ◌*◌, ◌/◌, length, replicate, ap}
+use Rattle.std.proofs.Common.{◌∙◌, ap}
 use Rattle.std.proofs.lemmas.List.{length-replicate}
-use Rattle.asc_model.specs.Shape.{length_of}
-use Rattle.asc_model.specs.State.{State}
 use Rattle.asc_shape.specs.State.{zero_state}
 use Rattle.asc_depvec.specs.Inside.{statuses_of}
 use Rattle.asc_depvec.specs.Tracer.{fresh}
@@ -16,11 +14,8 @@ invariant_of-result c =
     let inv = c.self.invariant in
     let size = c.places_of-len.ensures.places in
     IsTracer-new u.shape u.cap u.start c.fill.new.bytes c.fill-2.new.bytes u.touched c.fill_blocks.new.blocks u.groups u.used inv.cap inv.state inv.start
-    (c.fill.ensures.bytes inv.bytes ∙ ap (λ (n : ℕ). replicate n 0) size)
-    (c.fill-2.ensures.bytes inv.marks ∙ ap (λ (n : ℕ). replicate n 3) size)
-    inv.none_touched inv.room_touched
-    (c.fill_blocks.ensures ∙ ap (λ (n : ℕ). replicate (64 * (n / 16384 + 1)) 0) size)
-    inv.groups inv.none_used inv.room_used
+    (rw (← size) (c.fill.ensures.bytes inv.bytes)) (rw (← size) (c.fill-2.ensures.bytes inv.marks)) inv.none_touched inv.room_touched
+    (rw (← size) c.fill_blocks.ensures) inv.groups inv.none_used inv.room_used
 
 pub returns : goal.returns
 returns c =
@@ -28,9 +23,7 @@ returns c =
     let inv = c.self.invariant in
     let size = c.places_of-len.ensures.places in
     fresh_is u.shape u.cap u.start c.fill.new.bytes.items (statuses_of c.fill-2.new.bytes.items) u.touched.items inv.state
-    (ap (λ (s : State). s.shape) inv.start)
-    (ap (λ (l : List ℕ). length l) (c.fill.ensures.bytes inv.bytes) ∙ length-replicate c.places_of-len.result 0 ∙ size)
-    (ap statuses_of (c.fill-2.ensures.bytes inv.marks ∙ ap (λ (n : ℕ). replicate n 3) size) ∙ statuses-replicate (length_of u.shape))
+    (rw inv.start) (rw (c.fill.ensures.bytes inv.bytes, length-replicate) size) (rw (c.fill-2.ensures.bytes inv.marks, statuses-replicate, size))
     inv.none_touched
     ∙ ap (fresh u.shape u.cap) inv.start
     ∙ ap (λ (f : Filling). fresh f.shape f.cap (zero_state f.shape)) c.self.view_is

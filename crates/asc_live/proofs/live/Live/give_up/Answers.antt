@@ -1,6 +1,6 @@
 -- Guesses are not offered only once the queue had been filled up.
 use Rattle.std.proofs.Common.{◌≡◌, ◌+◌, true, None, length, sym, ap, ◌∙◌, subst}
-use Rattle.asc_run.specs.Serial.{kinds_of}
+use Rattle.asc_find.specs.Serial.{kinds_of}
 use Rattle.asc_run.specs.LastVisits.{LastVisits}
 use Rattle.asc_live.specs.Due.{is_filled}
 use Rattle.asc_live.specs.Live.{IsLive, live, is_guessing, seen_after}

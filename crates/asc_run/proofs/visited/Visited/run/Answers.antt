@@ -14,7 +14,7 @@ loop-self-init g c =
     let given = ap (λ t. t.given) told in
     let hits = ap (λ t. t.hits) told in
     record {
-      walk = λ mark start way. walk-first c.args.limit mark c.args.pc c.args.self.now.process.count start _ _ _ _ given asked way;
+      walk = λ rule start way. walk-first c.args.limit rule c.args.pc c.args.self.now.process.count start _ _ _ _ given asked way;
       shape = refl;
       grows = omega arith;
       within = c.requires.count;
@@ -22,7 +22,7 @@ loop-self-init g c =
       asked = omega (arith, asked);
       hits = omega (arith, hits);
       plans = record { made = omega arith; full = omega arith; few = omega arith; refused = omega arith; queue = refl };
-      seen = rw asked (SeesAll-none (g.H.Finder.plan c.args.helper.now));
+      seen = rw asked (SeesAll-none (g.H.Finder.aid c.args.helper.now).plan);
       visits = omega (arith, asked);
       skips = omega (arith, given);
       hit = omega (arith, hits);
@@ -31,8 +31,8 @@ loop-self-init g c =
     }
 
 pub returns-then-self-limit-clause-run : goal.returns-then-self-limit-clause-run
-returns-then-self-limit-clause-run g c = λ mark start way.
-    walk-limit c.args.limit mark c.args.pc c.args.self.now.process.count start _ _ _ _ _ _ (c.loop-self.invariant.walk mark start way) c.if-self-limit.true
+returns-then-self-limit-clause-run g c = λ rule start way.
+    walk-limit c.args.limit rule c.args.pc c.args.self.now.process.count start _ _ _ _ _ _ (c.loop-self.invariant.walk rule start way) c.if-self-limit.true
 
 pub land-requires-clause-room : goal.land-requires-clause-room
 land-requires-clause-room g c =
@@ -54,8 +54,8 @@ loop-self-preserved-in-Some g c =
     let hits = hits-more b c.loop-self.self.process.count (Some c.in-Some.n) _ _ e.passed e.helped in
     let least = e.jump.least in let most = e.jump.most in
     record {
-      walk = λ mark start way. walk-jump c.args.limit mark c.args.pc c.args.self.now.process.count start _ _ _ _ _ _ _ _ _ _ _ _ _ _ _ _ _ _ v.grows (omega (arith, within, not_limit)) (ap (λ p. p.process.calls) e.kept) count skipped c.in-Some.n e.jump e.passed
-          (v.walk mark start way) e.number e.helped e.machine;
+      walk = λ rule start way. walk-jump c.args.limit rule c.args.pc c.args.self.now.process.count start _ _ _ _ _ _ _ _ _ _ _ _ _ _ _ _ _ _ v.grows (omega (arith, within, not_limit)) (ap (λ p. p.process.calls) e.kept) count skipped c.in-Some.n e.jump e.passed
+          (v.walk rule start way) e.number e.helped e.machine;
       shape = jump-shape (Some c.in-Some.n) _ _ _ e.jump ∙ v.shape;
       grows = omega (arith, grows, count);
       within = omega (arith, count, most, within);
@@ -72,11 +72,11 @@ loop-self-preserved-in-Some g c =
     }
 
 pub returns-in-Some-stop-clause-run : goal.returns-in-Some-stop-clause-run
-returns-in-Some-stop-clause-run g c = λ mark start way.
+returns-in-Some-stop-clause-run g c = λ rule start way.
     let v = c.loop-self.invariant in let e = c.in_default.ensures in let s = c.go_on-stopped.ensures in let t = c.in-Some-stop.ensures in
     let grows = v.grows in let within = v.within in let not_limit = c.if-self-limit.false in let count = ap (λ p. p.process.count) e.kept in let landed = c.if-self-landed.true in
-    let mid = walk-still c.args.limit mark c.args.pc c.args.self.now.process.count start _ _ _ _ _ _ _ _ _ _ _ _ _ _ _ _ _ _ (ap (λ p. p.calls) s.kept) refl refl s.counter (c.if-self-landed.true ∙ sym (ap (λ p. p.process.count) e.kept)) s.goes (walk-step c.args.limit mark c.args.pc c.args.self.now.process.count start _ _ _ _ _ _ _ _ _ _ _ _ _ _ _ _ _ _ v.grows (omega (arith, within, not_limit)) (ap (λ p. p.process.calls) e.kept) (ap (λ p. p.process.count) e.kept) (ap (λ p. p.skipped) e.kept) e.jump (v.walk mark start way) e.number e.helped e.machine) in
-    (walk-end c.args.limit mark c.args.pc c.args.self.now.process.count start _ _ _ _ _ _ _ _ c.in-Some-stop.ended (omega (arith, grows, count, landed)) mid (omega (arith, within, not_limit, count, landed)) t.turn t.fails t.count)
+    let mid = walk-still c.args.limit rule c.args.pc c.args.self.now.process.count start _ _ _ _ _ _ _ _ _ _ _ _ _ _ _ _ _ _ (ap (λ p. p.calls) s.kept) refl refl s.counter (c.if-self-landed.true ∙ sym (ap (λ p. p.process.count) e.kept)) s.goes (walk-step c.args.limit rule c.args.pc c.args.self.now.process.count start _ _ _ _ _ _ _ _ _ _ _ _ _ _ _ _ _ _ v.grows (omega (arith, within, not_limit)) (ap (λ p. p.process.calls) e.kept) (ap (λ p. p.process.count) e.kept) (ap (λ p. p.skipped) e.kept) e.jump (v.walk rule start way) e.number e.helped e.machine) in
+    (walk-end c.args.limit rule c.args.pc c.args.self.now.process.count start _ _ _ _ _ _ _ _ c.in-Some-stop.ended (omega (arith, grows, count, landed)) mid (omega (arith, within, not_limit, count, landed)) t.turn t.fails t.count)
 
 pub returns-in-Some-stop-clause-shape : goal.returns-in-Some-stop-clause-shape
 returns-in-Some-stop-clause-shape g c = λ none.
@@ -103,9 +103,9 @@ loop-self-preserved-in_default-stop g c =
     let given = given-more b c.loop-self.self.process.count None _ _ (λ _. refl) e.helped in
     let hits = hits-more b c.loop-self.self.process.count None _ _ (λ _. refl) e.helped in
     record {
-      walk = λ mark start way.
-          let mid = walk-still c.args.limit mark c.args.pc c.args.self.now.process.count start _ _ _ _ _ _ _ _ _ _ _ _ _ _ _ _ _ _ (ap (λ p. p.calls) s.kept) refl refl s.counter (c.if-self-landed.true ∙ sym (ap (λ p. p.process.count) e.kept)) s.goes (walk-step c.args.limit mark c.args.pc c.args.self.now.process.count start _ _ _ _ _ _ _ _ _ _ _ _ _ _ _ _ _ _ v.grows (omega (arith, within, not_limit)) (ap (λ p. p.process.calls) e.kept) (ap (λ p. p.process.count) e.kept) (ap (λ p. p.skipped) e.kept) e.jump (v.walk mark start way) e.number e.helped e.machine) in
-          (walk-turn c.args.limit mark c.args.pc c.args.self.now.process.count start _ _ _ _ _ _ _ _ _ mid turn (omega (arith, one)));
+      walk = λ rule start way.
+          let mid = walk-still c.args.limit rule c.args.pc c.args.self.now.process.count start _ _ _ _ _ _ _ _ _ _ _ _ _ _ _ _ _ _ (ap (λ p. p.calls) s.kept) refl refl s.counter (c.if-self-landed.true ∙ sym (ap (λ p. p.process.count) e.kept)) s.goes (walk-step c.args.limit rule c.args.pc c.args.self.now.process.count start _ _ _ _ _ _ _ _ _ _ _ _ _ _ _ _ _ _ v.grows (omega (arith, within, not_limit)) (ap (λ p. p.process.calls) e.kept) (ap (λ p. p.process.count) e.kept) (ap (λ p. p.skipped) e.kept) e.jump (v.walk rule start way) e.number e.helped e.machine) in
+          (walk-turn c.args.limit rule c.args.pc c.args.self.now.process.count start _ _ _ _ _ _ _ _ _ mid turn (omega (arith, one)));
       shape = turn.shape ∙ plain-shape _ _ _ s.goes ∙ jump-shape None 0 _ _ e.jump ∙ v.shape;
       grows = omega (arith, grows, one, count, landed);
       within = omega (arith, within, not_limit, one, count, landed);
@@ -134,8 +134,8 @@ loop-self-preserved g c =
     let given = given-more b c.loop-self.self.process.count None _ _ (λ _. refl) e.helped in
     let hits = hits-more b c.loop-self.self.process.count None _ _ (λ _. refl) e.helped in
     record {
-      walk = λ mark start way. walk-plain c.args.limit mark c.args.pc c.args.self.now.process.count start _ _ _ _ _ _ _ _ _ _ _ _ _ _ _ _ _ _ (omega (arith, grows, count)) (omega (arith, within, count, most)) (ap (λ p. p.calls) s.kept) refl refl s.counter (omega (arith, more, moved)) s.goes s.passes
-          (walk-step c.args.limit mark c.args.pc c.args.self.now.process.count start _ _ _ _ _ _ _ _ _ _ _ _ _ _ _ _ _ _ v.grows (omega (arith, within, not_limit)) (ap (λ p. p.process.calls) e.kept) (ap (λ p. p.process.count) e.kept) (ap (λ p. p.skipped) e.kept) e.jump (v.walk mark start way) e.number e.helped e.machine);
+      walk = λ rule start way. walk-plain c.args.limit rule c.args.pc c.args.self.now.process.count start _ _ _ _ _ _ _ _ _ _ _ _ _ _ _ _ _ _ (omega (arith, grows, count)) (omega (arith, within, count, most)) (ap (λ p. p.calls) s.kept) refl refl s.counter (omega (arith, more, moved)) s.goes s.passes
+          (walk-step c.args.limit rule c.args.pc c.args.self.now.process.count start _ _ _ _ _ _ _ _ _ _ _ _ _ _ _ _ _ _ v.grows (omega (arith, within, not_limit)) (ap (λ p. p.process.calls) e.kept) (ap (λ p. p.process.count) e.kept) (ap (λ p. p.skipped) e.kept) e.jump (v.walk rule start way) e.number e.helped e.machine);
       shape = plain-shape _ _ _ s.goes ∙ jump-shape None 0 _ _ e.jump ∙ v.shape;
       grows = omega (arith, grows, count, more);
       within = omega (arith, within, count, most);

@@ -1,38 +1,36 @@
 -- Where the program has come from a start as plain execution does, it has come on so, with the visits so far.
 use Rattle.std.proofs.Common.{◌≡◌, ◌+◌, ◌-◌, ◌≤◌, IsNone}
-use Rattle.asc_calls.specs.World.{World, world, faults}
-use Rattle.asc_run.specs.Visits.{Course, Marking}
-use Rattle.asc_run.specs.Helped.{aid, Plans}
+use Rattle.asc_calls.specs.World.{World, faults, outside_of, world_in}
+use Rattle.asc_run.specs.Visits.{Course, VisitRule}
+use Rattle.asc_find.specs.Helper.{Plans}
 use Rattle.asc_run.specs.Seen.{SeesAll}
-use Rattle.asc_run.specs.Way.{ComesUnmarked}
+use Rattle.asc_run.specs.Way.{ComesUnvisited}
 use Rattle.asc_run.proofs.Walking.{WalksOn}
 use Rattle.asc_run.proofs.visited.Visited.run.Given as goal
 
 abbrev pub invariant-loop-self : goal.invariant-loop-self
 invariant-loop-self g l = record {
-  walk : (mark : Course → Marking) (start : World)
-      → ComesUnmarked l.limit mark l.pc start (world l.fn.self.process.state l.fn.self.process.calls (g.I.Source.left l.fn.input) (g.O.Sink.given l.fn.out) (g.E.Sink.given l.fn.err) l.fn.steps
-      (faults (g.I.Source.faults l.fn.input) (g.O.Sink.faults l.fn.out) (g.E.Sink.faults l.fn.err))) l.fn.self.process.count
-      → WalksOn l.limit mark l.pc l.fn.self.process.count start
-      (world l.self.process.state l.self.process.calls (g.I.Source.left l.input) (g.O.Sink.given l.out) (g.E.Sink.given l.err) l.steps
-      (faults (g.I.Source.faults l.input) (g.O.Sink.faults l.out) (g.E.Sink.faults l.err)))
+  walk : (rule : Course → VisitRule) (start : World)
+      → ComesUnvisited l.limit rule l.pc start (world_in l.fn.self.process.state l.fn.self.process.calls (outside_of l.fn.devices l.fn.steps)) l.fn.self.process.count
+      → WalksOn l.limit rule l.pc l.fn.self.process.count start
+      (world_in l.self.process.state l.self.process.calls (outside_of l.devices l.steps))
       l.self.process.count l.self.process.count l.self.skipped l.self.asked
-      (aid (g.H.Finder.tally l.fn.helper) (g.H.Finder.replies l.fn.helper) (g.H.Finder.plan l.fn.helper) (g.H.Finder.machine l.fn.helper))
-      (aid (g.H.Finder.tally l.helper) (g.H.Finder.replies l.helper) (g.H.Finder.plan l.helper) (g.H.Finder.machine l.helper));
+      (g.H.Finder.aid l.fn.helper)
+      (g.H.Finder.aid l.helper);
   shape : l.self.process.state.shape ≡ l.fn.self.process.state.shape;
   grows : l.fn.self.process.count ≤ l.self.process.count;
   within : l.self.process.count ≤ l.limit;
-  given : (g.H.Finder.tally l.helper).given ≡ (g.H.Finder.tally l.fn.helper).given + l.self.skipped;
-  asked : (g.H.Finder.tally l.helper).asked ≡ (g.H.Finder.tally l.fn.helper).asked + l.self.asked;
-  hits : (g.H.Finder.tally l.helper).hits ≡ (g.H.Finder.tally l.fn.helper).hits + l.self.hits;
-  plans : Plans l.self.asked (g.H.Finder.plan l.fn.helper) (g.H.Finder.plan l.helper);
-  seen : SeesAll l.self.asked (g.H.Finder.plan l.fn.helper) (g.H.Finder.plan l.helper);
+  given : (g.H.Finder.aid l.helper).jumps.given ≡ (g.H.Finder.aid l.fn.helper).jumps.given + l.self.skipped;
+  asked : (g.H.Finder.aid l.helper).jumps.asked ≡ (g.H.Finder.aid l.fn.helper).jumps.asked + l.self.asked;
+  hits : (g.H.Finder.aid l.helper).jumps.hits ≡ (g.H.Finder.aid l.fn.helper).jumps.hits + l.self.hits;
+  plans : Plans l.self.asked (g.H.Finder.aid l.fn.helper).plan (g.H.Finder.aid l.helper).plan;
+  seen : SeesAll l.self.asked (g.H.Finder.aid l.fn.helper).plan (g.H.Finder.aid l.helper).plan;
   visits : l.self.asked ≤ l.self.process.count;
   skips : l.self.skipped ≤ l.self.process.count;
   hit : l.self.hits ≤ l.self.process.count;
   unset : IsNone l.pc → l.helper ≡ l.fn.helper;
-  faults : faults (g.I.Source.faults l.input) (g.O.Sink.faults l.out) (g.E.Sink.faults l.err)
-      ≡ faults (g.I.Source.faults l.fn.input) (g.O.Sink.faults l.fn.out) (g.E.Sink.faults l.fn.err);
+  faults : l.devices.told.faults
+      ≡ l.fn.devices.told.faults;
 }
 
 abbrev pub decreases-loop-self : goal.decreases-loop-self

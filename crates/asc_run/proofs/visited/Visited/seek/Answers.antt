@@ -28,7 +28,7 @@ loop-limit-init g c =
       asked = omega (arith, asked);
       hits = omega (arith, hits);
       plans = record { made = omega arith; full = omega arith; few = omega arith; refused = omega arith; queue = refl };
-      seen = rw asked (SeesAll-none (g.H.Finder.plan c.args.helper.now));
+      seen = rw asked (SeesAll-none (g.H.Finder.aid c.args.helper.now).plan);
       visits = omega (arith, asked);
       skips = omega (arith, given);
       hit = omega (arith, hits);

@@ -22,8 +22,8 @@ invariant_of-self g c =
     let place = c.place-from.ensures in
     let within : start + c.args.n ≤ length c.self.inside.bytes.items = omega (arith, place) in
     let listed : length c.deref_mut.result.now ≡ length c.self.inside.bytes.items = ap (λ (l : List ℕ). length l) c.deref_mut.ensures.value in
-    inside_written c.self.inside.shape c.self.inside.base c.self.inside.bytes c.self.inside.changed c.mark.new.changed start c.args.n
-    (start + c.args.n - start) _ c.take.new.into c.self.invariant c.mark.ensures c.deref_mut.ensures.value
+    inside_written c.self.inside.shape c.self.inside.base c.self.inside.bytes c.self.inside.changed c.add_pages.new.changed start c.args.n
+    (start + c.args.n - start) _ c.take.new.into c.self.invariant c.add_pages.ensures c.deref_mut.ensures.value
     (c.take.auto.into ∙ length-part start c.args.n (start + c.args.n - start) c.deref_mut.result.now (omega arith) (omega arith) ∙ omega arith) (omega arith) within
 
 pub returns-clause-takes : goal.returns-clause-takes

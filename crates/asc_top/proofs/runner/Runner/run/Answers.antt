@@ -1,10 +1,10 @@
 -- How a run of a batch is served.
 use Rattle.std.proofs.Common.{◌+◌, sym, subst}
-use Rattle.asc_calls.specs.World.{faults, outside}
+use Rattle.asc_calls.specs.World.{outside_of}
 use Rattle.asc_find.specs.declared.guessing.Guessing.{Guessing}
 use Rattle.asc_live.specs.Crew.{WentBeside}
 use Rattle.asc_live.specs.declared.crew.Crew.{Crew}
-use Rattle.asc_words.specs.declared.answer.Outcome.{Outcome}
+use Rattle.asc_words.specs.declared.answer.Conclusion.{Conclusion}
 use Rattle.asc_top.specs.Numbers.{guessing_of}
 use Rattle.asc_top.specs.Workers.{crew_of}
 use Rattle.asc_top.specs.Ran.{WalkedBeside}
@@ -20,20 +20,18 @@ returns-in-Beside-clause-runs g c =
     let worked = c.go-worked.result in
     let told = c.counts.ensures in
     let serves = subst (λ (r : Runner g.row.T.Denot). Serves line (c.requires.serves.0 + 1) r) c.in-Beside.is c.requires.serves.1 in
-    let old = outside (g.I.Source.left c.args.input.now) (g.O.Sink.given c.args.out.now) (g.E.Sink.given c.args.err.now) c.args.steps.now
-    (faults (g.I.Source.faults c.args.input.now) (g.O.Sink.faults c.args.out.now) (g.E.Sink.faults c.args.err.now)) in
-    let new = outside (g.I.Source.left c.go-worked.new.input) (g.O.Sink.given c.go-worked.new.out) (g.E.Sink.given c.go-worked.new.err) c.go-worked.new.steps
-    (faults (g.I.Source.faults c.go-worked.new.input) (g.O.Sink.faults c.go-worked.new.out) (g.E.Sink.faults c.go-worked.new.err)) in
+    let old = outside_of c.args.devices.now c.args.steps.now in
+    let new = outside_of c.go-worked.new.devices c.go-worked.new.steps in
     let went : WentBeside (guessing_of line) (crew_of line) c.args.walk.now c.go-worked.new.walk old new worked =
     subst (λ (crew : Crew). WentBeside (guessing_of line) crew c.args.walk.now c.go-worked.new.walk old new worked) serves.2
     (subst (λ (guessing : Guessing). WentBeside guessing c.in-Beside.crew.crew c.args.walk.now c.go-worked.new.walk old new worked) serves.1 c.go-worked.ensures.went) in
-    let beside : WalkedBeside line c.args.walk.now c.go-worked.new.walk old new c.worked_outcome.result =
-    subst (λ (o : Outcome). WalkedBeside line c.args.walk.now c.go-worked.new.walk old new o) (sym c.worked_outcome.ensures)
-    (walked_beside line c.args.walk.now c.go-worked.new.walk old new worked c.counts.result went told.count told.executed told.skipped told.asked told.hits serves.0) in
+    let beside : WalkedBeside line c.args.walk.now c.go-worked.new.walk old new c.worked_conclusion.result =
+    subst (λ (o : Conclusion). WalkedBeside line c.args.walk.now c.go-worked.new.walk old new o) (sym c.worked_conclusion.ensures)
+    (walked_beside line c.args.walk.now c.go-worked.new.walk old new worked c.counts.result went c.count.ensures told.executed told.skipped told.asked told.hits serves.0) in
     record {
       first = beside.first;
       last = beside.last;
-      fresh = record { tally = beside.fresh.tally_is; made = beside.fresh.made; refused = beside.fresh.refused; full = beside.fresh.full };
+      fresh = record { jumps = beside.fresh.jumps_are; made = beside.fresh.made; refused = beside.fresh.refused; full = beside.fresh.full };
       walked = beside.walked;
       workers = beside.workers;
       help = subst (λ (r : Runner g.row.T.Denot). IsHelpOf r (Beside c.go-worked.new.self) beside.first beside.last) (sym c.in-Beside.is) tt;
