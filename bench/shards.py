@@ -30,7 +30,7 @@ sys.dont_write_bytecode = True
 
 import harness
 
-LINE = "asc_looks: asc_shard asc_traj asc_depvec asc_shape asc_model"
+LINE = "asc_looks: asc_shard asc_traj asc_depvec asc_shape asc_outside asc_model"
 SCAN, FIND, INSERT, MAKE = range(4)
 
 KINDS = ("one", "own", "same", "many", "some")

@@ -30,7 +30,7 @@ sys.dont_write_bytecode = True
 import harness
 from loops import addi, counted, loops, lui, lw, op, sw
 
-LINE = "asc_tracing: asc_traj asc_depvec asc_step asc_shape"
+LINE = "asc_tracing: asc_traj asc_depvec asc_step asc_shape asc_outside"
 
 def words_of_loops():
     """The names of the five loops, and the text of their words in the program."""

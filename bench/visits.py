@@ -22,7 +22,7 @@ def main():
     harness.asked(__doc__, 0, "--count")
     cost, unit, laps = (instructions, 1, 200) if "--count" in sys.argv else (seconds, 1e6, 20_000)
     with tempfile.TemporaryDirectory() as folder:
-        path = harness.build("asc_visiting: asc_run asc_step asc_find asc_shape", folder, "1 64 10 2")
+        path = harness.build("asc_visiting: asc_run asc_step asc_find asc_shape asc_outside", folder, "1 64 10 2")
         print("   KiB  steps of a lap  plain lap    visit")
         for turns in (10, 500):
             for size in (64, 1024, 65536):

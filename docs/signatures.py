@@ -17,7 +17,8 @@ MARKED = re.compile(r"(?<=<!-- list: docs/signatures\.py writes it -->\n).*?(?=^
 # The functions of each crate, and the methods of its types, in the order in which a program comes to them.
 NAMED = {
     "asc_elf": "read Image::shape Image::put Image::low Image::high",
-    "asc_shape": "State::new Steps::new Snapshot::of Guess::last",
+    "asc_outside": "Steps::new",
+    "asc_shape": "State::new Snapshot::of Guess::last",
     "asc_step": "step_until",
     "asc_depvec": "Tracer::new",
     "asc_traj": "Entry::traced Entry::matches Entry::put",

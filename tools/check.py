@@ -73,7 +73,10 @@ def rows_of(text, name):
 def options():
     """Each option of `asc run`, from its definition: its range or its words and its default, or what it takes. Those that
     `asc save` has too stand first; how many these are is also answered."""
+    limits = (ROOT / "crates/asc_model/src/limits.rt").read_text()
+    limit = dict(re.findall(r"^pub const (\w+): \w+ = (.*);$", limits, re.M))
     text = (ROOT / "crates/asc_words/specs/Command.antt").read_text()
+    text = re.sub(r"\b[A-Z]+_[A-Z_]+\b", lambda name: limit[name[0]].replace("_", ""), text)
     lines = (ROOT / "crates/asc_words/specs/Line.antt").read_text()
     workers = re.search(r"^workers_option = (.*)$", text, re.M)[1]
     shared, (first, *others) = rows_of(text, "shared_arguments"), rows_of(text, "run_arguments")

@@ -35,7 +35,7 @@ pub record ShardReader : Type 0 where
   pub seen : List Entry
 
 -- what a writer tells
-pub record Told : Type 0 where
+pub record Notice : Type 0 where
   pub shard : Book
   pub index : ℕ
   -- all stored insertions, as they then are
@@ -74,8 +74,8 @@ writer_left w Append = w
 writer_left w Publication = record w { refused = true }
 
 -- what a writer tells
-abbrev pub told_by : ShardWriter → Told
-told_by w = record { shard = w.shard; index = w.index; stored = w.stored }
+abbrev pub notice_of : ShardWriter → Notice
+notice_of w = record { shard = w.shard; index = w.index; stored = w.stored }
 
 -- the content that a reader has seen
 abbrev pub content_seen : ShardReader → List Entry

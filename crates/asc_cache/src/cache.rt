@@ -3,6 +3,7 @@ ghost use Rattle.asc_cache.specs.Cache.{AreOpened};
 
 use crate::readers::ShardReaders;
 use crate::writer::{ShardWriter, open_shard};
+use asc_model::MOST_WORKERS;
 use asc_outside::Memory;
 use asc_shard::MOST_CAPACITY;
 use std::alloc::Global;
@@ -28,7 +29,7 @@ impl<R: Wait + Copy> Cache<R> {
     /// A cache of so many shards that hold nothing, and may hold `capacity` entries each. All their room is reserved
     /// here.
     pub fn open(alloc: Global, rt: R, shards: usize, capacity: usize) -> Result<Cache<R>, Memory>
-        requires shards { (1 ≤ shards) × (shards ≤ 64) }
+        requires shards { (1 ≤ shards) × (shards ≤ MOST_WORKERS) }
         requires capacity { (1 ≤ capacity) × (capacity ≤ MOST_CAPACITY) }
         ensures opened { IfOk result (λ c. AreOpened shards capacity c.writers c.readers.readers) }
         ensures jumps { IfOk result (λ c. c.readers.jumps ≡ record { asked = 0; given = 0; hits = 0 }) }

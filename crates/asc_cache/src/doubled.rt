@@ -9,10 +9,10 @@ ghost use Rattle.asc_cache.specs.declared.instance.Operation.{Operation as opera
 
 use crate::instance::{Instance, Operation};
 use crate::log::{Front, Log, Note};
-use crate::reader::{ReadHandle, ShardReader, Told};
+use crate::reader::{Notice, ShardReader};
 use crate::sight::{Copies, Logged, Opens, Publishes, Sight};
 use asc_outside::Memory;
-use asc_shard::Shard;
+use asc_shard::{MOST_CAPACITY, Shard};
 use asc_traj::Entry;
 use core::mem::replace_with;
 use left_right::writer::Writer;
@@ -118,10 +118,10 @@ impl Doubled {
     }
 
     /// What is stored, for the reader of the shard of this number to learn.
-    pub fn tell(&self, index: usize) -> Told
+    pub fn tell(&self, index: usize) -> Notice
         ensures { result ≡ record { shard = self.now.shard; index = index; stored = self.now.stored } }
     {
-        Told::of(&self.told, self.notes, index)
+        Notice::of(&self.told, self.notes, index)
     }
 
     /// How many insertions are stored.
@@ -155,7 +155,7 @@ impl Doubled {
         rt: &R,
         capacity: usize,
     ) -> Result<(Doubled, ShardReader), Memory>
-        requires { (0 < capacity) × (capacity ≤ 4096) }
+        requires { (0 < capacity) × (capacity ≤ MOST_CAPACITY) }
         ensures doubled { IfOk result (λ d. d.0 ≡ empty_of d.0.shard capacity) }
         ensures reader { IfOk result (λ d. d.1 ≡ record { shard = d.0.shard; capacity = capacity; seen = [] }) }
     {
@@ -187,7 +187,7 @@ impl Doubled {
 
 // An instance of a shard that holds nothing.
 fn empty(alloc: Global, capacity: usize, log: &Log) -> Result<Instance, Memory>
-    requires { (0 < capacity) × (capacity ≤ 4096) × (log.now.whole.log ≡ []) }
+    requires { (0 < capacity) × (capacity ≤ MOST_CAPACITY) × (log.now.whole.log ≡ []) }
     ensures { IfOk result (λ x. (x.shard.held ≡ []) × (x.shard.capacity ≡ capacity) × (x.front ≡ log.now.whole)) }
 {
     Ok(Instance {

@@ -16,6 +16,6 @@ mod writer;
 
 pub use cache::Cache;
 pub use insert::{Insert, ListWriter};
-pub use reader::Told;
+pub use reader::Notice;
 pub use readers::ShardReaders;
 pub use writer::{Refused, ShardWriter};

@@ -21,7 +21,7 @@ pub(crate) type ReadHandle = Reader<Instance, Sight, Logged>;
 
 /// What a writer tells its reader: all insertions that are stored then.
 #[derive(Drop)]
-pub struct Told {
+pub struct Notice {
     // The log up to the note that they are stored, and how many notes that is.
     front: Front,
     notes: u64,
@@ -29,25 +29,25 @@ pub struct Told {
     index: usize,
 }
 
-impl Model for Told {
+impl Model for Notice {
     ghost use Rattle.std.specs.Prelude.{◌≡◌, length};
     ghost use Rattle.asc_cache.specs.History.{stored_in};
     ghost use Rattle.asc_cache.specs.Cache as model;
 
-    ghost Value = { model.Told };
+    ghost Value = { model.Notice };
 
     ghost view = { λ t. record { shard = t.front.book; index = t.index; stored = stored_in t.front.log } };
 
     ghost invariant = { λ t. length t.front.log ≡ t.notes };
 }
 
-impl Told {
+impl Notice {
     /// What a log of so many notes says is stored, of the shard of this number.
-    pub(crate) fn of(front: &Front, notes: u64, index: usize) -> Told
+    pub(crate) fn of(front: &Front, notes: u64, index: usize) -> Notice
         requires { length front.now.log ≡ notes }
         ensures { result ≡ record { shard = front.now.book; index = index; stored = stored_in front.now.log } }
     {
-        Told {
+        Notice {
             front: front.again(),
             notes,
             index,
@@ -195,7 +195,7 @@ impl ShardReader {
 
     /// Takes in what the writer told. From now on it sees no less. What is shown lacks the last note that was told: that
     /// the insertions are stored.
-    pub fn learn<R: Wait>(&mut self, rt: &R, told: Told)
+    pub fn learn<R: Wait>(&mut self, rt: &R, told: Notice)
         requires { told.shard ≡ self.old.shard }
         ensures later { IsLater self.old self.new }
         ensures told { IsPrefix told.stored self.new.seen }

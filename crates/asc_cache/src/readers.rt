@@ -6,7 +6,7 @@ ghost use Rattle.asc_find.specs.Finder.{Tells, bare_aid, jumps_after};
 ghost use Rattle.asc_shard.specs.Content.{IsContent};
 ghost use Rattle.asc_cache.specs.Cache.{ShardReader, AreLater, IsLater, IsOwnReader, content_seen, first_found, found_by};
 
-use crate::reader::{ShardReader, Told};
+use crate::reader::{Notice, ShardReader};
 use crate::writer::{Leaving, ShardWriter};
 use asc_find::Finder;
 use asc_shape::State;
@@ -127,7 +127,7 @@ impl<R: Wait + Drop> ShardReaders<R> {
 
     /// The reader of a shard takes in what its writer told: it waits until it has seen as much. From now on it sees no
     /// less.
-    pub fn learn(&mut self, told: Told)
+    pub fn learn(&mut self, told: Notice)
         requires there { told.index < length self.old.readers }
         requires shard { (d : ShardReader) → told.shard ≡ (slice_index_or self.old.readers told.index d).shard }
         ensures told { (d : ShardReader) → IsPrefix told.stored (slice_index_or self.new.readers told.index d).seen }

@@ -1,13 +1,13 @@
 ghost use Rattle.std.specs.Prelude.{◌≡◌, ◌<◌, ◌≤◌, true, false, length, Err, IfOk, IfErr, OnErr};
 ghost use Rattle.std.specs.Arc.{arc_value};
-ghost use Rattle.asc_shard.specs.Content.{outcome_of, IsContent};
-ghost use Rattle.asc_cache.specs.Cache.{IsOpened, shard_of, told_by, writer_after, writer_left};
+ghost use Rattle.asc_shard.specs.Content.{inserted_in, IsContent};
+ghost use Rattle.asc_cache.specs.Cache.{IsOpened, shard_of, notice_of, writer_after, writer_left};
 ghost use Rattle.asc_cache.specs.declared.writer.Refused.TheVariants.{Publication};
 
 use crate::doubled::Doubled;
-use crate::reader::{ShardReader, Told};
+use crate::reader::{Notice, ShardReader};
 use asc_outside::Memory;
-use asc_shard::Inserted;
+use asc_shard::{Inserted, MOST_CAPACITY};
 use asc_traj::Entry;
 use std::alloc::Global;
 use std::marker::Model;
@@ -70,7 +70,7 @@ impl<R: Wait + Drop> ShardWriter<R> {
     /// stored: if it was wanting before the entry was appended, all stands as before, and the next insertion is tried. If
     /// it was wanting for the publication, the entry is pending, and this writer answers `Memory` from then on.
     pub fn insert(&mut self, entry: Arc<Entry, Global>) -> Result<Inserted, Memory>
-        ensures outcome { IfOk result (λ i. i ≡ outcome_of (shard_of self.old).held (arc_value entry)) }
+        ensures answer { IfOk result (λ i. i ≡ inserted_in (shard_of self.old).held (arc_value entry)) }
         ensures stored { IfOk result (λ i. self.new ≡ writer_after self.old i (arc_value entry)) }
         ensures refused { IfOk result (λ _. self.old.refused ≡ false) }
         ensures memory { OnErr result (self.new ≡ record self.old { refused = self.new.refused }) }
@@ -84,7 +84,7 @@ impl<R: Wait + Drop> ShardWriter<R> {
 
     /// As `insert`, and where memory is wanting it says for which call.
     pub fn try_insert(&mut self, entry: Arc<Entry, Global>) -> Result<Inserted, Refused>
-        ensures outcome { IfOk result (λ i. i ≡ outcome_of (shard_of self.old).held (arc_value entry)) }
+        ensures answer { IfOk result (λ i. i ≡ inserted_in (shard_of self.old).held (arc_value entry)) }
         ensures stored { IfOk result (λ i. self.new ≡ writer_after self.old i (arc_value entry)) }
         ensures left { IfErr result (λ refused. self.new ≡ writer_left self.old refused) }
         ensures ended { self.old.refused ≡ true → result ≡ Err Publication }
@@ -105,8 +105,8 @@ impl<R: Wait + Drop> ShardWriter<R> {
     }
 
     /// What has been stored, for the shard's reader to learn.
-    pub fn tell(&self) -> Told
-        ensures { result ≡ told_by self.now }
+    pub fn tell(&self) -> Notice
+        ensures { result ≡ notice_of self.now }
     {
         self.doubled.tell(self.index)
     }
@@ -154,7 +154,7 @@ pub(crate) fn open_shard<R: Wait + Copy>(
     index: usize,
     capacity: usize,
 ) -> Result<(ShardWriter<R>, ShardReader, Leaving<R>), Memory>
-    requires { (0 < capacity) × (capacity ≤ 4096) }
+    requires { (0 < capacity) × (capacity ≤ MOST_CAPACITY) }
     ensures { IfOk result (λ r. IsOpened capacity index r.0 r.1) }
 {
     let leaving = Arc::new(alloc, Mutex::new(None))?;

@@ -78,8 +78,12 @@ outside left out err steps faults = record {
   faults = faults;
 }
 
+-- what devices tell, with a counter at so many steps
+abbrev pub outside_with : Told → (steps : ℕ) → Outside
+outside_with t steps = outside t.left t.out t.err steps t.faults
+
 abbrev pub outside_of : {I O E : Type 0} → Devices I O E → (steps : ℕ) → Outside
-outside_of d steps = outside d.told.left d.told.out d.told.err steps d.told.faults
+outside_of d steps = outside_with d.told steps
 
 pub record World : Type 0 where
   pub state : State

@@ -8,8 +8,8 @@ ghost use Rattle.asc_calls.specs.Serving.{Serves, failed_in};
 
 use crate::Devices;
 use crate::filling::fill;
-use asc_outside::{Failed, Sink, Source, put_all};
-use asc_shape::{State, Steps};
+use asc_outside::{Failed, Sink, Source, Steps, put_all};
+use asc_shape::State;
 use std::marker::Model;
 use std::sync::ledger::Ledger;
 

@@ -1,8 +1,10 @@
 //! A program's devices.
-ghost use Rattle.std.specs.Prelude.{◌≡◌};
+ghost use Rattle.std.specs.Prelude.{◌≡◌, [], Some};
+ghost use Rattle.asc_outside.specs.Lists.{given_number};
 ghost use Rattle.asc_calls.specs.World.{faults, with_input, with_out};
 
-use asc_outside::{Sink, Source};
+use asc_outside::{CountSink, Sink, Source, SureSource};
+use std::alloc::Global;
 use std::marker::Model;
 
 /// A program's devices: its input, which is file 0, its output, which is file 1, and its error output, which is file 2.
@@ -80,6 +82,7 @@ impl<I: Source, O: Sink, E: Sink> Devices<I, O, E> {
     pub fn out(&self) -> &O
         ensures out { result.now ≡ self.now.out }
         ensures told { self.now.told.out ≡ O.given result.now }
+        ensures faults { self.now.told.faults.out ≡ O.faults result.now }
     {
         &self.out
     }
@@ -88,6 +91,7 @@ impl<I: Source, O: Sink, E: Sink> Devices<I, O, E> {
     pub fn err(&self) -> &E
         ensures err { result.now ≡ self.now.err }
         ensures told { self.now.told.err ≡ E.given result.now }
+        ensures faults { self.now.told.faults.err ≡ E.faults result.now }
     {
         &self.err
     }
@@ -110,4 +114,17 @@ impl<I: Source, O: Sink, E: Sink> Devices<I, O, E> {
     {
         std::mem::swap(&mut self.input, input);
     }
+}
+
+/// Devices that have no input, and count what they are given.
+pub fn no_devices(alloc: Global) -> Devices<SureSource, CountSink, CountSink>
+    ensures { result ≡ record {
+      input = [];
+      out = 0;
+      err = 0;
+      told = record { left = Some []; out = given_number 0; err = given_number 0; faults = faults 0 0 0 };
+    } }
+{
+    let input = SureSource::new(Vec::new(alloc));
+    Devices::new(input, CountSink::new(), CountSink::new())
 }

@@ -4,8 +4,6 @@
 mod calls;
 mod devices;
 mod filling;
-#[cfg(test)]
-mod tests;
 
 pub use calls::{Calls, Served};
-pub use devices::Devices;
+pub use devices::{Devices, no_devices};

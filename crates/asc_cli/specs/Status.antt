@@ -5,7 +5,7 @@ use Rattle.std.specs.declared.string.String.{String}
 use Rattle.std.specs.declared.vec.IntoIter.{IntoIter}
 use Rattle.asc_calls.specs.World.{outside, faults}
 use Rattle.asc_streams.specs.Told.{untold}
-use Rattle.asc_top.specs.Answer.{code_of, conclusion_of}
+use Rattle.asc_words.specs.Answer.{code_of, conclusion_of}
 use Rattle.asc_top.specs.Answered.{Surroundings, around}
 use Rattle.asc_top.specs.Reported.{Report, IsReported, report_with}
 use Rattle.asc_top.specs.Shown.{IsShownFor}

@@ -5,15 +5,14 @@ ghost use Rattle.std.specs.Prelude.{◌≡◌, ◌<◌, map};
 ghost use Rattle.std.specs.Process.{exit_status};
 ghost use Rattle.std.specs.String.{string_bytes};
 ghost use Rattle.asc_calls.specs.World.{outside_of};
-ghost use Rattle.asc_top.specs.Answer.{conclusion_of};
+ghost use Rattle.asc_words.specs.Answer.{conclusion_of};
 ghost use Rattle.asc_words.specs.Answer.{refusal_of};
 ghost use Rattle.asc_top.specs.Answered.{around};
 ghost use Rattle.asc_top.specs.Reported.{report_with};
 ghost use Rattle.asc_cli.specs.Status.{IsStatus, IsStatusFor, IsStatusOf, IsStatusOver};
 
 use asc_calls::Devices;
-use asc_outside::{Gate, Open, Sink, Source, Store};
-use asc_shape::Steps;
+use asc_outside::{Gate, Open, Sink, Source, Steps, Store};
 use asc_streams::{FileStore, StreamSink, StreamSource};
 use asc_top::{reported, top};
 use asc_words::{Answer, Conclusion, LineFault, given_words};

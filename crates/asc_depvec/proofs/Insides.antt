@@ -6,6 +6,7 @@ use Rattle.std.specs.Global.{Vec}
 use Rattle.std.proofs.lemmas.List.{get_or-map, get_or_read, length-map, length-replicate, map-set, set-get_or, with_items_is, take-append-drop}
 use Rattle.std.proofs.lemmas.Bool.{false≢true, lt-ltb}
 use Rattle.std.proofs.lemmas.List.Elements.{All-cons, All-nil}
+use Rattle.asc_depvec.specs.declared.tracer.TheConstants.{MOST_CAP}
 use Rattle.asc_model.specs.declared.status.Status.{Status}
 use Rattle.asc_model.specs.declared.status.Status.TheVariants.{Untouched, Read, Written, ReadWritten}
 use Rattle.asc_model.specs.Number.{AreBytes, bytes_of, word_at}
@@ -23,7 +24,7 @@ use Rattle.asc_shape.proofs.Guesses.{bytes_at, bytes_of-number_at}
 use Rattle.asc_shape.proofs.Strides.{word_same}
 use Rattle.asc_depvec.specs.declared.tracer.Tracer.TheInside.{Inside}
 use Rattle.asc_depvec.specs.Touched.{Listing}
-use Rattle.asc_depvec.specs.Tracer.{HaveStatus, IsTracing, Tracing, cap_of, face_of, fresh, most_cap, places_of, start_of_face, undone}
+use Rattle.asc_depvec.specs.Tracer.{HaveStatus, IsTracing, Tracing, cap_of, face_of, fresh, places_of, start_of_face, undone}
 use Rattle.asc_depvec.specs.Inside.{AreWritten, IsTracer, Keeps, TellAmong, TellNoMore, TellSettled, given, is_kept, marked, mixed, noted, settled_mark, status_of, statuses_of, tracing_of, with_statuses, without}
 use Rattle.asc_depvec.proofs.Fresh.{Fits-fresh, status_at-replicate, statuses-replicate, untouch-all}
 use Rattle.asc_depvec.proofs.Items.{All-behind, item_of_place, item_of_word, places_of-more}
@@ -557,7 +558,7 @@ IsTracer-fresh t start bytes held marks touched word inv good own read is_held s
     }
 
 -- fields that were made anew
-pub IsTracer-new : (shape : Shape) (cap : ℕ) (start : State) (bytes marks : Vec ℕ) (touched : Listing) (blocks groups used : Vec ℕ) → cap ≤ most_cap → IsState start → start ≡ zero_state shape
+pub IsTracer-new : (shape : Shape) (cap : ℕ) (start : State) (bytes marks : Vec ℕ) (touched : Listing) (blocks groups used : Vec ℕ) → cap ≤ MOST_CAP → IsState start → start ≡ zero_state shape
     → bytes.items ≡ replicate (length_of shape) 0 → marks.items ≡ replicate (length_of shape) 3 → touched.items ≡ [] → touched.cap ≡ cap
     → blocks.items ≡ replicate (64 * (length_of shape / 16384 + 1)) 0 → groups.items ≡ replicate (length_of shape / 16384 + 1) 0
     → used.items ≡ [] → length_of shape / 16384 + 1 ≤ vec_capacity used

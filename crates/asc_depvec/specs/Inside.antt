@@ -1,6 +1,7 @@
 -- How a tracer's fields stand for a tracer, and words of private contracts.
 use Rattle.std.specs.Prelude.{◌≡◌, ℕ, zero, suc, ◌+◌, ◌*◌, ◌/◌, ◌%◌, ◌^◌, ◌<◌, ◌≤◌, Bool, true, false, ◌==◌, ◌&&◌, ◌||◌, nat_lt, List, [], ◌∷◌, length, map, slice_index, slice_set, All, vec_capacity, if◌then◌else◌}
 use Rattle.std.specs.Int.{bit_at}
+use Rattle.asc_depvec.specs.declared.tracer.TheConstants.{MOST_CAP}
 use Rattle.asc_model.specs.declared.status.Status.{Status}
 use Rattle.asc_model.specs.declared.status.Status.TheVariants.{Untouched, Read, Written, ReadWritten}
 use Rattle.asc_model.specs.Shape.{length_of}
@@ -9,7 +10,7 @@ use Rattle.asc_model.specs.DependencyVector.{is_among}
 use Rattle.asc_shape.specs.Face.{Face, Told, FitPlaces, status_at, is_untouched, status_after_write}
 use Rattle.asc_shape.specs.Settled.{IsSettled}
 use Rattle.asc_depvec.specs.declared.tracer.Tracer.TheInside.{Inside}
-use Rattle.asc_depvec.specs.Tracer.{Tracing, face_of, most_cap, places_of}
+use Rattle.asc_depvec.specs.Tracer.{Tracing, face_of, places_of}
 
 -- the mark of a place of a settled word of code, which was only read
 abbrev pub settled_mark : ℕ
@@ -82,7 +83,7 @@ marked marks place mark =
     slice_set (slice_set (slice_set (slice_set marks place mark) (place + 1) mark) (place + 2) mark) (place + 3) mark
 
 pub record IsTracer (t : Inside) : Type 0 where
-  pub cap : t.cap ≤ most_cap
+  pub cap : t.cap ≤ MOST_CAP
   pub own : t.start.shape ≡ t.shape
   pub start : IsState t.start
   pub size : length t.bytes.items ≡ length_of t.shape

@@ -1,12 +1,12 @@
 -- What a tracer is to contracts: a state that tells how each of its places was touched.
 use Rattle.std.specs.List.{list_any}
 use Rattle.std.specs.Prelude.{◌≡◌, ℕ, ◌+◌, ◌*◌, ◌/◌, ◌%◌, ◌<◌, ◌≤◌, ◌==◌, Bool, not, filter, List, [], ◌∷◌, ◌++◌, length, take, drop, replicate, slice_set, if◌then◌else◌}
+use Rattle.asc_depvec.specs.declared.tracer.TheConstants.{MOST_CAP}
 use Rattle.asc_model.specs.declared.status.Status.{Status}
 use Rattle.asc_model.specs.declared.status.Status.TheVariants.{Untouched}
 use Rattle.asc_model.specs.Shape.{Shape, length_of, is_same_shape}
 use Rattle.asc_model.specs.State.{State}
 use Rattle.asc_model.specs.Places.{bytes_after, places_from}
-use Rattle.asc_model.specs.Reach.{step_room}
 use Rattle.asc_shape.specs.Face.{Face, Marks, Untold, Told, is_untouched, status_at}
 
 -- The shape that it was made with, at most how many places may be touched, the state, the status of each place of it,
@@ -18,16 +18,9 @@ pub record Tracing : Type 0 where
   pub statuses : List Status
   pub touched : List (ℕ × ℕ)
 
--- the least and the greatest number of places that a tracer may be made to touch: room for a step, and 64 Ki
-abbrev pub least_cap : ℕ
-least_cap = step_room
-
-abbrev pub most_cap : ℕ
-most_cap = 65536
-
 -- What holds of every tracer: no more is touched than may be, and the state is of the tracer's shape.
 pub record IsTracing (t : Tracing) : Type 0 where
-  pub cap : t.cap ≤ most_cap
+  pub cap : t.cap ≤ MOST_CAP
   pub room : length t.touched ≤ t.cap
   pub own : 0 < length t.touched → t.state.shape ≡ t.shape
   pub same : t.state.shape ≡ t.shape

@@ -1,10 +1,10 @@
 -- Memory of a tracer that is taken and not filled yet.
 use Rattle.std.specs.Prelude.{◌≡◌, ℕ, ◌+◌, ◌/◌, ◌*◌, ◌≤◌, [], length, replicate, vec_capacity}
+use Rattle.asc_depvec.specs.declared.tracer.TheConstants.{MOST_CAP}
 use Rattle.asc_model.specs.Shape.{Shape, length_of}
 use Rattle.asc_model.specs.State.{IsState}
 use Rattle.asc_shape.specs.State.{zero_state}
 use Rattle.asc_depvec.specs.declared.unfilled.Unfilled.TheInside.{Inside}
-use Rattle.asc_depvec.specs.Tracer.{most_cap}
 
 -- The shape of the tracer's state, at most how many places it may touch, and for how many places its memory is filled.
 pub record Filling : Type 0 where
@@ -21,7 +21,7 @@ filling_of u = record { shape = u.shape; cap = u.cap; filled = length u.bytes.it
 
 -- Bytes and marks are filled alike, and there is room for those of all places.
 pub record IsUnfilled (u : Inside) : Type 0 where
-  pub cap : u.cap ≤ most_cap
+  pub cap : u.cap ≤ MOST_CAP
   pub state : IsState u.start
   pub start : u.start ≡ zero_state u.shape
   pub most : length u.bytes.items ≤ length_of u.shape

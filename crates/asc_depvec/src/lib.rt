@@ -11,5 +11,5 @@ pub use bitmap::Block;
 pub use laws::{
     limits_stay, no_statuses, reads_are_undone, starts_are_told, starts_stay, statuses_follow,
 };
-pub use tracer::{LEAST_CAP, MOST_CAP, Tracer};
+pub use tracer::{MOST_CAP, Tracer};
 pub use unfilled::{PIECE, Unfilled};

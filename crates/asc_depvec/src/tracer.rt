@@ -9,22 +9,19 @@ ghost use Rattle.asc_model.specs.State.{IsState};
 ghost use Rattle.asc_shape.specs.Face.{Told, status_at, is_untouched, status_after_read, status_after_write, face_after_read, face_after_reads, face_after_puts, untouched_count, room_of};
 ghost use Rattle.asc_shape.specs.State.{zero_state};
 ghost use Rattle.asc_depvec.specs.Bits.{words_of_blocks};
-ghost use Rattle.asc_depvec.specs.Tracer.{HaveStatus, IsTracing, least_cap, most_cap, face_of, fresh, undone, places_of, places_of_item, start_of_face, touched_words};
+ghost use Rattle.asc_depvec.specs.Tracer.{HaveStatus, IsTracing, face_of, fresh, undone, places_of, places_of_item, start_of_face, touched_words};
 ghost use Rattle.asc_depvec.specs.Inside.{AreWritten, HaveMark, TellAmong, TellNoMore, given, marked, settled_mark, status_of, statuses_of, with_statuses, without};
 
 use crate::bitmap::{Block, set_items, take_blocks};
 use crate::touched::Touched;
 use crate::unfilled::Unfilled;
-use asc_model::Status;
+use asc_model::{STEP_ROOM, Status};
 use asc_outside::Memory;
 use asc_shape::{Bytes, Guess, Shape, Words, get_by_bytes, put_by_bytes};
 use std::alloc::Global;
 use std::marker::Model;
 
-/// The least number of places that a tracer may be made to touch: room for a step.
-pub const LEAST_CAP: usize = 32;
-
-/// The greatest number of places that a tracer may be made to touch: 64 Ki.
+/// The greatest number of places that a tracer may be made to touch: 64 Ki. The least is `asc_model::STEP_ROOM`.
 pub const MOST_CAP: usize = 65_536;
 
 /// A state that tells how each of its places was touched, and what byte each touched place held before.
@@ -65,11 +62,11 @@ impl Model for Tracer {
 }
 
 impl Tracer {
-    /// A tracer of the state of this shape whose bytes are all 0, with room for `cap` touched places, from `LEAST_CAP`
+    /// A tracer of the state of this shape whose bytes are all 0, with room for `cap` touched places, from `STEP_ROOM`
     /// to `MOST_CAP`. Memory for all of them is taken and filled here.
     pub fn new(alloc: Global, shape: Shape, cap: usize) -> Result<Tracer, Memory>
-        requires least { least_cap ≤ cap }
-        requires most { cap ≤ most_cap }
+        requires least { STEP_ROOM ≤ cap }
+        requires most { cap ≤ MOST_CAP }
         ensures { IfOk result (λ t. t ≡ fresh shape cap (zero_state shape)) }
     {
         Ok(Unfilled::new(alloc, shape, cap)?.into_tracer())

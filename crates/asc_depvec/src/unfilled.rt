@@ -1,11 +1,12 @@
 ghost use Rattle.std.specs.Prelude.{◌≡◌, ℕ, ◌+◌, ◌^◌, ◌==◌, ◌≤◌, [], IfOk, length, min, replicate, vec_capacity};
 ghost use Rattle.asc_model.specs.Shape.{length_of};
 ghost use Rattle.asc_shape.specs.State.{zero_state};
-ghost use Rattle.asc_depvec.specs.Tracer.{least_cap, most_cap, fresh};
+ghost use Rattle.asc_depvec.specs.Tracer.{fresh};
 ghost use Rattle.asc_depvec.specs.Unfilled.{piece};
 
 use crate::touched::Touched;
-use crate::tracer::{Tracer, UNTOUCHED};
+use crate::tracer::{MOST_CAP, Tracer, UNTOUCHED};
+use asc_model::STEP_ROOM;
 use asc_outside::Memory;
 use asc_shape::{Guess, Shape, Snapshot};
 use std::alloc::Global;
@@ -46,11 +47,11 @@ impl Model for Unfilled {
 }
 
 impl Unfilled {
-    /// Takes all memory of a tracer of a state of this shape, with room for `cap` touched places, from `LEAST_CAP` to
+    /// Takes all memory of a tracer of a state of this shape, with room for `cap` touched places, from `STEP_ROOM` to
     /// `MOST_CAP`. Nothing of it is filled that grows with the shape, but for a bit for each 256 places.
     pub fn new(alloc: Global, shape: Shape, cap: usize) -> Result<Unfilled, Memory>
-        requires least { least_cap ≤ cap }
-        requires most { cap ≤ most_cap }
+        requires least { STEP_ROOM ≤ cap }
+        requires most { cap ≤ MOST_CAP }
         ensures shape { IfOk result (λ u. u.shape ≡ shape) }
         ensures cap { IfOk result (λ u. u.cap ≡ cap) }
         ensures filled { IfOk result (λ u. u.filled ≡ 0) }

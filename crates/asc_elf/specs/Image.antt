@@ -2,9 +2,10 @@
 -- and 5; RISC-V ELF psABI, chapter "ELF Object Files").
 use Rattle.std.specs.Prelude.{ℕ, ◌+◌, ◌-◌, ◌*◌, ◌/◌, ◌%◌, ◌^◌, min, max, nat_eq, Bool, not, ◌==◌, ◌&&◌, ◌||◌, nat_lt, List, [], ◌∷◌, ◌++◌, length, take, drop, replicate, position, Option, Some, None, is_some, unwrap_or, Result, Ok, Err, if◌then◌else◌}
 use Rattle.std.specs.List.{flat_map, list_any, starts_with}
+use Rattle.asc_model.specs.declared.limits.TheConstants.{PAGE_SIZE}
 use Rattle.asc_model.specs.declared.version.Version.{Version}
 use Rattle.asc_model.specs.Case.{Case, ◌if◌, first_fault}
-use Rattle.asc_model.specs.Shape.{Shape, page_size, holds}
+use Rattle.asc_model.specs.Shape.{Shape, holds}
 use Rattle.asc_model.specs.State.{State}
 use Rattle.asc_model.specs.Machine.{Change, Pc, Register, Memory}
 use Rattle.asc_shape.specs.State.{zero_state, state_after_all}
@@ -70,7 +71,7 @@ highest_end (first ∷ rest) = max (first.p_vaddr + first.p_memsz) (highest_end 
 
 -- memory begins at the page of the lowest segment
 abbrev pub base_of : List ℕ → ℕ
-base_of file = let low = lowest_address (segments file) in low - low % page_size
+base_of file = let low = lowest_address (segments file) in low - low % PAGE_SIZE
 
 abbrev pub shape_for : List ℕ → ℕ → Version → Shape
 shape_for file size version = record { base = base_of file; size = size; version = version }

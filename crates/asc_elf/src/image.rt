@@ -7,8 +7,8 @@ use crate::ElfFault;
 use crate::cases::{header_fault, segment_fault, table_fault};
 use crate::file::e_entry;
 use crate::segment::{highest, lowest, put_segments};
-use asc_model::Version;
-use asc_shape::{PAGE_SIZE, Shape, State};
+use asc_model::{PAGE_SIZE, Version};
+use asc_shape::{Shape, State};
 use std::marker::Model;
 
 /// The bytes from the first stack pointer to the end of memory.

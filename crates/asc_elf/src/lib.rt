@@ -12,6 +12,3 @@ mod table;
 pub use fault::ElfFault;
 pub use image::{Image, read};
 pub use laws::a_prefix_of_an_image;
-
-#[cfg(test)]
-mod tests;

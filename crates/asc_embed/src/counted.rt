@@ -6,7 +6,9 @@ use asc_shape::{Bytes, Shape, State, Words};
 /// A state that counts the bytes that are put. The count stops at 2^64 - 1.
 #[derive(Drop)]
 pub struct Counted {
+    /// The state.
     pub state: State,
+    /// How many bytes were put.
     pub puts: u64,
 }
 

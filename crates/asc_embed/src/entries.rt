@@ -7,6 +7,7 @@ ghost use Rattle.asc_model.specs.Plain.{plain};
 ghost use Rattle.asc_model.specs.Step.{Went};
 
 use asc_depvec::Tracer;
+use asc_model::MOST_PLACES;
 use asc_outside::Memory;
 use asc_shape::{Guess, Snapshot, State};
 use asc_traj::{Entry, Made, Never, Stop};
@@ -14,7 +15,7 @@ use std::alloc::Global;
 use std::sync::Arc;
 
 /// The most entries that `keep` keeps.
-pub const MOST_ENTRIES: usize = 64;
+pub const MOST_KEPT: usize = 64;
 
 /// The entry of the steps from a state to where `stop` ends them, or none where no step goes on.
 pub fn entry_from(alloc: Global, state: &State, stop: &Stop) -> Result<Option<Arc<Entry>>, Memory>
@@ -23,7 +24,7 @@ pub fn entry_from(alloc: Global, state: &State, stop: &Stop) -> Result<Option<Ar
     ensures { IfOk result (λ found. IfSome found
         (λ entry. entry_of (arc_value entry).steps state.now ≡ Some (arc_value entry))) }
 {
-    let mut tracer = Tracer::new(alloc, state.shape(), 4096)?;
+    let mut tracer = Tracer::new(alloc, state.shape(), MOST_PLACES)?;
     let guess = Guess::last(Snapshot::of(alloc, state)?);
     match Entry::traced(alloc, &mut tracer, guess, stop, &mut Never) {
         Made::One(entry) => Ok(Some(entry)),
@@ -44,9 +45,9 @@ pub fn keep(
     ensures old { take (vec_len entries.old) entries.new.items ≡ entries.old.items }
     ensures new { All (λ held. let entry : model.Entry = arc_value held in entry_of entry.steps state.now ≡ Some entry)
         (drop (vec_len entries.old) entries.new.items) }
-    ensures most { vec_len entries.old ≤ MOST_ENTRIES → vec_len entries.new ≤ MOST_ENTRIES }
+    ensures most { vec_len entries.old ≤ MOST_KEPT → vec_len entries.new ≤ MOST_KEPT }
 {
-    if entries.len() < MOST_ENTRIES {
+    if entries.len() < MOST_KEPT {
         if let Some(entry) = entry_from(alloc, state, stop)? {
             entries.push(entry)?;
         }

@@ -16,12 +16,12 @@ mod entries;
 mod tests;
 mod walk;
 
-use crate::walk::{MOST_STEPS, walk};
+use crate::walk::walk;
 use asc_calls::{Calls, Devices, Served};
 use asc_elf::read;
-use asc_model::Version;
-use asc_outside::{Memory, Sink, Source};
-use asc_shape::{State, Steps};
+use asc_model::{MOST_STEPS, Version};
+use asc_outside::{Memory, Sink, Source, Steps};
+use asc_shape::State;
 use asc_step::Stepped;
 use asc_streams::{StreamSink, StreamSource};
 use asc_traj::{Entry, Stop};

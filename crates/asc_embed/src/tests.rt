@@ -6,11 +6,11 @@ ghost use Rattle.asc_model.specs.Entry.{IsTrueEntry};
 use crate::counted::Counted;
 use crate::entries::{entry_from, jump, keep};
 use crate::walk::{Walked, walk};
-use asc_outside::Memory;
-use asc_shape::{Shape, State, Steps};
+use asc_outside::{Memory, Steps};
+use asc_shape::{Shape, State};
 use asc_step::{Stepped, step_many, try_step};
 use asc_traj::{Entry, Stop, cells_of};
-use std::alloc::Global;
+use std::alloc::{AllocError, Global};
 use std::marker::Brand;
 use std::process::Abort;
 use std::sync::Arc;
@@ -134,6 +134,29 @@ fn check_same<R: Abort>(rt: &R, a: &State, b: &State) {
     assert!(rt; a.mem(0x10000, 0x10000) == b.mem(0x10000, 0x10000));
 }
 
+/// Looks at what an entry reads, and at what it writes: the pc, and x5.
+fn check_cells<R: Abort>(rt: &R, alloc: Global, entry: &Entry, x5: u8) -> Result<(), AllocError> {
+    assert_eq!(rt;
+        cells_of(alloc, entry.reads())?.as_slice(),
+        READS.as_slice()
+    );
+    let writes = [
+        (0, 0x08),
+        (1, 0x00),
+        (2, 0x01),
+        (3, 0x00),
+        (20, x5),
+        (21, 0),
+        (22, 0),
+        (23, 0),
+    ];
+    assert_eq!(rt;
+        cells_of(alloc, entry.writes())?.as_slice(),
+        writes.as_slice()
+    );
+    Ok(())
+}
+
 #[test]
 fn walks(rt: HostRuntime) {
     let mut state = looping(&rt, rt.alloc());
@@ -160,24 +183,7 @@ fn jumps(rt: HostRuntime) -> Result<(), Fail> {
         let found = entry_from(alloc, &start, &stop).expect(&rt, "memory");
         let entry = found.expect(&rt, "an entry");
         assert_eq!(rt; (entry.shape(), entry.steps()), (start.shape(), steps));
-        assert_eq!(rt;
-            cells_of(alloc, entry.reads())?.as_slice(),
-            READS.as_slice()
-        );
-        let writes = [
-            (0, 0x08),
-            (1, 0x00),
-            (2, 0x01),
-            (3, 0x00),
-            (20, x5),
-            (21, 0),
-            (22, 0),
-            (23, 0),
-        ];
-        assert_eq!(rt;
-            cells_of(alloc, entry.writes())?.as_slice(),
-            writes.as_slice()
-        );
+        check_cells(&rt, alloc, &entry, x5)?;
         entries.push(entry)?;
     }
     assert!(rt; entries.len() == 2);

@@ -5,16 +5,14 @@ ghost use Rattle.asc_model.specs.Step.{Went, next};
 ghost use Rattle.asc_step.specs.Step.{stepped_of};
 
 use crate::entries::{jump, keep};
-use asc_outside::Memory;
-use asc_shape::{State, Steps};
+use asc_model::MOST_STEPS;
+use asc_outside::{Memory, Steps};
+use asc_shape::State;
 use asc_step::{Stepped, step_until};
 use asc_traj::{Entry, Stop};
 use std::alloc::Global;
 use std::sync::Arc;
 use std::sync::ledger::Ledger;
-
-/// The most steps of a walk. Each function has to return, so a loop over visits has this bound too.
-pub const MOST_STEPS: u64 = 1 << 40;
 
 /// What a walk did, and how it ended.
 #[derive(Clone, Copy, Debug, PartialEq, Eq)]
@@ -45,6 +43,7 @@ pub fn walk<L: Ledger>(
 {
     let mut executed = 0;
     let mut jumped: u64 = 0;
+    // Each function has to return, so the visits have a bound too.
     for _visit in 0..MOST_STEPS {
         if state.pc() == stop.pc {
             match jump(entries.as_slice(), state) {

@@ -1,16 +1,17 @@
 -- What a helper is told at a visit, and what it makes of it.
 use Rattle.std.specs.Prelude.{◌≡◌, ℕ, ◌+◌, ◌*◌, ◌≤◌, ◌==◌, nat_lt, length, Some, if◌then◌else◌}
+use Rattle.asc_model.specs.declared.limits.TheConstants.{MOST_GUESSES}
 use Rattle.asc_model.specs.State.{State}
 use Rattle.asc_find.specs.declared.guessing.Guessing.{Guessing}
 use Rattle.asc_find.specs.Finder.{Aid, Plan, Seen}
 use Rattle.asc_find.specs.Serial.{Serial, kinds_of, visited, made_at}
 
--- Guesses made, and those that found no room or were not offered, never fall, and together rise by at most 128 a visit.
+-- Guesses made, and those that found no room or were not offered, never fall, and together rise by at most MOST_GUESSES a visit.
 -- Refusals never fall. The queue stays.
 pub record Plans (visits : ℕ) (old new : Plan) : Type 0 where
   pub made : old.made ≤ new.made
   pub full : old.full ≤ new.full
-  pub few : new.made + new.full ≤ old.made + old.full + 128 * visits
+  pub few : new.made + new.full ≤ old.made + old.full + MOST_GUESSES * visits
   pub refused : old.refused ≤ new.refused
   pub queue : new.queue ≡ old.queue
 

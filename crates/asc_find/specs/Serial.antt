@@ -2,6 +2,7 @@
 use Rattle.std.specs.Prelude.{ℕ, zero, suc, ◌+◌, ◌-◌, Bool, not, ◌&&◌, List, [], ◌∷◌, ◌++◌, map, length, take, fold, Option, Some, None, if◌then◌else◌}
 use Rattle.std.specs.List.{flat_map, list_any}
 use Rattle.std.specs.Option.{option_or}
+use Rattle.asc_model.specs.declared.limits.TheConstants.{MOST_ENTRIES}
 use Rattle.asc_model.specs.Shape.{Shape}
 use Rattle.asc_model.specs.State.{State}
 use Rattle.asc_model.specs.Machine.{view_of}
@@ -10,12 +11,11 @@ use Rattle.asc_model.specs.Join.{join_of}
 use Rattle.asc_model.specs.Reach.{Bounds, reach_of}
 use Rattle.asc_guess.specs.declared.kind.Kind.{Kind}
 use Rattle.asc_guess.specs.declared.kind.Kind.TheVariants.{Last, Stride}
-use Rattle.asc_guess.specs.Guess.{guess_of, targets_of}
+use Rattle.asc_guess.specs.Guess.{guess_of, targets_of, Task}
 use Rattle.asc_find.specs.declared.guessing.Guessing.{Guessing}
 use Rattle.asc_traj.specs.Content.{longest}
 use Rattle.asc_traj.specs.Trace.{guess_bounds}
 use Rattle.asc_shard.specs.Content.{add, is_same_entry}
-use Rattle.asc_shard.specs.Shard.{run_capacity}
 
 -- what the machine is at a moment: its shape and its guessing stay
 pub record Serial : Type 0 where
@@ -38,10 +38,6 @@ serial_reply m s left = longest m.content s left
 abbrev pub kinds_of : Guessing → List Kind
 kinds_of g = (if g.last then Last ∷ [] else []) ++ (if g.stride then Stride ∷ [] else [])
 
--- a guess: its kind, and how many visits after the last one
-abbrev pub Task : Type 0
-Task = Kind × ℕ
-
 -- the guesses of a visit, in the order in which they are made
 abbrev pub tasks_of : Guessing → (issued number : ℕ) → List Task
 tasks_of g issued number =
@@ -57,7 +53,7 @@ newest_join (a ∷ newer) e = option_or (newest_join newer e) (join_of a e)
 -- the content with an entry, where there is one
 abbrev pub add_found : List Entry → Option Entry → List Entry
 add_found content None = content
-add_found content (Some e) = add run_capacity content e
+add_found content (Some e) = add MOST_ENTRIES content e
 
 -- all entries but the newest
 abbrev pub older : List Entry → List Entry
@@ -67,11 +63,11 @@ older content = take (length content - 1) content
 -- the newest of the others that it may follow.
 abbrev pub due_join : (join : Bool) → List Entry → Entry → Option Entry
 due_join join held e =
-    if join && not (list_any (is_same_entry e) held) then newest_join (older (add run_capacity held e)) e else None
+    if join && not (list_any (is_same_entry e) held) then newest_join (older (add MOST_ENTRIES held e)) e else None
 
 -- the content with an entry, and with its join where one is due
 abbrev pub add_joined : (join : Bool) → List Entry → Entry → List Entry
-add_joined join held e = add_found (add run_capacity held e) (due_join join held e)
+add_joined join held e = add_found (add MOST_ENTRIES held e) (due_join join held e)
 
 -- ---- traces of guesses
 

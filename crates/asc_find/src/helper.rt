@@ -8,7 +8,7 @@ use std::marker::Model;
 /// What a walk tells of the states at which it then asks for a jump.
 pub trait Helper: Finder {
     /// Learns of the state at a visit, which is the walk's `number`th. The state is lent for writing so that a copy of it
-    /// costs what changed since the last one, and stays as it is. At most 128 guesses are made of it.
+    /// costs what changed since the last one, and stays as it is. At most `MOST_GUESSES` guesses are made of it.
     fn visit(&mut self, state: &mut State, number: u64)
         requires number { number ≤ 2 ^ 40 }
         requires made { (Self.aid self.old).plan.made < 2 ^ 62 }

@@ -5,8 +5,6 @@ mod finder;
 mod guessing;
 mod helper;
 mod noted;
-#[cfg(test)]
-mod tests;
 
 pub use finder::{Finder, ListFinder, Nothing};
 pub use guessing::Guessing;

@@ -11,7 +11,7 @@ use Rattle.std.proofs.lemmas.List.Sorted.{sum_by-IsPermutation, IsNonDecreasingB
 use Rattle.std.proofs.lemmas.List.Kept.{IsNonDecreasingBy-filter, IsSortedBy-filter}
 use Rattle.std.proofs.lemmas.List.Elements.{filter_passes}
 use Rattle.std.proofs.Math.ListN.{length-map}
-use Rattle.asc_guess.specs.Choice.{CountsRise, counts_of, candidate_of, distance_in}
+use Rattle.asc_guess.specs.Choice.{CountsRise, counts_with, candidate_of, distance_in}
 
 -- ---- lists of numbers that do not fall
 
@@ -69,12 +69,12 @@ map_if : (b : Bool) (x : ℕ × ℕ) (xs : List (ℕ × ℕ)) → map (λ (pair 
 map_if true x xs = refl
 map_if false x xs = refl
 
-times-counts_of : (a v : ℕ) (profile : List (ℕ × ℕ)) → times v (counts_of profile a) ≡ count_by (stands_with a v) profile
-times-counts_of a v [] = refl
-times-counts_of a v (x ∷ xs) =
+times-counts_with : (a v : ℕ) (profile : List (ℕ × ℕ)) → times v (counts_with profile a) ≡ count_by (stands_with a v) profile
+times-counts_with a v [] = refl
+times-counts_with a v (x ∷ xs) =
     ap (times v) (map_if (x.0 == a) x (filter (λ (pair : ℕ × ℕ). pair.0 == a) xs))
-    ∙ times_if v x.1 (x.0 == a) (counts_of xs a)
-    ∙ ap (λ n. cond (stands_with a v x) 1 0 + n) (times-counts_of a v xs)
+    ∙ times_if v x.1 (x.0 == a) (counts_with xs a)
+    ∙ ap (λ n. cond (stands_with a v x) 1 0 + n) (times-counts_with a v xs)
     ∙ sym (sum_by-cons (λ (pair : ℕ × ℕ). cond (stands_with a v pair) 1 0) x xs)
 
 mapped_up : (xs : List (ℕ × ℕ)) → IsNonDecreasingBy (λ (pair : ℕ × ℕ). pair.1) xs → IsNonDecreasing (map (λ (pair : ℕ × ℕ). pair.1) xs)
@@ -86,7 +86,7 @@ mapped_up xs up = λ i j d l m.
     omega arith
 
 -- the counts of a profile do not fall, nor do those of an address
-profile_up : (profile : List (ℕ × ℕ)) (a : ℕ) → CountsRise profile → IsNonDecreasing (counts_of profile a)
+profile_up : (profile : List (ℕ × ℕ)) (a : ℕ) → CountsRise profile → IsNonDecreasing (counts_with profile a)
 profile_up profile a rise = mapped_up (filter (λ (pair : ℕ × ℕ). pair.0 == a) profile)
     (IsNonDecreasingBy-filter (λ (pair : ℕ × ℕ). pair.1) (λ (pair : ℕ × ℕ). pair.0 == a) profile
     (IsNonDecreasingBy-from_all_adjacent (λ (pair : ℕ × ℕ). pair.1) profile (λ k d l. let h = rise k d l in omega arith)))
@@ -121,7 +121,7 @@ in_order = record {
       });
 }
 
-sorted_up : (sorted : List (ℕ × ℕ)) (a : ℕ) → AreInOrder sorted → IsNonDecreasing (counts_of sorted a)
+sorted_up : (sorted : List (ℕ × ℕ)) (a : ℕ) → AreInOrder sorted → IsNonDecreasing (counts_with sorted a)
 sorted_up sorted a order =
     let there = filter (λ (pair : ℕ × ℕ). pair.0 == a) sorted in
     let ordered = IsSortedBy-filter comes_before in_order (λ (pair : ℕ × ℕ). pair.0 == a) sorted order in
@@ -137,6 +137,6 @@ sorted_up sorted a order =
 pub candidates_same : (profile sorted : List (ℕ × ℕ)) (a : ℕ) → CountsRise profile → AreInOrder sorted → IsPermutation profile sorted
     → candidate_of sorted a ≡ candidate_of profile a
 candidates_same profile sorted a rise order shuffled =
-    let same : counts_of sorted a ≡ counts_of profile a = same_numbers (counts_of sorted a) (counts_of profile a) (sorted_up sorted a order) (profile_up profile a rise)
-    (λ v. times-counts_of a v sorted ∙ sum_by-IsPermutation (λ (pair : ℕ × ℕ). cond (stands_with a v pair) 1 0) profile sorted shuffled ∙ sym (times-counts_of a v profile)) in
+    let same : counts_with sorted a ≡ counts_with profile a = same_numbers (counts_with sorted a) (counts_with profile a) (sorted_up sorted a order) (profile_up profile a rise)
+    (λ v. times-counts_with a v sorted ∙ sum_by-IsPermutation (λ (pair : ℕ × ℕ). cond (stands_with a v pair) 1 0) profile sorted shuffled ∙ sym (times-counts_with a v profile)) in
     ap (λ (counts : List ℕ). record { address = a; times = length counts; distance = distance_in counts }) same

@@ -7,7 +7,7 @@ use Rattle.std.proofs.lemmas.List.Elements.{filter-append, All-head, All-tail}
 use Rattle.std.proofs.lemmas.List.Sorted.{sorted_far}
 use Rattle.std.proofs.Math.ListN.{length-map}
 use Rattle.asc_guess.specs.declared.choosing.Candidate.{Candidate}
-use Rattle.asc_guess.specs.Choice.{counts_of, candidate_of, distance_in, is_better, better_of}
+use Rattle.asc_guess.specs.Choice.{counts_with, candidate_of, distance_in, is_better, better_of}
 use Rattle.asc_guess.proofs.Counts.{AreInOrder, comes_before, in_order, not_before}
 use Rattle.asc_guess.proofs.Best.{HasMore, Stands, IsBest, best-takes, best-skips}
 
@@ -40,7 +40,7 @@ length-part sorted from to some end = omega (arith, length-take (to - from) (dro
 part_at : (sorted : List (ℕ × ℕ)) (from to k : ℕ) (d : ℕ × ℕ) → k < to - from → get_or (part sorted from to) k d ≡ get_or sorted (from + k) d
 part_at sorted from to k d l = get_or-take (to - from) (drop from sorted) k d l ∙ get_or-drop from sorted k d
 
-counts-run : (sorted : List (ℕ × ℕ)) (from to a : ℕ) → IsRun sorted from to a → counts_of sorted a ≡ map (λ (pair : ℕ × ℕ). pair.1) (part sorted from to)
+counts-run : (sorted : List (ℕ × ℕ)) (from to a : ℕ) → IsRun sorted from to a → counts_with sorted a ≡ map (λ (pair : ℕ × ℕ). pair.1) (part sorted from to)
 counts-run sorted from to a run =
     let p : ℕ × ℕ → Bool = λ pair. pair.0 == a in
     let front = take from sorted in let mid = part sorted from to in let back = drop (to - from) (drop from sorted) in

@@ -8,8 +8,8 @@ CountsRise profile = (k : ℕ) (d : ℕ × ℕ) → k + 1 < length profile
     → (slice_index_or profile k d).1 < (slice_index_or profile (k + 1) d).1
 
 -- the counts at which an address stands
-abbrev pub counts_of : List (ℕ × ℕ) → (address : ℕ) → List ℕ
-counts_of profile address = map (λ pair. pair.1) (filter (λ pair. pair.0 == address) profile)
+abbrev pub counts_with : List (ℕ × ℕ) → (address : ℕ) → List ℕ
+counts_with profile address = map (λ pair. pair.1) (filter (λ pair. pair.0 == address) profile)
 
 -- from the first number of a list to the last
 abbrev pub distance_in : List ℕ → ℕ
@@ -18,7 +18,7 @@ distance_in (x ∷ xs) = slice_index_or (x ∷ xs) (length xs) x - x
 
 -- how often an address stands in a profile, and how many steps lie between the first time and the last
 abbrev pub candidate_of : List (ℕ × ℕ) → (address : ℕ) → Candidate
-candidate_of profile address = let counts = counts_of profile address in
+candidate_of profile address = let counts = counts_with profile address in
     record { address = address; times = length counts; distance = distance_in counts }
 
 -- An address is better where its times lie further apart on average, by distance / (times - 1), both of at least two

@@ -11,6 +11,10 @@ abbrev pub guess_of : Kind → (ahead : ℕ) → (prev last : State) → State
 guess_of Last ahead prev last = last
 guess_of Stride ahead prev last = record last { bytes = strided ahead last.bytes prev.bytes }
 
+-- a guess of a visit: its kind, and how many visits after the last one
+abbrev pub Task : Type 0
+Task = Kind × ℕ
+
 -- The visits that are guessed at a visit, where those up to issued were guessed before: all up to so many ahead, but
 -- those already guessed. None at the first visit.
 abbrev pub targets_of : (issued visit ahead : ℕ) → List ℕ

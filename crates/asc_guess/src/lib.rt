@@ -4,11 +4,9 @@
 mod choosing;
 mod guessing;
 mod kind;
-#[cfg(test)]
-mod tests;
 mod visits;
 
 pub use choosing::choose;
-pub use guessing::guess;
+pub use guessing::{guess, guess_from};
 pub use kind::Kind;
 pub use visits::targets;

@@ -6,10 +6,10 @@ use Rattle.std.proofs.Math.ListN.{get_or}
 use Rattle.asc_model.specs.declared.version.Version.TheVariants.{Two}
 use Rattle.asc_model.specs.declared.instruction.Op.{Op}
 use Rattle.asc_model.specs.declared.instruction.Instr.{Instr}
-use Rattle.asc_model.specs.Instruction.{Key, Major, Minor, Full, Atomic, AtomicLoad, Whole, Row, Format, decode, find, table, base_table, atomic_table, fits, opcode, funct3, funct7, operands}
+use Rattle.asc_model.specs.Instruction.{Pattern, Major, Minor, Full, Atomic, AtomicLoad, Whole, Row, Format, decode, find, table, base_table, atomic_table, fits, opcode, funct3, funct7, operands}
 use Rattle.asc_isa.specs.Decode.{version_of}
 use Rattle.asc_isa.specs.declared.encoding.Encoding.{Encoding}
-use Rattle.asc_isa.specs.Encodings.{key_of, IsFor, IsOfEncoding}
+use Rattle.asc_isa.specs.Encodings.{pattern_of, IsFor, IsOfEncoding}
 use Rattle.asc_isa.specs.Rows.{is_at, rows_for}
 use Rattle.asc_isa.proofs.Rows.{fits-at, decode-for}
 
@@ -33,19 +33,19 @@ each-get_or p n (x ∷ xs) (suc i) d h l = subst (λ m. p m (get_or xs i d) ≡ 
 -- no row is for words of this opcode and funct3
 abbrev pub none_at : ℕ → ℕ → List Row → Bool
 none_at o f [] = true
-none_at o f (row ∷ rows) = (if is_at row.key o f then false else true) && none_at o f rows
+none_at o f (row ∷ rows) = (if is_at row.pattern o f then false else true) && none_at o f rows
 
 find-none : (rows : List Row) (word : ℕ) → none_at (opcode word) (funct3 word) rows ≡ true → None ≡ find rows word
 find-none [] word h = refl
 find-none (row ∷ rows) word h =
     let parts = and_parts _ _ h in
-    elim (cases_Bool (fits row.key word)) [
-      | inl e ↦ absurd (both_ways (if is_at row.key (opcode word) (funct3 word) then false else true) (cond-true _ false true (fits-at row.key word e)) parts.0)
+    elim (cases_Bool (fits row.pattern word)) [
+      | inl e ↦ absurd (both_ways (if is_at row.pattern (opcode word) (funct3 word) then false else true) (cond-true _ false true (fits-at row.pattern word e)) parts.0)
       | inr e ↦ find-none rows word parts.1 ∙ sym (cond-false _ (Some (operands row.format row.op word)) _ e)
     ]
 
 -- an encoding's key is for words of this opcode and funct3, or no instruction is
-abbrev pub agrees_key : Option Key → ℕ → ℕ → Bool
+abbrev pub agrees_key : Option Pattern → ℕ → ℕ → Bool
 agrees_key None o f = none_at o f (table Two)
 agrees_key (Some (Major major)) o f = eqb o major
 agrees_key (Some (Minor major minor)) o f = eqb o major && eqb f minor
@@ -54,7 +54,7 @@ agrees_key (Some (Atomic funct)) o f = false
 agrees_key (Some (AtomicLoad funct)) o f = false
 agrees_key (Some (Whole whole)) o f = false
 
-agrees-for : (key : Option Key) (word : ℕ) → agrees_key key (opcode word) (funct3 word) ≡ true → IsFor key word
+agrees-for : (key : Option Pattern) (word : ℕ) → agrees_key key (opcode word) (funct3 word) ≡ true → IsFor key word
 unfolding decode
 agrees-for None word h = find-none (table Two) word h
 agrees-for (Some (Major major)) word h = h
@@ -65,7 +65,7 @@ agrees-for (Some (AtomicLoad funct)) word h = cc
 agrees-for (Some (Whole whole)) word h = cc
 
 abbrev pub agrees : ℕ → ℕ → Encoding → Bool
-agrees o f encoding = agrees_key (key_of encoding) o f
+agrees o f encoding = agrees_key (pattern_of encoding) o f
 
 abbrev pub agrees_row : ℕ → List Encoding → Bool
 agrees_row o row = eqb (length row) 8 && each (agrees o) 0 row
@@ -79,21 +79,21 @@ table-encoding all word d l h =
     let row = and_parts _ _ (subst (λ o. agrees_row o (get_or all (opcode word) []) ≡ true) (zero-plus (opcode word))
     (each-get_or agrees_row 0 all (opcode word) [] h (omega arith))) in
     let long : length (get_or all (opcode word) []) ≡ 8 = eqb-true _ _ row.0 in
-    agrees-for (key_of (get_or (get_or all (opcode word) []) (funct3 word) d)) word
+    agrees-for (pattern_of (get_or (get_or all (opcode word) []) (funct3 word) d)) word
     (subst (λ f. agrees (opcode word) f (get_or (get_or all (opcode word) []) (funct3 word) d) ≡ true) (zero-plus (funct3 word))
     (each-get_or (agrees (opcode word)) 0 (get_or all (opcode word) []) (funct3 word) d row.1 (omega arith)))
 
 -- ---- the rows of an encoding
 
 -- where one row is left, which asks for no more
-pub decode-only : (atomics : Bool) (key : Key) (format : Format) (op : Op) (word : ℕ) → rows_for key (table (version_of true)) ≡ rows_for key base_table → rows_for key base_table ≡ record { key = key; format = format; op = op } ∷ [] → fits key word ≡ true → Some (operands format op word) ≡ decode (version_of atomics) word
+pub decode-only : (atomics : Bool) (key : Pattern) (format : Format) (op : Op) (word : ℕ) → rows_for key (table (version_of true)) ≡ rows_for key base_table → rows_for key base_table ≡ record { pattern = key; format = format; op = op } ∷ [] → fits key word ≡ true → Some (operands format op word) ≡ decode (version_of atomics) word
 decode-only atomics key format op word e only h =
     sym (cond-true (fits key word) (Some (operands format op word)) None h)
     ∙ ap (λ rows. find rows word) (sym only) ∙ decode-for atomics key word e h
 
 none-first : (rows more : List Row) (word : ℕ) → None ≡ find (rows ++ more) word → None ≡ find rows word
 none-first [] more word h = refl
-none-first (row ∷ rows) more word h = elim (cases_Bool (fits row.key word)) [
+none-first (row ∷ rows) more word h = elim (cases_Bool (fits row.pattern word)) [
   | inl f ↦ h ∙ cond-true _ (Some (operands row.format row.op word)) (find (rows ++ more) word) f ∙ sym (cond-true _ (Some (operands row.format row.op word)) (find rows word) f)
   | inr f ↦ none-first rows more word (h ∙ cond-false _ (Some (operands row.format row.op word)) (find (rows ++ more) word) f)
       ∙ sym (cond-false _ (Some (operands row.format row.op word)) (find rows word) f)
@@ -110,7 +110,7 @@ decode-none true word h = h
 abbrev pub by_funct7 : Format → (major minor : ℕ) → List (ℕ × Op) → List Row
 by_funct7 format major minor [] = []
 by_funct7 format major minor (choice ∷ more) =
-    record { key = Full major minor choice.0; format = format; op = choice.1 } ∷ by_funct7 format major minor more
+    record { pattern = Full major minor choice.0; format = format; op = choice.1 } ∷ by_funct7 format major minor more
 
 abbrev pub chosen : Format → List (ℕ × Op) → ℕ → Option Instr
 chosen format [] word = None

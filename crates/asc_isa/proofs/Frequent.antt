@@ -15,7 +15,7 @@ none-some i h = cc
 
 find-more : (rows more : List Row) (word : ℕ) (i : Instr) → find rows word ≡ Some i → find (rows ++ more) word ≡ Some i
 find-more [] more word i h = cc
-find-more (row ∷ rows) more word i h = elim (cases_Bool (fits row.key word)) [
+find-more (row ∷ rows) more word i h = elim (cases_Bool (fits row.pattern word)) [
   | inl f ↦ cond-true _ (Some (operands row.format row.op word)) (find (rows ++ more) word) f ∙ sym (cond-true _ (Some (operands row.format row.op word)) (find rows word) f) ∙ h
   | inr f ↦ cond-false _ (Some (operands row.format row.op word)) (find (rows ++ more) word) f
       ∙ find-more rows more word i (sym (cond-false _ (Some (operands row.format row.op word)) (find rows word) f) ∙ h)

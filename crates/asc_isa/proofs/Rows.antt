@@ -3,12 +3,12 @@ use Rattle.std.proofs.Common.{◌≡◌, ℕ, Bool, true, false, cond, ◌||◌,
 use Rattle.std.proofs.lemmas.Bool.{and_parts, eqb-true, eq-eqb, cases_Bool, both_ways, cond-true, cond-false}
 use Rattle.asc_model.specs.declared.version.Version.{Version}
 use Rattle.asc_model.specs.declared.instruction.Op.{Op}
-use Rattle.asc_model.specs.Instruction.{Key, Major, Minor, Full, Atomic, AtomicLoad, Whole, Row, Format, U, J, I, Shift, S, B, R, Plain, decode, find, table, base_table, atomic_table, fits, opcode, funct3, operands}
+use Rattle.asc_model.specs.Instruction.{Pattern, Major, Minor, Full, Atomic, AtomicLoad, Whole, Row, Format, U, J, I, Shift, S, B, R, Plain, decode, find, table, base_table, atomic_table, fits, opcode, funct3, operands}
 use Rattle.asc_isa.specs.Decode.{version_of, HasRegisters}
 use Rattle.asc_isa.specs.Rows.{opcode_of, is_at, meets, rows_for}
 
 -- a word that a row is for has the row's opcode
-pub fits-opcode : (key : Key) (word : ℕ) → fits key word ≡ true → opcode word ≡ opcode_of key
+pub fits-opcode : (key : Pattern) (word : ℕ) → fits key word ≡ true → opcode word ≡ opcode_of key
 fits-opcode (Major major) word h = eqb-true _ _ h
 fits-opcode (Minor major minor) word h = eqb-true _ _ (and_parts _ _ h).0
 fits-opcode (Full major minor funct) word h = eqb-true _ _ (and_parts _ _ (and_parts _ _ h).0).0
@@ -24,7 +24,7 @@ at-whole : (whole word : ℕ) → word ≡ whole → is_at (Whole whole) (opcode
 at-whole whole word e = both-true _ _ (eq-eqb _ _ (ap opcode e)) (eq-eqb _ _ (ap funct3 e))
 
 -- a row that is for a word is for words of its opcode and funct3
-pub fits-at : (key : Key) (word : ℕ) → fits key word ≡ true → is_at key (opcode word) (funct3 word) ≡ true
+pub fits-at : (key : Pattern) (word : ℕ) → fits key word ≡ true → is_at key (opcode word) (funct3 word) ≡ true
 fits-at (Major major) word h = h
 fits-at (Minor major minor) word h = h
 fits-at (Full major minor funct) word h = (and_parts _ _ h).0
@@ -33,7 +33,7 @@ fits-at (AtomicLoad funct) word h = (and_parts _ _ (and_parts _ _ h).0).0
 fits-at (Whole whole) word h = at-whole whole word (eqb-true _ _ h)
 
 -- a row that is for a word of a key may be
-fits-meets : (key row : Key) (word : ℕ) → fits key word ≡ true → fits row word ≡ true → meets key row ≡ true
+fits-meets : (key row : Pattern) (word : ℕ) → fits key word ≡ true → fits row word ≡ true → meets key row ≡ true
 fits-meets (Major major) row word h r = eq-eqb _ _ (sym (eqb-true _ _ h) ∙ fits-opcode row word r)
 fits-meets (Minor major minor) row word h r =
     let parts = and_parts _ _ h in
@@ -45,26 +45,26 @@ fits-meets (AtomicLoad funct) row word h r = refl
 fits-meets (Whole whole) row word h r = refl
 
 -- the rows that may be for a word are enough
-pub find-rows_for : (key : Key) (rows : List Row) (word : ℕ) → fits key word ≡ true → find (rows_for key rows) word ≡ find rows word
+pub find-rows_for : (key : Pattern) (rows : List Row) (word : ℕ) → fits key word ≡ true → find (rows_for key rows) word ≡ find rows word
 find-rows_for key [] word h = refl
-find-rows_for key (row ∷ rows) word h = elim (cases_Bool (meets key row.key)) [
+find-rows_for key (row ∷ rows) word h = elim (cases_Bool (meets key row.pattern)) [
   | inl m ↦ ap (λ kept. find kept word) (cond-true _ (row ∷ rows_for key rows) (rows_for key rows) m)
-      ∙ ap (cond (fits row.key word) (Some (operands row.format row.op word))) (find-rows_for key rows word h)
+      ∙ ap (cond (fits row.pattern word) (Some (operands row.format row.op word))) (find-rows_for key rows word h)
   | inr m ↦ ap (λ kept. find kept word) (cond-false _ (row ∷ rows_for key rows) (rows_for key rows) m)
-      ∙ find-rows_for key rows word h ∙ elim (cases_Bool (fits row.key word)) [
-        | inl f ↦ absurd (both_ways (meets key row.key) m (fits-meets key row.key word h f))
+      ∙ find-rows_for key rows word h ∙ elim (cases_Bool (fits row.pattern word)) [
+        | inl f ↦ absurd (both_ways (meets key row.pattern) m (fits-meets key row.pattern word h f))
         | inr f ↦ sym (cond-false _ (Some (operands row.format row.op word)) (find rows word) f)
       ]
 ]
 
 -- a word of a key that no atomic has is the same in both versions
-pub decode-for : (atomics : Bool) (key : Key) (word : ℕ) → rows_for key (table (version_of true)) ≡ rows_for key base_table → fits key word ≡ true → find (rows_for key base_table) word ≡ decode (version_of atomics) word
+pub decode-for : (atomics : Bool) (key : Pattern) (word : ℕ) → rows_for key (table (version_of true)) ≡ rows_for key base_table → fits key word ≡ true → find (rows_for key base_table) word ≡ decode (version_of atomics) word
 unfolding decode
 decode-for false key word e h = find-rows_for key base_table word h
 decode-for true key word e h = ap (λ rows. find rows word) (sym e) ∙ find-rows_for key (base_table ++ atomic_table) word h
 
 -- a word of a key that only atomics have is one in version Two
-pub decode-atomic : (atomics : Bool) (key : Key) (word : ℕ) → rows_for key (table (version_of true)) ≡ rows_for key atomic_table → atomics ≡ true → fits key word ≡ true → find (rows_for key atomic_table) word ≡ decode (version_of atomics) word
+pub decode-atomic : (atomics : Bool) (key : Pattern) (word : ℕ) → rows_for key (table (version_of true)) ≡ rows_for key atomic_table → atomics ≡ true → fits key word ≡ true → find (rows_for key atomic_table) word ≡ decode (version_of atomics) word
 unfolding decode
 decode-atomic false key word e a h = cc
 decode-atomic true key word e a h = ap (λ rows. find rows word) (sym e) ∙ find-rows_for key (base_table ++ atomic_table) word h
@@ -77,15 +77,15 @@ is_one_of n (x ∷ xs) = eqb x n || is_one_of n xs
 -- each row's opcode is one of these
 abbrev pub covered : List ℕ → List Row → Bool
 covered ops [] = true
-covered ops (row ∷ rows) = is_one_of (opcode_of row.key) ops && covered ops rows
+covered ops (row ∷ rows) = is_one_of (opcode_of row.pattern) ops && covered ops rows
 
 -- no row is for a word of another opcode
 find-other : (ops : List ℕ) (rows : List Row) (word : ℕ) → covered ops rows ≡ true → is_one_of (opcode word) ops ≡ false → find rows word ≡ None
 find-other ops [] word h o = refl
 find-other ops (row ∷ rows) word h o =
     let parts = and_parts _ _ h in
-    elim (cases_Bool (fits row.key word)) [
-      | inl e ↦ absurd (both_ways (is_one_of (opcode word) ops) o (ap (λ n. is_one_of n ops) (fits-opcode row.key word e) ∙ parts.0))
+    elim (cases_Bool (fits row.pattern word)) [
+      | inl e ↦ absurd (both_ways (is_one_of (opcode word) ops) o (ap (λ n. is_one_of n ops) (fits-opcode row.pattern word e) ∙ parts.0))
       | inr e ↦ cond-false _ _ _ e ∙ find-other ops rows word parts.1 o
     ]
 
@@ -116,7 +116,7 @@ operands-registers Plain op word = record { rd = omega arith; rs1 = omega arith;
 
 find-registers : (rows : List Row) (word : ℕ) → IfSome (find rows word) HasRegisters
 find-registers [] word = tt
-find-registers (row ∷ rows) word = elim (cases_Bool (fits row.key word)) [
+find-registers (row ∷ rows) word = elim (cases_Bool (fits row.pattern word)) [
   | inl h ↦ subst (λ i. IfSome i HasRegisters) (sym (cond-true _ (Some (operands row.format row.op word)) (find rows word) h))
       (operands-registers row.format row.op word)
   | inr h ↦ subst (λ i. IfSome i HasRegisters) (sym (cond-false _ (Some (operands row.format row.op word)) (find rows word) h))

@@ -6,8 +6,6 @@ mod encoding;
 mod fields;
 mod likely;
 mod operands;
-#[cfg(test)]
-mod tests;
 
 pub use decoding::decode;
 pub use likely::decode_likely;

@@ -5,6 +5,7 @@ ghost use Rattle.asc_jobs.specs.Jobs.{AreOpened, HasAllParts, after_push, after_
 use crate::Job;
 use crate::hand::Hand;
 use asc_guess::Kind;
+use asc_model::{MOST_WAITING, MOST_WORKERS};
 use asc_outside::Memory;
 use asc_shape::Snapshot;
 use crossbeam_queue::protocol::{Join, Lesson, Outcome, Protocol, Split};
@@ -148,8 +149,8 @@ impl Jobs {
         capacity: usize,
         takers: usize,
     ) -> Result<(Giver, Vec<Taker>), Memory>
-        requires capacity { (0 < capacity) × (capacity ≤ 1024) }
-        requires takers { (0 < takers) × (takers ≤ 64) }
+        requires capacity { (0 < capacity) × (capacity ≤ MOST_WAITING) }
+        requires takers { (0 < takers) × (takers ≤ MOST_WORKERS) }
         ensures { IfOk result (λ r. AreOpened capacity takers r.0 r.1.items) }
     {
         let (queue, pass) = JobQueue::ruled(alloc, capacity)?;

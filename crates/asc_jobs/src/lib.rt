@@ -4,8 +4,6 @@
 mod hand;
 mod job;
 mod jobs;
-#[cfg(test)]
-mod tests;
 
 pub use job::Job;
 pub use jobs::{Full, Giver, Jobs, Taker};

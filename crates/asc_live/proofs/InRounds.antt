@@ -4,11 +4,11 @@ use Rattle.std.specs.Option.{is_some}
 use Rattle.std.proofs.lemmas.List.{get_or-set_other}
 use Rattle.asc_model.specs.State.{State}
 use Rattle.asc_guess.specs.declared.kind.Kind.TheVariants.{Last}
-use Rattle.asc_guess.specs.Guess.{guess_of}
+use Rattle.asc_guess.specs.Guess.{guess_of, Task}
 use Rattle.asc_traj.specs.declared.made.Made.{Made}
 use Rattle.asc_traj.specs.Made.{IsMade}
 use Rattle.asc_find.specs.declared.guessing.Guessing.{Guessing}
-use Rattle.asc_find.specs.Serial.{Serial, Task, bounds_at}
+use Rattle.asc_find.specs.Serial.{Serial, bounds_at}
 use Rattle.asc_work.specs.Lanes.{Lanes, IsDone}
 use Rattle.asc_run.specs.VisitedBy.{IsVisit}
 use Rattle.asc_run.specs.SerialHelper.{SerialHelper, IsPlanned, IsSettled, aid_of}

@@ -5,9 +5,9 @@ use Rattle.std.specs.List.{list_any}
 use Rattle.std.proofs.lemmas.List.Elements.{All-set}
 use Rattle.std.proofs.lemmas.List.Sums.{fold-append}
 use mathlib.Core.List.{IsPrefix}
+use Rattle.asc_model.specs.declared.limits.TheConstants.{MOST_ENTRIES}
 use Rattle.asc_model.specs.Entry.{Entry}
-use Rattle.asc_shard.specs.Content.{add, content_of, is_same_entry, last_of, outcome_of}
-use Rattle.asc_shard.specs.Shard.{run_capacity}
+use Rattle.asc_shard.specs.Content.{add, content_of, is_same_entry, last_of, inserted_in}
 use Rattle.asc_shard.specs.declared.shard.Inserted.{Inserted}
 use Rattle.asc_shard.specs.declared.shard.Inserted.TheVariants.{Known, Stored}
 use Rattle.asc_cache.specs.Cache.{AreLater, AreOpened, IsOwnReader, ShardReader, ShardReaders, ShardWriter, stored_after}
@@ -22,7 +22,7 @@ module _ (capacity : ℕ) (stored : List Entry) (e : Entry) where
   added_where false any = fold-append (add capacity) [] stored (e ∷ [])
 
   -- an insertion that is answered so adds the entry
-  pub one_added : (i : Inserted) → i ≡ outcome_of (content_of capacity stored) e
+  pub one_added : (i : Inserted) → i ≡ inserted_in (content_of capacity stored) e
       → content_of capacity (stored_after stored i e) ≡ add capacity (content_of capacity stored) e
   one_added i is = ap (λ i. content_of capacity (stored_after stored i e)) is ∙ added_where (list_any (is_same_entry e) (content_of capacity stored)) refl
 
@@ -41,7 +41,7 @@ stays_writer old new later w is = record { own = stays_own old new later w is.ow
 -- ---- shards that were opened, and the first writer once it has stored
 
 -- the reader of a shard that was opened with others is its writer's own
-own_readers : (shards : ℕ) (writers : List ShardWriter) (readers : List ShardReader) → AreOpened shards run_capacity writers readers
+own_readers : (shards : ℕ) (writers : List ShardWriter) (readers : List ShardReader) → AreOpened shards MOST_ENTRIES writers readers
     → All (IsWriterOf readers) writers
 own_readers shards writers readers o =
     λ k d l.
@@ -69,13 +69,13 @@ stored_writer readers w v rest is =
     }
 
 -- the first writer is that of its reader
-pub first_writer : (shards : ℕ) (writers : List ShardWriter) (readers : List ShardReader) (w : ShardWriter) → AreOpened shards run_capacity writers readers → 0 < shards
+pub first_writer : (shards : ℕ) (writers : List ShardWriter) (readers : List ShardReader) (w : ShardWriter) → AreOpened shards MOST_ENTRIES writers readers → 0 < shards
     → get_or writers 0 w ≡ w → IsWriterOf readers w
 first_writer shards writers readers w o some here =
     subst (IsWriterOf readers) here (own_readers shards writers readers o 0 w (omega (arith, some, o.writer_count)))
 
 -- all are, once the first has stored and the readers have learnt
-pub all_writers : (shards : ℕ) (writers : List ShardWriter) (readers new : List ShardReader) (w v : ShardWriter) → AreOpened shards run_capacity writers readers → 0 < shards
+pub all_writers : (shards : ℕ) (writers : List ShardWriter) (readers new : List ShardReader) (w v : ShardWriter) → AreOpened shards MOST_ENTRIES writers readers → 0 < shards
     → get_or writers 0 w ≡ w → v ≡ record w { stored = v.stored; refused = v.refused } → AreLater readers new → All (IsWriterOf new) (set writers 0 v)
 all_writers shards writers readers new w v o some here rest later =
     All-set (IsWriterOf new) writers 0 v
@@ -83,16 +83,16 @@ all_writers shards writers readers new w v o some here rest later =
     (λ k d l. stays_writer readers new later (get_or writers k d) (own_readers shards writers readers o k d l))
 
 -- the reader of the first has learnt what its writer has stored
-pub has_learnt : (shards : ℕ) (writers : List ShardWriter) (readers new : List ShardReader) (w v : ShardWriter) (entries : List Entry) → AreOpened shards run_capacity writers readers → 0 < shards
+pub has_learnt : (shards : ℕ) (writers : List ShardWriter) (readers new : List ShardReader) (w v : ShardWriter) (entries : List Entry) → AreOpened shards MOST_ENTRIES writers readers → 0 < shards
     → get_or writers 0 w ≡ w → content_of v.capacity v.stored ≡ fold (add w.capacity) (content_of w.capacity w.stored) entries
     → v ≡ record w { stored = v.stored; refused = v.refused } → AreLater readers new → ((d : ShardReader) → IsPrefix v.stored (get_or new v.index d).seen) → HasLearnt entries new
 has_learnt shards writers readers new w v entries o some here held rest later seen =
     let none : ShardReader = record { shard = w.shard; capacity = 0; seen = [] } in
-    let fresh : get_or writers 0 w ≡ record { shard = (get_or writers 0 w).shard; index = 0; capacity = run_capacity; stored = []; refused = false } = (o.each 0 w none some).writer in
-    let capacity : w.capacity ≡ run_capacity = ap (λ (w : ShardWriter). w.capacity) (sym here) ∙ ap (λ (w : ShardWriter). w.capacity) fresh in
+    let fresh : get_or writers 0 w ≡ record { shard = (get_or writers 0 w).shard; index = 0; capacity = MOST_ENTRIES; stored = []; refused = false } = (o.each 0 w none some).writer in
+    let capacity : w.capacity ≡ MOST_ENTRIES = ap (λ (w : ShardWriter). w.capacity) (sym here) ∙ ap (λ (w : ShardWriter). w.capacity) fresh in
     let stored : w.stored ≡ [] = ap (λ (w : ShardWriter). w.stored) (sym here) ∙ ap (λ (w : ShardWriter). w.stored) fresh in
     let index : v.index ≡ 0 = ap (λ (w : ShardWriter). w.index) rest ∙ ap (λ (w : ShardWriter). w.index) (sym here) ∙ ap (λ (w : ShardWriter). w.index) fresh in
-    let same : v.capacity ≡ run_capacity = ap (λ (w : ShardWriter). w.capacity) rest ∙ capacity in record {
+    let same : v.capacity ≡ MOST_ENTRIES = ap (λ (w : ShardWriter). w.capacity) rest ∙ capacity in record {
       learnt = v.stored;
       content =
           ap (λ n. content_of n v.stored) (sym same) ∙ held
@@ -104,7 +104,7 @@ has_learnt shards writers readers new w v entries o some here held rest later se
 
 -- so it is with what was split of a cache
 pub opened_of : {ws : List ShardWriter} {rs : ShardReaders} (shards : ℕ) (writers : List ShardWriter) (readers : ShardReaders)
-    → writers ≡ ws → readers ≡ rs → AreOpened shards run_capacity ws rs.readers → AreOpened shards run_capacity writers readers.readers
+    → writers ≡ ws → readers ≡ rs → AreOpened shards MOST_ENTRIES ws rs.readers → AreOpened shards MOST_ENTRIES writers readers.readers
 opened_of {ws = ws} {rs = rs} shards writers readers e f o =
-    subst (λ ws. AreOpened shards run_capacity ws readers.readers) (sym e)
-    (subst (λ (r : ShardReaders). AreOpened shards run_capacity ws r.readers) (sym f) o)
+    subst (λ ws. AreOpened shards MOST_ENTRIES ws readers.readers) (sym e)
+    (subst (λ (r : ShardReaders). AreOpened shards MOST_ENTRIES ws r.readers) (sym f) o)

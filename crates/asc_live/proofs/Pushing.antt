@@ -8,11 +8,11 @@ use Rattle.std.specs.Global.{Global}
 use Rattle.std.specs.declared.sync.Arc.{Arc}
 use Rattle.asc_model.specs.State.{State}
 use Rattle.asc_guess.specs.declared.kind.Kind.{Kind}
+use Rattle.asc_guess.specs.Guess.{Task}
 use Rattle.asc_jobs.specs.declared.job.Job.{Job}
 use Rattle.asc_jobs.specs.Jobs.{Giver, after_push}
 use Rattle.asc_jobs.specs.JobRule.{CountUp}
 use Rattle.asc_outside.specs.Outside.{one_more}
-use Rattle.asc_find.specs.Serial.{Task}
 use Rattle.asc_live.specs.Due.{Due, Pusher, Pushes, IsSublist, due_of, full_of, is_filled, jobs_of, raised}
 use Rattle.asc_live.proofs.Lists.{IsSublist-append, CountUp-append}
 

@@ -13,9 +13,10 @@ use Rattle.asc_find.specs.Finder.{Seen}
 use Rattle.asc_find.specs.Helper.{Plans, Sees, seen, newly_guessed, guesses_at}
 use Rattle.asc_find.specs.Serial.{kinds_of, tasks_of}
 use Rattle.asc_run.proofs.Seeings.{newly-later, guesses_until-more}
+use Rattle.asc_run.specs.LastVisits.{issued_after}
 use Rattle.asc_live.specs.Budget.{Budget, pays}
 use Rattle.asc_live.specs.Due.{Due, Pusher, Pushes, full_of, is_filled, jobs_of, raised}
-use Rattle.asc_live.specs.Live.{Live, IsLive, HasSeen, Visits, plan_of, charged, due_by, given_up, is_guessing, is_needless, is_passed_over, issued_by, offers_at, seen_after}
+use Rattle.asc_live.specs.Live.{Live, IsLive, HasSeen, Visits, plan_of, charged, due_by, given_up, is_guessing, is_needless, is_passed_over, offers_at, seen_after}
 use Rattle.asc_live.proofs.Pushing.{nothing, Pushes-few, Pushes-none-offered, both-true, filled-is, full-is, pushed-length, room-more}
 use Rattle.asc_live.proofs.Tasks.{kinds-few, twice, visit-length}
 
@@ -124,7 +125,7 @@ abbrev after : {F : Type 0} → (number pages : ℕ) → State → (old : Live F
 after number pages now old p = record (charged pages old) {
   prev = old.last;
   last = Some now;
-  issued = issued_by number old.last (Some now) old;
+  issued = issued_after old.guessing old.issued number old.last;
   pusher = p;
   seen = seen_after number p.refused old.seen;
 }
@@ -173,15 +174,15 @@ pushes-sees offers n now old p q h on pair pushes none =
     all-made offers (due_by (n + 1) old.last (Some now) old) old.pusher p pushes h.refused none
     ∙ ap (λ m. length old.pusher.giver.pushed + full_of old.pusher + m) (due-seen n now old q h on pair)
 
-issued-none : {F : Type 0} (n : ℕ) (now : State) (old : Live F) → HasSeen n old → is_guessing old.guessing ≡ true → n + 1 < 2 → issued_by (n + 1) old.last (Some now) old ≡ 0
+issued-none : {F : Type 0} (n : ℕ) (now : State) (old : Live F) → HasSeen n old → is_guessing old.guessing ≡ true → n + 1 < 2 → issued_after old.guessing old.issued (n + 1) old.last ≡ 0
 issued-none n now old h on few =
     let z : n ≡ 0 = omega (arith, few) in
-    ap (λ last. issued_by (n + 1) last (Some now) old) (h.first z) ∙ h.none_issued on (omega (arith, few))
+    ap (λ last. issued_after old.guessing old.issued (n + 1) last) (h.first z) ∙ h.none_issued on (omega (arith, few))
 
-issued-some : {F : Type 0} (n : ℕ) (now : State) (old : Live F) → HasSeen n old → is_guessing old.guessing ≡ true → (is_filled old.pusher.giver ≡ true → (last : State) × (old.last ≡ Some last)) → 2 ≤ n + 1 → issued_by (n + 1) old.last (Some now) old ≡ n + 1 + old.guessing.ahead
+issued-some : {F : Type 0} (n : ℕ) (now : State) (old : Live F) → HasSeen n old → is_guessing old.guessing ≡ true → (is_filled old.pusher.giver ≡ true → (last : State) × (old.last ≡ Some last)) → 2 ≤ n + 1 → issued_after old.guessing old.issued (n + 1) old.last ≡ n + 1 + old.guessing.ahead
 issued-some n now old h on pair more =
     let last = last-kept n old h on pair (omega (arith, more)) in
-    ap (λ last. issued_by (n + 1) last (Some now) old) last.1
+    ap (λ last. issued_after old.guessing old.issued (n + 1) last) last.1
 
 after-seen : {F : Type 0} (n pages : ℕ) (now : State) (old : Live F) (p : Pusher) → n + 1 ≤ 2 ^ 40 → IsLive old → HasSeen n old → is_guessing old.guessing ≡ true → (is_filled old.pusher.giver ≡ true → (last : State) × (old.last ≡ Some last)) → Pushes (offers_at (n + 1) old) (due_by (n + 1) old.last (Some now) old) old.pusher p → p.refused ≡ 0
     → HasSeen (n + 1) (after (n + 1) pages now old p)
@@ -195,7 +196,7 @@ after-seen n pages now old p most q h on pair pushes none = record {
   issued = λ on. issued-some n now old h on pair;
 }
 
-issued-small : {F : Type 0} (number : ℕ) (last : Option State) (now : State) (old : Live F) → number ≤ 2 ^ 40 → old.guessing.ahead ≤ 64 → old.issued ≤ 2 ^ 41 → issued_by number last (Some now) old ≤ 2 ^ 41
+issued-small : {F : Type 0} (number : ℕ) (last : Option State) (now : State) (old : Live F) → number ≤ 2 ^ 40 → old.guessing.ahead ≤ 64 → old.issued ≤ 2 ^ 41 → issued_after old.guessing old.issued number last ≤ 2 ^ 41
 issued-small number None now old most ahead issued = issued
 issued-small number (Some last) now old most ahead issued = omega (arith, most, ahead)
 
@@ -329,7 +330,7 @@ given_up-told number pages last old q room before told next same =
 -- what it leaves
 abbrev pub left-alone : {F : Type 0} → (number : ℕ) → State → (old : Live F) → Live F
 left-alone number now old = record (charged 0 old) {
-  issued = issued_by number old.last (Some now) old;
+  issued = issued_after old.guessing old.issued number old.last;
   pusher = record old.pusher { left = old.pusher.left + length (due_by number old.last (Some now) old) };
   seen = seen_after number old.pusher.refused old.seen;
 }

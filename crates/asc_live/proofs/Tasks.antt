@@ -6,8 +6,9 @@ use Rattle.std.proofs.lemmas.List.{length-append, length-map}
 use Rattle.asc_model.specs.State.{State}
 use Rattle.asc_guess.specs.declared.kind.Kind.{Kind}
 use Rattle.asc_guess.specs.declared.kind.Kind.TheVariants.{Last, Stride}
+use Rattle.asc_guess.specs.Guess.{Task}
 use Rattle.asc_find.specs.declared.guessing.Guessing.{Guessing}
-use Rattle.asc_find.specs.Serial.{Task, kinds_of, tasks_of}
+use Rattle.asc_find.specs.Serial.{kinds_of, tasks_of}
 use Rattle.asc_run.specs.SerialInside.{tasks_for}
 use Rattle.asc_live.specs.Due.{Due, jobs_of}
 

@@ -1,5 +1,6 @@
 -- What the visits of a walk may cost it, in steps of the guest, and which of them are passed over.
 use Rattle.std.specs.Prelude.{◌≡◌, ℕ, ◌+◌, ◌-◌, ◌*◌, ◌^◌, ◌<◌, ◌≤◌, nat_le, min, ◌&&◌, ◌||◌, not, Bool, false, Option, Some, None, if◌then◌else◌}
+use Rattle.asc_model.specs.declared.limits.TheConstants.{MOST_WORKERS}
 
 pub record Budget : Type 0 where
   -- what a visit is charged, beside the pages that it copies
@@ -33,7 +34,7 @@ saved_steps = 3
 
 -- what a visit is charged, beside its pages: for 64 workers at most
 abbrev pub visit_cost : (workers : ℕ) → ℕ
-visit_cost workers = visit_steps + worker_steps * min workers 64
+visit_cost workers = visit_steps + worker_steps * min workers MOST_WORKERS
 
 -- what a row of 32 visits that copy no page is charged, of which each is charged so much: a budget has no more
 abbrev pub row_cost : (cost : ℕ) → ℕ
@@ -95,7 +96,7 @@ after_look_up left jumped b = record b {
 -- What holds of every budget. While something is owed, nothing is left for visits, so that none is paid for.
 pub record IsBudget (b : Budget) : Type 0 where
   pub least : 0 < b.cost
-  pub cost : b.cost ≤ visit_cost 64
+  pub cost : b.cost ≤ visit_cost MOST_WORKERS
   pub steps : b.steps ≤ row_cost b.cost
   pub debt : 0 < b.owed → b.steps ≡ 0
   pub owed : b.owed ≤ charge b (2 ^ 23)

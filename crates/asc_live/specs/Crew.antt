@@ -1,18 +1,18 @@
 -- A walk with workers beside it, and a crew of workers for several walks.
 use Rattle.std.specs.Prelude.{◌≡◌, ℕ, ◌+◌, ◌*◌, ◌<◌, ◌≤◌, List, [], length, map, slice_index_or, All, Option, Some, None, IsSome}
 use mathlib.Core.List.{IsPrefix}
+use Rattle.asc_model.specs.declared.limits.TheConstants.{MOST_AHEAD, MOST_ENTRIES, MOST_GUESSES}
 use Rattle.asc_model.specs.Entry.{Entry}
 use Rattle.asc_model.specs.Shape.{Shape}
 use Rattle.asc_find.specs.declared.guessing.Guessing.{Guessing}
-use Rattle.asc_calls.specs.World.{BlamesOnly, Outside, Told, outside}
+use Rattle.asc_calls.specs.World.{BlamesOnly, Outside}
 use Rattle.asc_cache.specs.Cache.{IsOwnReader, ShardReader, ShardReaders, ShardWriter, id_of}
 use Rattle.asc_shard.specs.Content.{content_of}
-use Rattle.asc_shard.specs.Shard.{run_capacity}
 use Rattle.asc_jobs.specs.Jobs as jobs
 use Rattle.asc_run.specs.declared.walk.Ended.{Ended}
 use Rattle.asc_run.specs.Execution.{device_of}
 use Rattle.asc_find.specs.Finder.{Aid}
-use Rattle.asc_run.specs.Seen.{guesses_until}
+use Rattle.asc_run.specs.Guessed.{guesses_until}
 use Rattle.asc_find.specs.Helper.{seen}
 use Rattle.asc_run.specs.LastVisits.{no_visits}
 use Rattle.asc_run.specs.Walk.{Walk, GoesFirst, IsRaisedBy, jumps}
@@ -32,10 +32,6 @@ pub record IsNewAid (guessing : Guessing) (a : Aid) : Type 0 where
   pub refused : a.plan.refused ≡ 0
   pub full : a.plan.full ≡ 0
   pub seen_is : a.plan.seen ≡ Some (seen 0 guessing)
-
--- what devices tell, and the counter of steps
-abbrev pub outside_with : Told → (steps : ℕ) → Outside
-outside_with t steps = outside t.left t.out t.err steps t.faults
 
 -- A walk that had not ended went to its end beside a crew, with a helper that came from first to last. Each job that was
 -- pushed is counted as run or as left.
@@ -58,8 +54,8 @@ pub record WentBeside (guessing : Guessing) (crew : Crew) (was now : Walk) (old 
   pub jobs : worked.made ≡ worked.taken.tally.ran + worked.taken.left
   -- where memory was not wanting, each guess that was due was pushed, or found no room or was not offered
   pub guesses : worked.refused ≡ 0 → worked.made + worked.full ≡ guesses_until guessing now.jumps.asked
-  -- with memory or without, at most 128 guesses were pushed, found no room or were not offered at each visit
-  pub few : worked.made + worked.full ≤ 128 * now.jumps.asked
+  -- with memory or without, at most MOST_GUESSES guesses were pushed, found no room or were not offered at each visit
+  pub few : worked.made + worked.full ≤ MOST_GUESSES * now.jumps.asked
   -- a guess found no room, or was not offered, only once as many were pushed as the queue holds
   pub room : 0 < worked.full → crew.queue ≤ worked.made
   -- as many workers were beside it as the crew has
@@ -90,8 +86,8 @@ pub record IsAskedFor (shape : Shape) (guessing : Guessing) (crew : Crew) (runs 
 -- The reader of shard 0 has learnt insertions that leave what these entries leave, added in their order.
 pub record HasLearnt (entries : List Entry) (readers : List ShardReader) : Type 0 where
   pub learnt : List Entry
-  pub content : content_of run_capacity learnt ≡ content_of run_capacity entries
-  pub capacity : (d : ShardReader) → (slice_index_or readers 0 d).capacity ≡ run_capacity
+  pub content : content_of MOST_ENTRIES learnt ≡ content_of MOST_ENTRIES entries
+  pub capacity : (d : ShardReader) → (slice_index_or readers 0 d).capacity ≡ MOST_ENTRIES
   pub seen : (d : ShardReader) → IsPrefix learnt (slice_index_or readers 0 d).seen
 
 -- the reader at a writer's number is its shard's, and has seen all that the writer has stored
@@ -122,7 +118,7 @@ HasBoundsOf shape guessing w =
 -- one of these readers is that of a writer's shard, which may hold so many entries
 pub record IsWriterOf (readers : List ShardReader) (w : ShardWriter) : Type 0 where
   pub own : IsOwnReader w readers
-  pub capacity : w.capacity ≡ run_capacity
+  pub capacity : w.capacity ≡ MOST_ENTRIES
 
 -- a worker has the bounds that it had, and the shard into which it writes
 pub record IsSameWorker (w v : Worker ShardWriter Flag) : Type 0 where
@@ -167,7 +163,7 @@ writers_of posts = map (λ (p : Post ShardWriter Flag). p.worker.writer) posts
 pub record IsOpenCrew (shape : Shape) (guessing : Guessing) (crew : Crew) (readers : Option ShardReaders)
     (t : Team ShardWriter Flag) (many : ℕ) (runs : List RunParts) : Type 0 where
   pub least : 1 ≤ guessing.ahead
-  pub most : guessing.ahead ≤ 64
+  pub most : guessing.ahead ≤ MOST_AHEAD
   pub there : IsSome readers
   pub shards : length (readers_in readers) ≡ crew.workers
   pub team : IsTeamOf shape guessing crew.workers (readers_in readers) t

@@ -4,10 +4,10 @@ use Rattle.std.specs.Arc.{arc_value}
 use Rattle.asc_model.specs.State.{State}
 use Rattle.asc_guess.specs.declared.kind.Kind.{Kind}
 use Rattle.asc_outside.specs.Outside.{one_more}
+use Rattle.asc_guess.specs.Guess.{Task}
 use Rattle.asc_jobs.specs.declared.job.Job.{Job}
 use Rattle.asc_jobs.specs.Jobs.{Giver}
 use Rattle.asc_jobs.specs.JobRule.{CountUp}
-use Rattle.asc_find.specs.Serial.{Task}
 
 -- a job that is due: from the states of the last visit and of the one before, a later visit is to be guessed
 pub record Due : Type 0 where

@@ -3,7 +3,7 @@ use Rattle.std.specs.Prelude.{◌≡◌, ℕ, ◌+◌, ◌-◌, ◌*◌, ◌/◌
 use Rattle.asc_find.specs.declared.guessing.Guessing.{Guessing}
 use Rattle.asc_find.specs.Finder.{Plan}
 use Rattle.asc_jobs.specs.Jobs.{Queue}
-use Rattle.asc_run.specs.Seen.{SeesAll, guesses_until}
+use Rattle.asc_run.specs.Guessed.{SeesAll, guesses_until}
 use Rattle.asc_find.specs.Helper.{seen}
 use Rattle.asc_live.specs.Due.{is_for_workers}
 

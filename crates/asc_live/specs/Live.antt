@@ -2,6 +2,7 @@
 use Rattle.std.specs.Prelude.{◌≡◌, ◌⊎◌, ℕ, ◌+◌, ◌/◌, ◌^◌, ◌≤◌, ◌<◌, nat_lt, ◌==◌, ◌&&◌, ◌||◌, not, Bool, true, false, List, [], length, Option, Some, None, if◌then◌else◌}
 use Rattle.std.specs.List.{list_any}
 use Rattle.std.specs.Option.{is_some}
+use Rattle.asc_model.specs.declared.limits.TheConstants.{MOST_AHEAD}
 use Rattle.asc_model.specs.Shape.{length_of}
 use Rattle.asc_model.specs.State.{State}
 use Rattle.asc_outside.specs.Outside.{one_more}
@@ -10,8 +11,8 @@ use Rattle.asc_jobs.specs.Jobs.{Giver, queue_of}
 use Rattle.asc_find.specs.declared.guessing.Guessing.{Guessing}
 use Rattle.asc_find.specs.Finder.{Aid, Plan}
 use Rattle.asc_find.specs.Serial.{kinds_of, tasks_of}
-use Rattle.asc_run.specs.LastVisits.{LastVisits}
-use Rattle.asc_run.specs.Seen.{guesses_until}
+use Rattle.asc_run.specs.LastVisits.{LastVisits, issued_after}
+use Rattle.asc_run.specs.Guessed.{guesses_until}
 use Rattle.asc_find.specs.Helper.{seen}
 use Rattle.asc_live.specs.Budget.{Budget, new_budget, passes, after_visit, visit_cost}
 use Rattle.asc_live.specs.Due.{Due, Pusher, Pushes, new_pusher, full_of, is_filled, is_for_workers, is_offered, jobs_of}
@@ -87,12 +88,6 @@ due_by number None last l = []
 abbrev pub offers_at : {F : Type 0} → (number : ℕ) → Live F → Due → Bool
 offers_at number l = is_offered (is_filled l.pusher.giver) l.workers number
 
--- the last visit that is guessed once those jobs were pushed
-abbrev pub issued_by : {F : Type 0} → (number : ℕ) → (prev last : Option State) → Live F → ℕ
-issued_by number (Some prev) (Some last) l = number + l.guessing.ahead
-issued_by number (Some prev) None l = l.issued
-issued_by number None last l = l.issued
-
 -- up to which visit all are guessed after a visit, where so often memory was wanting
 abbrev pub seen_after : (number refused : ℕ) → Option ℕ → Option ℕ
 seen_after number refused (Some before) = if (number == before + 1) && (refused == 0) then Some number else None
@@ -161,7 +156,7 @@ pub record KeepsNone {F : Type 0} (number : ℕ) (now : State) (old new : Live F
   pub on : is_guessing old.guessing ≡ true
   pub needless : is_needless number old ≡ true
   pub rest : new ≡ record (charged 0 old) {
-    issued = issued_by number old.last (Some now) old;
+    issued = issued_after old.guessing old.issued number old.last;
     pusher = record old.pusher { left = old.pusher.left + length (due_by number old.last (Some now) old) };
     seen = seen_after number old.pusher.refused old.seen;
   }
@@ -177,7 +172,7 @@ pub record Keeps {F : Type 0} (number pages : ℕ) (now : State) (old new : Live
   pub rest : new ≡ record (charged pages old) {
     prev = old.last;
     last = Some now;
-    issued = issued_by number old.last (Some now) old;
+    issued = issued_after old.guessing old.issued number old.last;
     pusher = new.pusher;
     seen = seen_after number new.pusher.refused old.seen;
   }
@@ -214,7 +209,7 @@ pub record HasSeen {F : Type 0} (number : ℕ) (l : Live F) : Type 0 where
 -- what holds of every such helper
 pub record IsLive {F : Type 0} (l : Live F) : Type 0 where
   pub least : 1 ≤ l.guessing.ahead
-  pub most : l.guessing.ahead ≤ 64
+  pub most : l.guessing.ahead ≤ MOST_AHEAD
   pub issued : l.issued ≤ 2 ^ 41
   pub price : l.budget.cost ≡ visit_cost l.workers
   -- a guess finds no room, or is not offered, only once the queue had been filled up

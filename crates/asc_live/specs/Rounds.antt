@@ -3,8 +3,8 @@ use Rattle.std.specs.Prelude.{◌≡◌, ℕ, ◌<◌, ◌≤◌, true, List, le
 use Rattle.std.specs.Option.{is_some}
 use Rattle.asc_model.specs.State.{State}
 use Rattle.asc_traj.specs.declared.made.Made.{Made}
+use Rattle.asc_guess.specs.Guess.{Task}
 use Rattle.asc_find.specs.Finder.{Aid}
-use Rattle.asc_find.specs.Serial.{Task}
 use Rattle.asc_run.specs.SerialHelper.{SerialHelper, aid_of}
 use Rattle.asc_work.specs.Lanes.{Lanes, IsDone}
 

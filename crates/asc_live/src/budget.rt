@@ -1,6 +1,7 @@
 ghost use Rattle.std.specs.Prelude.{◌≡◌, ◌<◌, ◌≤◌, ◌^◌, ℕ, Bool, true, false, IfSome};
 ghost use Rattle.asc_live.specs.Budget.{new_budget, passes, pays, after_visit, after_look_up};
 
+use asc_model::MOST_WORKERS;
 use std::marker::Model;
 
 /// What a visit is charged for its jobs, in steps of the guest. It is several times what most visits take.
@@ -11,9 +12,6 @@ const WORKER_STEPS: u64 = 500;
 
 /// What it is charged for each page that it copies.
 const PAGE_STEPS: u64 = 256;
-
-/// So many workers are charged for at most.
-const WORKERS: usize = 64;
 
 /// A step that was jumped over counts as so many more: it is saved, and visits may cost what they save.
 const SAVED: u64 = 3;
@@ -52,7 +50,7 @@ impl Budget {
     pub fn new(workers: usize, knows: bool) -> Budget
         ensures { result ≡ new_budget workers knows }
     {
-        let cost = VISIT_STEPS + WORKER_STEPS * workers.min(WORKERS) as u64;
+        let cost = VISIT_STEPS + WORKER_STEPS * workers.min(MOST_WORKERS) as u64;
         Budget {
             cost,
             steps: ROW * cost,

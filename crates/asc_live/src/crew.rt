@@ -1,10 +1,10 @@
 ghost use Rattle.std.specs.Prelude.{◌≡◌, ◌≤◌, ◌^◌, length, IfOk, OnErr, IsNone, None, Some, true, false};
-ghost use Rattle.asc_calls.specs.World.{outside_of};
+ghost use Rattle.asc_calls.specs.World.{outside_of, outside_with};
 ghost use Rattle.asc_cache.specs.Cache.{AreLater};
 ghost use Rattle.asc_run.specs.Helped.{HasRoom};
 ghost use Rattle.asc_run.specs.Walk.{jumps};
 ghost use Rattle.atomic_table.specs.Seated.{TableId};
-ghost use Rattle.asc_live.specs.Crew.{AreSameWorkers, IsForRun, Walks, WentBeside, outside_with};
+ghost use Rattle.asc_live.specs.Crew.{AreSameWorkers, IsForRun, Walks, WentBeside};
 
 use crate::Live;
 use crate::ground::Ground;
@@ -13,9 +13,9 @@ use crate::open_crew::{OpenCrew, RunParts};
 use asc_cache::{ShardReaders, ShardWriter};
 use asc_calls::Devices;
 use asc_find::{Guessing, Helper};
-use asc_outside::{Gate, Memory, Point, Sink, Source};
+use asc_model::{MOST_AHEAD, MOST_WAITING, MOST_WORKERS};
+use asc_outside::{Gate, Memory, Point, Sink, Source, Steps};
 use asc_run::{Ended, Walk};
-use asc_shape::Steps;
 use asc_traj::Entry;
 use asc_work::{Flag, Halter, TakenIn, Team};
 use crossbeam_utils::sync::Unparker;
@@ -79,9 +79,9 @@ pub fn go_beside<
     steps: &mut Steps<L>,
 ) -> Result<Worked, Memory>
     requires new { IsNone walk.old.ended }
-    requires workers { (1 ≤ crew.workers) × (crew.workers ≤ 64) }
-    requires queue { (1 ≤ crew.queue) × (crew.queue ≤ 1024) }
-    requires ahead { (1 ≤ guessing.ahead) × (guessing.ahead ≤ 64) }
+    requires workers { (1 ≤ crew.workers) × (crew.workers ≤ MOST_WORKERS) }
+    requires queue { (1 ≤ crew.queue) × (crew.queue ≤ MOST_WAITING) }
+    requires ahead { (1 ≤ guessing.ahead) × (guessing.ahead ≤ MOST_AHEAD) }
     requires laps { 1 ≤ guessing.laps }
     requires span { 1 ≤ guessing.span }
     ensures went { IfOk result (λ worked. WentBeside guessing crew walk.old walk.new (outside_of devices.old steps.old)
@@ -120,7 +120,7 @@ pub(crate) fn go_lent<
     steps: &mut Steps<L>,
 ) -> (Worked, ShardReaders<R>)
     requires new { IsNone walk.old.ended }
-    requires ahead { (1 ≤ parts.visits.guessing.ahead) × (parts.visits.guessing.ahead ≤ 64) }
+    requires ahead { (1 ≤ parts.visits.guessing.ahead) × (parts.visits.guessing.ahead ≤ MOST_AHEAD) }
     requires parts { IsForRun parts.visits.guessing crew parts }
     requires workers { length team.old.posts ≡ crew.workers }
     requires idle { team.old.queue ≡ None }

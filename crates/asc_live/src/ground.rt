@@ -1,14 +1,13 @@
 //! What a walk goes over.
-ghost use Rattle.std.specs.Prelude.{◌≡◌, ◌^◌, IsNone};
-ghost use Rattle.asc_calls.specs.World.{Told};
+ghost use Rattle.std.specs.Prelude.{◌^◌, IsNone};
+ghost use Rattle.asc_calls.specs.World.{Told, outside_with};
 ghost use Rattle.asc_run.specs.Helped.{HasRoom};
-ghost use Rattle.asc_live.specs.Crew.{Walks, outside_with};
+ghost use Rattle.asc_live.specs.Crew.{Walks};
 
 use asc_calls::Devices;
 use asc_find::Helper;
-use asc_outside::{Sink, Source};
+use asc_outside::{Sink, Source, Steps};
 use asc_run::{Ended, Walk};
-use asc_shape::Steps;
 use std::sync::ledger::Ledger;
 
 /// Devices, whatever their types: a closure can hold a `&mut` to one type parameter, and none to a struct of three.

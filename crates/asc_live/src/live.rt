@@ -5,9 +5,9 @@ ghost use Rattle.asc_traj.specs.Jump.{IsJump};
 ghost use Rattle.asc_find.specs.Finder.{Tells, jumps_after};
 ghost use Rattle.asc_find.specs.Serial.{Serial, serial_reply};
 ghost use Rattle.asc_find.specs.Helper.{Plans, VisitsMachine, Sees};
-ghost use Rattle.asc_run.specs.LastVisits.{no_visits};
+ghost use Rattle.asc_run.specs.LastVisits.{no_visits, issued_after};
 ghost use Rattle.asc_live.specs.Laws.{new_plan};
-ghost use Rattle.asc_live.specs.Live.{IsLive, new_live, plan_of, told_over, given_up, refused_visit, due_by, is_needless, is_passed_over, issued_by, is_guessing, offers_at, seen_after as seen_by, Visits, VisitsWritten};
+ghost use Rattle.asc_live.specs.Live.{IsLive, new_live, plan_of, told_over, given_up, refused_visit, due_by, is_needless, is_passed_over, is_guessing, offers_at, seen_after as seen_by, Visits, VisitsWritten};
 ghost use Rattle.asc_jobs.specs.Jobs.{queue_of};
 ghost use Rattle.asc_live.specs.Due.{Pushes, full_of, is_filled};
 ghost use Rattle.asc_live.specs.Budget.{after_look_up};
@@ -17,6 +17,7 @@ use crate::pusher::Pusher;
 use crate::share::Share;
 use asc_find::{Finder, Helper};
 use asc_jobs::Giver;
+use asc_model::MOST_AHEAD;
 use asc_outside::{Gate, Point};
 use asc_run::LastVisits;
 use asc_shape::State;
@@ -82,7 +83,7 @@ impl<'a, F, G, R> Live<'a, F, G, R> {
         requires giver { giver.pushed ≡ [] }
         requires new { visits ≡ no_visits visits.guessing }
         requires least { 1 ≤ visits.guessing.ahead }
-        requires most { visits.guessing.ahead ≤ 64 }
+        requires most { visits.guessing.ahead ≤ MOST_AHEAD }
         ensures live { result ≡ new_live finder giver visits.guessing (length workers.now.items) knows }
         ensures plan { plan_of result ≡ new_plan visits.guessing (Some (queue_of giver)) }
     {
@@ -209,7 +210,7 @@ impl<'a, F, G, R> Live<'a, F, G, R> {
         requires full { full_of self.old.pusher < 2 ^ 62 }
         requires seen { self.old.seen ≡ None }
         ensures { (now : state) → self.new ≡ record self.old {
-          issued = issued_by number self.old.last (Some now) self.old;
+          issued = issued_after self.old.guessing self.old.issued number self.old.last;
           pusher = record self.old.pusher {
             left = self.old.pusher.left + length (due_by number self.old.last (Some now) self.old);
           };
@@ -281,7 +282,7 @@ impl<'a, F, G, R: Wait> Live<'a, F, G, R> {
         ensures pushes { Pushes (offers_at number self.old) (due_by number self.old.prev self.old.last self.old)
             self.old.pusher self.new.pusher }
         ensures rest { self.new ≡ record self.old {
-          issued = issued_by number self.old.prev self.old.last self.old;
+          issued = issued_after self.old.guessing self.old.issued number self.old.prev;
           pusher = self.new.pusher;
         } }
     {
@@ -359,9 +360,8 @@ impl<'a, F: Finder, G, R> Finder for Live<'a, F, G, R> {
 
 impl<'a, F: Finder, G: Gate, R: Wait> Helper for Live<'a, F, G, R> {
     /// Pushes the jobs that are due, and wakes a worker for each. Once the queue had been filled up it pushes the workers'
-    /// share of them; the others count as full. A visit costs a copy of what
-    /// changed in the state since the last one, and two owners more of a copy for each job. The budget is charged for each
-    /// page of that copy.
+    /// share of them; the others count as full. A visit costs a copy of what changed in the state since the last one, and
+    /// two owners more of a copy for each job. The budget is charged for each page of that copy.
     ///
     /// A visit at which none is offered keeps no state, where guesses go by the last state alone. It copies no page.
     ///

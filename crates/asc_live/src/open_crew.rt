@@ -11,9 +11,10 @@ use asc_cache::{ShardReaders, ShardWriter};
 use asc_calls::Devices;
 use asc_find::Guessing;
 use asc_jobs::{Giver, Jobs, Taker};
-use asc_outside::{Gate, Memory, Sink, Source};
+use asc_model::{MOST_AHEAD, MOST_WAITING, MOST_WORKERS};
+use asc_outside::{Gate, Memory, Sink, Source, Steps};
 use asc_run::{LastVisits, Walk};
-use asc_shape::{Shape, Steps};
+use asc_shape::Shape;
 use asc_traj::Entry;
 use asc_work::{Flag, Halter, Team, Worker};
 use crossbeam_utils::sync::Unparker;
@@ -36,9 +37,9 @@ pub(crate) struct RunParts {
 impl RunParts {
     // Opens what one run needs.
     fn open(alloc: Global, guessing: Guessing, crew: Crew) -> Result<RunParts, Memory>
-        requires workers { (1 ≤ crew.workers) × (crew.workers ≤ 64) }
-        requires queue { (1 ≤ crew.queue) × (crew.queue ≤ 1024) }
-        requires ahead { guessing.ahead ≤ 64 }
+        requires workers { (1 ≤ crew.workers) × (crew.workers ≤ MOST_WORKERS) }
+        requires queue { (1 ≤ crew.queue) × (crew.queue ≤ MOST_WAITING) }
+        requires ahead { guessing.ahead ≤ MOST_AHEAD }
         ensures { IfOk result (λ parts. IsForRun guessing crew parts) }
     {
         let (halter, flags) = Halter::open(alloc, crew.workers)?;
@@ -107,9 +108,9 @@ impl<R: Wait + Drop> OpenCrew<R> {
     ) -> Result<OpenCrew<R>, Memory>
     where
         R: Copy,
-        requires workers { (1 ≤ crew.workers) × (crew.workers ≤ 64) }
-        requires queue { (1 ≤ crew.queue) × (crew.queue ≤ 1024) }
-        requires ahead { (1 ≤ guessing.ahead) × (guessing.ahead ≤ 64) }
+        requires workers { (1 ≤ crew.workers) × (crew.workers ≤ MOST_WORKERS) }
+        requires queue { (1 ≤ crew.queue) × (crew.queue ≤ MOST_WAITING) }
+        requires ahead { (1 ≤ guessing.ahead) × (guessing.ahead ≤ MOST_AHEAD) }
         requires laps { 1 ≤ guessing.laps }
         requires span { 1 ≤ guessing.span }
         requires runs { (1 ≤ runs) × (runs ≤ 64) }
@@ -201,9 +202,9 @@ fn parts_of(
     crew: Crew,
     runs: usize,
 ) -> Result<Vec<RunParts>, Memory>
-    requires workers { (1 ≤ crew.workers) × (crew.workers ≤ 64) }
-    requires queue { (1 ≤ crew.queue) × (crew.queue ≤ 1024) }
-    requires ahead { guessing.ahead ≤ 64 }
+    requires workers { (1 ≤ crew.workers) × (crew.workers ≤ MOST_WORKERS) }
+    requires queue { (1 ≤ crew.queue) × (crew.queue ≤ MOST_WAITING) }
+    requires ahead { guessing.ahead ≤ MOST_AHEAD }
     ensures count { IfOk result (λ parts. length parts.items ≡ runs) }
     ensures each { IfOk result (λ parts. All (IsForRun guessing crew) parts.items) }
 {
@@ -223,7 +224,7 @@ fn team_of<R: Wait + Drop>(
     writers: Vec<ShardWriter<R>>,
 ) -> Result<(Team<ShardWriter<R>, Flag>, Vec<Unparker>), Memory>
     requires some { 0 < length writers.items }
-    requires few { length writers.items ≤ 64 }
+    requires few { length writers.items ≤ MOST_WORKERS }
     requires laps { 1 ≤ guessing.laps }
     requires span { 1 ≤ guessing.span }
     ensures team { IfOk result (λ r. (readers : List ShardReader) → All (IsWriterOf readers) writers.items

@@ -9,6 +9,7 @@ use crate::share::Share;
 use asc_find::Guessing;
 use asc_guess::Kind;
 use asc_jobs::{Full, Giver};
+use asc_model::MOST_GUESSES;
 use asc_shape::Snapshot;
 use std::marker::Model;
 use std::sync::{Arc, Wait};
@@ -107,7 +108,7 @@ impl<'a, R> Pusher<'a, R> {
     /// Counts these jobs as left to the walk. Once `MOST_PUSHED` were pushed it counts none.
     pub(crate) fn leave(&mut self, jobs: &[(Kind, u32)])
         requires full { full_of self.old < 2 ^ 62 }
-        requires few { length jobs.now ≤ 128 }
+        requires few { length jobs.now ≤ MOST_GUESSES }
         ensures { (prev last : State) → self.new ≡ record self.old {
           left = self.old.left
               + length (if nat_lt (length self.old.giver.pushed) (2 ^ 60) then jobs_of prev last jobs.now else []);
@@ -148,7 +149,7 @@ impl<'a, R: Wait> Pusher<'a, R> {
         requires workers { share.workers + 1 < 2 ^ 64 }
         requires filled { share.filled ≡ true → is_filled self.old.giver ≡ true }
         requires full { full_of self.old < 2 ^ 62 }
-        requires few { length jobs.now ≤ 128 }
+        requires few { length jobs.now ≤ MOST_GUESSES }
         requires number { number ≤ 2 ^ 40 }
         ensures { Pushes (is_offered share.filled share.workers number)
             (if nat_lt (length self.old.giver.pushed) (2 ^ 60)

@@ -6,8 +6,8 @@ ghost use Rattle.asc_run.specs.Walk.{jumps};
 ghost use Rattle.asc_live.specs.Crew.{HasLearnt, IsWriterOf};
 
 use asc_cache::{Cache, ShardReaders, ShardWriter};
+use asc_model::{MOST_ENTRIES, MOST_WORKERS};
 use asc_outside::Memory;
-use asc_shard::RUN_CAPACITY;
 use asc_traj::Entry;
 use std::alloc::Global;
 use std::sync::{Arc, Wait};
@@ -19,14 +19,14 @@ pub(crate) fn open_shards<R: Wait + Copy + Drop>(
     shards: usize,
     first: &[Arc<Entry>],
 ) -> Result<(Vec<ShardWriter<R>>, ShardReaders<R>), Memory>
-    requires shards { (1 ≤ shards) × (shards ≤ 64) }
+    requires shards { (1 ≤ shards) × (shards ≤ MOST_WORKERS) }
     ensures writer_count { IfOk result (λ r. length r.0.items ≡ shards) }
     ensures reader_count { IfOk result (λ r. length r.1.readers ≡ shards) }
     ensures own { IfOk result (λ r. All (IsWriterOf r.1.readers) r.0.items) }
     ensures none_asked { IfOk result (λ r. r.1.jumps ≡ jumps 0 0 0) }
     ensures learnt { IfOk result (λ r. HasLearnt (map arc_value first.now) r.1.readers) }
 {
-    let (mut writers, mut readers) = Cache::open(alloc, rt, shards, RUN_CAPACITY)?.split();
+    let (mut writers, mut readers) = Cache::open(alloc, rt, shards, MOST_ENTRIES)?.split();
     let writer = &mut writers[0];
     insert_all(writer, first)?;
     readers.meet(writer);

@@ -2,7 +2,8 @@
 ghost use Rattle.std.specs.Prelude.{◌≡◌, ◌<◌};
 
 use asc_model::{Fault, FaultKind};
-use asc_shape::{Shape, State, Steps};
+use asc_outside::Steps;
+use asc_shape::{Shape, State};
 use asc_step::{Stepped, step, step_down, step_many, step_until, try_step};
 use std::alloc::Global;
 use std::marker::Brand;
@@ -202,56 +203,56 @@ fn misaligned_targets(rt: HostRuntime) {
     );
 }
 
-/// Illegal words, breaks, and addresses that are refused.
+/// Illegal words, breaks, and addresses that are refused: the word, x10, x11 and x12 before it, and then the fault.
+static FAULT_ROWS: [(u32, [u32; 3], FaultKind, u32); 10] = [
+    (0, [3, 0, 0], FaultKind::Illegal, 0),
+    (0x0010_0073, [3, 0, 0], FaultKind::Break, 0),
+    // LW x6, -3(x10)
+    (
+        0xFFD5_2303,
+        [0x20000, 0, 0],
+        FaultKind::LoadOutside,
+        0x1FFFD,
+    ),
+    // SW x11, -3(x10)
+    (
+        0xFEB5_2EA3,
+        [0x20000, 1, 0],
+        FaultKind::StoreOutside,
+        0x1FFFD,
+    ),
+    // AMOADD.W x5, x6, (x10): alignment is tested before the bounds.
+    (
+        0x0065_22AF,
+        [0x11001, 0, 0],
+        FaultKind::AtomicMisaligned,
+        0x11001,
+    ),
+    (0x0065_22AF, [2, 0, 0], FaultKind::AtomicMisaligned, 2),
+    (0x0065_22AF, [0, 0, 0], FaultKind::StoreOutside, 0),
+    // LR.W x5, (x10), and the same with a second source
+    (0x1005_22AF, [0, 0, 0], FaultKind::LoadOutside, 0),
+    (
+        0x1015_22AF,
+        [0x11000, 0, 0],
+        FaultKind::Illegal,
+        0x1015_22AF,
+    ),
+    // SC.W x5, x11, (x10) is tested also where it would fail.
+    (
+        0x18B5_22AF,
+        [0x20000, 0, 0],
+        FaultKind::StoreOutside,
+        0x20000,
+    ),
+];
+
 #[test]
 fn single_faults(rt: HostRuntime) {
-    take(
-        &rt,
-        rt.alloc(),
-        shape_at(&rt, 0x10000),
-        &[
-            faults(0, [3, 0, 0], FaultKind::Illegal, 0),
-            faults(0x0010_0073, [3, 0, 0], FaultKind::Break, 0),
-            // LW x6, -3(x10)
-            faults(
-                0xFFD5_2303,
-                [0x20000, 0, 0],
-                FaultKind::LoadOutside,
-                0x1FFFD,
-            ),
-            // SW x11, -3(x10)
-            faults(
-                0xFEB5_2EA3,
-                [0x20000, 1, 0],
-                FaultKind::StoreOutside,
-                0x1FFFD,
-            ),
-            // AMOADD.W x5, x6, (x10): alignment is tested before the bounds.
-            faults(
-                0x0065_22AF,
-                [0x11001, 0, 0],
-                FaultKind::AtomicMisaligned,
-                0x11001,
-            ),
-            faults(0x0065_22AF, [2, 0, 0], FaultKind::AtomicMisaligned, 2),
-            faults(0x0065_22AF, [0, 0, 0], FaultKind::StoreOutside, 0),
-            // LR.W x5, (x10), and the same with a second source
-            faults(0x1005_22AF, [0, 0, 0], FaultKind::LoadOutside, 0),
-            faults(
-                0x1015_22AF,
-                [0x11000, 0, 0],
-                FaultKind::Illegal,
-                0x1015_22AF,
-            ),
-            // SC.W x5, x11, (x10) is tested also where it would fail.
-            faults(
-                0x18B5_22AF,
-                [0x20000, 0, 0],
-                FaultKind::StoreOutside,
-                0x20000,
-            ),
-        ],
-    );
+    for (word, before, kind, value) in FAULT_ROWS {
+        let case = faults(word, before, kind, value);
+        take(&rt, rt.alloc(), shape_at(&rt, 0x10000), &[case]);
+    }
     let one = Shape::new(0x10000, 65_536).expect(&rt, "a shape");
     let case = faults(
         0x0065_22AF,

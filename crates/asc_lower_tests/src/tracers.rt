@@ -3,9 +3,9 @@ ghost use Rattle.std.specs.Prelude.{◌≡◌};
 ghost use Rattle.asc_model.specs.Shape.{length_of};
 
 use crate::tracers::Call::{Get, GetWord, Put, PutWord, Reset, Undo};
-use asc_depvec::{Block, LEAST_CAP, Tracer, Unfilled};
-use asc_model::Status;
+use asc_depvec::{Block, Tracer, Unfilled};
 use asc_model::Status::{Read, ReadWritten, Untouched, Written};
+use asc_model::{STEP_ROOM, Status};
 use asc_shape::{Bytes, Guess, Shape, Snapshot, State, Words};
 use std::alloc::Global;
 use std::process::Abort;
@@ -85,48 +85,52 @@ fn start_from<R: Abort>(rt: &R, tracer: &mut Tracer, from: Guess) {
     tracer.start(from);
 }
 
-// What a call answers; then the status of a place; how many places are touched, and how many more may be; and the
-// last of them, with its byte at the start.
+/// What a call answers; then the status of a place; how many places are touched, and how many more may be; and the
+/// last of them, with its byte at the start.
+type TouchRow = (Call, u32, u32, Status, usize, usize, Option<(u32, u8)>);
+
+static TOUCH_ROWS: [TouchRow; 22] = [
+    (Get(0), 4, 0, Read, 1, 31, Some((0, 4))),
+    (Get(0), 4, 0, Read, 1, 31, Some((0, 4))),
+    (Put(0, 9), 0, 0, ReadWritten, 1, 31, Some((0, 4))),
+    (Get(0), 9, 0, ReadWritten, 1, 31, Some((0, 4))),
+    (Put(1, 7), 0, 1, Written, 2, 30, Some((1, 3))),
+    (Get(1), 7, 1, Written, 2, 30, Some((1, 3))),
+    (Put(1, 8), 0, 1, Written, 2, 30, Some((1, 3))),
+    (PutWord(4, 0xAABB_CCDD), 0, 5, Written, 6, 26, Some((7, 17))),
+    (PutWord(4, 0x0A0B_0C0D), 0, 5, Written, 6, 26, Some((7, 17))),
+    (GetWord(4), 0x0A0B_0C0D, 7, Written, 6, 26, Some((7, 17))),
+    (GetWord(6), 0x0A0B, 8, Read, 8, 24, Some((9, 0))),
+    (Undo(6), 0, 8, Untouched, 6, 26, Some((7, 17))),
+    (Undo(6), 0, 7, Written, 6, 26, Some((7, 17))),
+    (GetWord(8), 0, 11, Read, 10, 22, Some((11, 0))),
+    (Undo(7), 0, 8, Read, 7, 25, Some((8, 0))),
+    (GetWord(0), 0x0102_0809, 2, Read, 9, 23, Some((3, 1))),
+    (Reset, 0, 0, Untouched, 0, 32, None),
+    (GetWord(0), 0x0102_0304, 0, Read, 4, 28, Some((3, 1))),
+    (
+        PutWord(0, 0x0403_0201),
+        0,
+        3,
+        ReadWritten,
+        4,
+        28,
+        Some((3, 1)),
+    ),
+    (GetWord(0), 0x0403_0201, 0, ReadWritten, 4, 28, Some((3, 1))),
+    (Undo(2), 0, 2, Untouched, 2, 30, Some((1, 3))),
+    (GetWord(0), 0x0102_0201, 3, Read, 4, 28, Some((3, 1))),
+];
+
 #[test]
 fn touches(rt: HostRuntime) {
     let shape = Shape::new(0x10000, 65_536).expect(&rt, "a shape");
     let mut first = State::new(rt.alloc(), shape).expect(&rt, "memory");
     first.set_pc(0x0102_0304);
     first.set_reg(1, 0x1122_3344);
-    let mut tracer = Tracer::new(rt.alloc(), shape, LEAST_CAP).expect(&rt, "memory");
+    let mut tracer = Tracer::new(rt.alloc(), shape, STEP_ROOM).expect(&rt, "memory");
     start(&rt, rt.alloc(), &mut tracer, &first);
-    for (call, answer, place, status, touched, left, seen) in [
-        (Get(0), 4, 0, Read, 1, 31, Some((0, 4))),
-        (Get(0), 4, 0, Read, 1, 31, Some((0, 4))),
-        (Put(0, 9), 0, 0, ReadWritten, 1, 31, Some((0, 4))),
-        (Get(0), 9, 0, ReadWritten, 1, 31, Some((0, 4))),
-        (Put(1, 7), 0, 1, Written, 2, 30, Some((1, 3))),
-        (Get(1), 7, 1, Written, 2, 30, Some((1, 3))),
-        (Put(1, 8), 0, 1, Written, 2, 30, Some((1, 3))),
-        (PutWord(4, 0xAABB_CCDD), 0, 5, Written, 6, 26, Some((7, 17))),
-        (PutWord(4, 0x0A0B_0C0D), 0, 5, Written, 6, 26, Some((7, 17))),
-        (GetWord(4), 0x0A0B_0C0D, 7, Written, 6, 26, Some((7, 17))),
-        (GetWord(6), 0x0A0B, 8, Read, 8, 24, Some((9, 0))),
-        (Undo(6), 0, 8, Untouched, 6, 26, Some((7, 17))),
-        (Undo(6), 0, 7, Written, 6, 26, Some((7, 17))),
-        (GetWord(8), 0, 11, Read, 10, 22, Some((11, 0))),
-        (Undo(7), 0, 8, Read, 7, 25, Some((8, 0))),
-        (GetWord(0), 0x0102_0809, 2, Read, 9, 23, Some((3, 1))),
-        (Reset, 0, 0, Untouched, 0, 32, None),
-        (GetWord(0), 0x0102_0304, 0, Read, 4, 28, Some((3, 1))),
-        (
-            PutWord(0, 0x0403_0201),
-            0,
-            3,
-            ReadWritten,
-            4,
-            28,
-            Some((3, 1)),
-        ),
-        (GetWord(0), 0x0403_0201, 0, ReadWritten, 4, 28, Some((3, 1))),
-        (Undo(2), 0, 2, Untouched, 2, 30, Some((1, 3))),
-        (GetWord(0), 0x0102_0201, 3, Read, 4, 28, Some((3, 1))),
-    ] {
+    for (call, answer, place, status, touched, left, seen) in TOUCH_ROWS {
         assert_eq!(rt; make(&rt, &mut tracer, call), answer);
         assert_eq!(rt; tracer.status(place), status);
         assert_eq!(rt;
@@ -137,38 +141,51 @@ fn touches(rt: HostRuntime) {
     }
 }
 
-// What a call answers; then the statuses of places 8 to 11, of which a word has all, some or none touched; and how
-// many places are touched.
+/// The statuses of places 8 to 11.
+type Statuses = (Status, Status, Status, Status);
+
+const ONE_WRITTEN: Statuses = (Untouched, Written, Untouched, Untouched);
+
+const OTHERS_READ: Statuses = (Read, Written, Read, Read);
+
+const ALL_WRITTEN: Statuses = (ReadWritten, Written, ReadWritten, ReadWritten);
+
+const TWO_UNDONE: Statuses = (ReadWritten, Written, Untouched, Untouched);
+
+const WRITTEN_AGAIN: Statuses = (ReadWritten, Written, Written, Written);
+
+const NOT_TOUCHED: Statuses = (Untouched, Untouched, Untouched, Untouched);
+
+const ALL_READ: Statuses = (Read, Read, Read, Read);
+
+const FRONT_READ: Statuses = (Read, Read, Untouched, Untouched);
+
+/// What a call answers; then the statuses of places 8 to 11, of which a word has all, some or none touched; and how
+/// many places are touched.
+static WORD_ROWS: [(Call, u32, Statuses, usize); 16] = [
+    (Put(9, 7), 0, ONE_WRITTEN, 1),
+    (GetWord(8), 0x0700, OTHERS_READ, 4),
+    (GetWord(8), 0x0700, OTHERS_READ, 4),
+    (PutWord(8, 0x0403_0201), 0, ALL_WRITTEN, 4),
+    (GetWord(8), 0x0403_0201, ALL_WRITTEN, 4),
+    (Undo(2), 0, TWO_UNDONE, 2),
+    (PutWord(8, 0x0807_0605), 0, WRITTEN_AGAIN, 4),
+    (GetWord(6), 0x0605_0000, WRITTEN_AGAIN, 6),
+    (PutWord(10, 0x0C0B_0A09), 0, WRITTEN_AGAIN, 8),
+    (GetWord(8), 0x0A09_0605, WRITTEN_AGAIN, 8),
+    (Reset, 0, NOT_TOUCHED, 0),
+    (GetWord(8), 0, ALL_READ, 4),
+    (GetWord(4), 0, ALL_READ, 8),
+    (Undo(4), 0, ALL_READ, 4),
+    (Undo(2), 0, FRONT_READ, 2),
+    (Reset, 0, NOT_TOUCHED, 0),
+];
+
 #[test]
 fn words(rt: HostRuntime) {
     let shape = Shape::new(0x10000, 65_536).expect(&rt, "a shape");
-    let mut tracer = Tracer::new(rt.alloc(), shape, LEAST_CAP).expect(&rt, "memory");
-    let put = (Untouched, Written, Untouched, Untouched);
-    let read = (Read, Written, Read, Read);
-    let both = (ReadWritten, Written, ReadWritten, ReadWritten);
-    let half = (ReadWritten, Written, Untouched, Untouched);
-    let again = (ReadWritten, Written, Written, Written);
-    let none = (Untouched, Untouched, Untouched, Untouched);
-    let reads = (Read, Read, Read, Read);
-    let front = (Read, Read, Untouched, Untouched);
-    for (call, answer, statuses, touched) in [
-        (Put(9, 7), 0, put, 1),
-        (GetWord(8), 0x0700, read, 4),
-        (GetWord(8), 0x0700, read, 4),
-        (PutWord(8, 0x0403_0201), 0, both, 4),
-        (GetWord(8), 0x0403_0201, both, 4),
-        (Undo(2), 0, half, 2),
-        (PutWord(8, 0x0807_0605), 0, again, 4),
-        (GetWord(6), 0x0605_0000, again, 6),
-        (PutWord(10, 0x0C0B_0A09), 0, again, 8),
-        (GetWord(8), 0x0A09_0605, again, 8),
-        (Reset, 0, none, 0),
-        (GetWord(8), 0, reads, 4),
-        (GetWord(4), 0, reads, 8),
-        (Undo(4), 0, reads, 4),
-        (Undo(2), 0, front, 2),
-        (Reset, 0, none, 0),
-    ] {
+    let mut tracer = Tracer::new(rt.alloc(), shape, STEP_ROOM).expect(&rt, "memory");
+    for (call, answer, statuses, touched) in WORD_ROWS {
         assert_eq!(rt; make(&rt, &mut tracer, call), answer);
         assert_eq!(rt;
             (
@@ -427,7 +444,7 @@ fn strides(rt: HostRuntime) {
         (1, 0x120, 0xFFFF_FFF7),
         (3, 0x140, 0xFFFF_FFE7),
     ] {
-        let mut tracer = Tracer::new(alloc, shape, LEAST_CAP).expect(&rt, "memory");
+        let mut tracer = Tracer::new(alloc, shape, STEP_ROOM).expect(&rt, "memory");
         let before = Arc::try_clone(&prev).expect(&rt, "memory");
         let after = Arc::try_clone(&later).expect(&rt, "memory");
         assert!(rt; before.shape() == after.shape());
@@ -458,7 +475,7 @@ fn pieces(rt: HostRuntime) {
         (0x10_0000, 17, true),
     ] {
         let shape = Shape::new(0x10000, size).expect(&rt, "a shape");
-        let mut memory = Unfilled::new(alloc, shape, LEAST_CAP).expect(&rt, "memory");
+        let mut memory = Unfilled::new(alloc, shape, STEP_ROOM).expect(&rt, "memory");
         let mut filled = false;
         for _ in 0..calls {
             filled = memory.fill_some();
@@ -475,7 +492,7 @@ fn look_untouched<R: Abort>(rt: &R, tracer: &Tracer) {
     for place in 0..places(Bytes::shape(tracer)) {
         assert_eq!(rt; (tracer.byte(place), tracer.status(place)), (0, Untouched));
     }
-    assert_eq!(rt; (tracer.touched_count(), tracer.room()), (0, LEAST_CAP));
+    assert_eq!(rt; (tracer.touched_count(), tracer.room()), (0, STEP_ROOM));
 }
 
 /// Starts a tracer of a state, and reads and puts its first word and its last one.

@@ -7,6 +7,3 @@ mod program;
 
 pub use file::image;
 pub use laws::words_stand_at_their_addresses;
-
-#[cfg(test)]
-mod tests;

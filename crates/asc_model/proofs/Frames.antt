@@ -17,7 +17,7 @@ use Rattle.asc_model.specs.Machine.{Machine, register, load, is_reserved, Change
 use Rattle.asc_model.specs.Arithmetic.{◌+w◌, one_if}
 use Rattle.asc_model.specs.Instruction.{decode, op_of, rd_of, rs1_of, rs2_of, imm_of}
 use Rattle.asc_model.specs.Effect.{Effect, Set, Load, Store, Jump, LoadReserved, StoreConditional, Modify, GuestCall, Breakpoint, effect}
-use Rattle.asc_model.specs.Step.{Outcome, Goes, Calls, Faults, fault_outcome, is_aligned, loaded_word, effect_of, outcome_of, fetch, outcome_of_word, outcome, Next, Went, Call, Faulted, next}
+use Rattle.asc_model.specs.Step.{Outcome, Went, Call, Faulted, fault_outcome, is_aligned, loaded_word, effect_of, outcome_of, fetch, outcome_of_word, outcome, Next, next}
 use Rattle.asc_model.specs.Places.{places_from, register_places, reservation_places, data_places, operand_places, places_read, cells_of_outcome, writes, places_written, bytes_after}
 use Rattle.asc_model.specs.DependencyVector.{without, first_reads, written_in}
 use Rattle.asc_model.specs.Laws.{KeepsOthers, AgreeOn, GoesAlike, StepsAlike, OneStepFrame, ManyStepsFrame}
@@ -88,12 +88,12 @@ places_read-fetched s p q = rw (p, q) refl
 
 -- what a pc comes to at which no word can be fetched
 abbrev unfetched_outcome : ℕ → Outcome
-unfetched_outcome pc = Faults (record { kind = if not (is_aligned pc) then Misaligned else FetchOutside; pc = pc; value = pc })
+unfetched_outcome pc = Faulted (record { kind = if not (is_aligned pc) then Misaligned else FetchOutside; pc = pc; value = pc })
 
 -- a step whose word cannot be fetched
 unfetched : (x y : Bool) (m : Machine) (o : Outcome) → x && y ≡ false
     → (if not x then fault_outcome m Misaligned m.pc else (if not y then fault_outcome m FetchOutside m.pc else o))
-    ≡ Faults (record { kind = if not x then Misaligned else FetchOutside; pc = m.pc; value = m.pc })
+    ≡ Faulted (record { kind = if not x then Misaligned else FetchOutside; pc = m.pc; value = m.pc })
 unfetched true true m o e = absurd (cc)
 unfetched true false m o e = refl
 unfetched false y m o e = refl
@@ -173,7 +173,7 @@ module _ (shape : Shape) (a b : List ℕ) where
   -- ---- outcomes
 
   fault-alike : (view_of s).pc ≡ (view_of t).pc → (kind : FaultKind) (value : ℕ) → fault_outcome (view_of s) kind value ≡ fault_outcome (view_of t) kind value
-  fault-alike p kind value = ap (λ x. Faults (record { kind = kind; pc = x; value = value })) p
+  fault-alike p kind value = ap (λ x. Faulted (record { kind = kind; pc = x; value = value })) p
 
   if-alike : (test : Bool) (x y z w : Outcome) → (test ≡ true → x ≡ z) → y ≡ w → (if test then x else y) ≡ (if test then z else w)
   if-alike true x y z w p q = p refl
@@ -187,29 +187,29 @@ module _ (shape : Shape) (a b : List ℕ) where
   atomic-alike false y f g h k list other p q r = p
 
   outcome_of-alike : (rd : ℕ) (e : Effect) → (view_of s).pc ≡ (view_of t).pc → DataAlike e → outcome_of shape (view_of s) rd e ≡ outcome_of shape (view_of t) rd e
-  outcome_of-alike rd (Set value) p h = ap (λ x. Goes (Pc (x +w 4) ∷ Register rd value ∷ [])) p
+  outcome_of-alike rd (Set value) p h = ap (λ x. Went (Pc (x +w 4) ∷ Register rd value ∷ [])) p
   outcome_of-alike rd (Load n signed address) p h =
       if-alike (holds shape address n) _ _ _ _
-      (λ e. ap (λ x. Goes (Pc (x +w 4) ∷ Register rd (loaded_word n signed (load shape (view_of s) n address)) ∷ [])) p
-      ∙ ap (λ x. Goes (Pc ((view_of t).pc +w 4) ∷ Register rd (loaded_word n signed x) ∷ [])) (h e))
+      (λ e. ap (λ x. Went (Pc (x +w 4) ∷ Register rd (loaded_word n signed (load shape (view_of s) n address)) ∷ [])) p
+      ∙ ap (λ x. Went (Pc ((view_of t).pc +w 4) ∷ Register rd (loaded_word n signed x) ∷ [])) (h e))
       (fault-alike p LoadOutside address)
   outcome_of-alike rd (Store n address value) p h =
-      if-alike (holds shape address n) _ _ _ _ (λ e. ap (λ x. Goes (Pc (x +w 4) ∷ Memory address (bytes_of n value) ∷ [])) p) (fault-alike p StoreOutside address)
+      if-alike (holds shape address n) _ _ _ _ (λ e. ap (λ x. Went (Pc (x +w 4) ∷ Memory address (bytes_of n value) ∷ [])) p) (fault-alike p StoreOutside address)
   outcome_of-alike rd (Jump target) p h =
-      if-alike (is_aligned target) _ _ _ _ (λ e. ap (λ x. Goes (Pc target ∷ Register rd (x +w 4) ∷ [])) p) (fault-alike p Misaligned target)
+      if-alike (is_aligned target) _ _ _ _ (λ e. ap (λ x. Went (Pc target ∷ Register rd (x +w 4) ∷ [])) p) (fault-alike p Misaligned target)
   outcome_of-alike rd (LoadReserved address) p h =
       atomic-alike (is_aligned address) (holds shape address 4) _ _ _ _ _ _ (fault-alike p AtomicMisaligned address) (fault-alike p LoadOutside address)
-      (λ e. ap (λ x. Goes (Pc (x +w 4) ∷ Register rd (load shape (view_of s) 4 address) ∷ reserve address ∷ [])) p
-      ∙ ap (λ x. Goes (Pc ((view_of t).pc +w 4) ∷ Register rd x ∷ reserve address ∷ [])) (h e))
+      (λ e. ap (λ x. Went (Pc (x +w 4) ∷ Register rd (load shape (view_of s) 4 address) ∷ reserve address ∷ [])) p
+      ∙ ap (λ x. Went (Pc ((view_of t).pc +w 4) ∷ Register rd x ∷ reserve address ∷ [])) (h e))
   outcome_of-alike rd (StoreConditional address value) p h =
       atomic-alike (is_aligned address) (holds shape address 4) _ _ _ _ _ _ (fault-alike p AtomicMisaligned address) (fault-alike p StoreOutside address)
-      (λ e. ap (λ x. Goes (Pc (x +w 4) ∷ Register rd (one_if (not (is_reserved (view_of s) address))) ∷ release
+      (λ e. ap (λ x. Went (Pc (x +w 4) ∷ Register rd (one_if (not (is_reserved (view_of s) address))) ∷ release
       ∷ (if is_reserved (view_of s) address then Memory address (bytes_of 4 value) ∷ [] else []))) p
-      ∙ ap (λ (x : Bool). Goes (Pc ((view_of t).pc +w 4) ∷ Register rd (one_if (not x)) ∷ release ∷ (if x then Memory address (bytes_of 4 value) ∷ [] else []))) (h e))
+      ∙ ap (λ (x : Bool). Went (Pc ((view_of t).pc +w 4) ∷ Register rd (one_if (not x)) ∷ release ∷ (if x then Memory address (bytes_of 4 value) ∷ [] else []))) (h e))
   outcome_of-alike rd (Modify address change) p h =
       atomic-alike (is_aligned address) (holds shape address 4) _ _ _ _ _ _ (fault-alike p AtomicMisaligned address) (fault-alike p StoreOutside address)
-      (λ e. ap (λ x. Goes (Pc (x +w 4) ∷ Register rd (load shape (view_of s) 4 address) ∷ Memory address (bytes_of 4 (change (load shape (view_of s) 4 address))) ∷ [])) p
-      ∙ ap (λ x. Goes (Pc ((view_of t).pc +w 4) ∷ Register rd x ∷ Memory address (bytes_of 4 (change x)) ∷ [])) (h e))
+      (λ e. ap (λ x. Went (Pc (x +w 4) ∷ Register rd (load shape (view_of s) 4 address) ∷ Memory address (bytes_of 4 (change (load shape (view_of s) 4 address))) ∷ [])) p
+      ∙ ap (λ x. Went (Pc ((view_of t).pc +w 4) ∷ Register rd x ∷ Memory address (bytes_of 4 (change x)) ∷ [])) (h e))
   outcome_of-alike rd GuestCall p h = refl
   outcome_of-alike rd Breakpoint p h = fault-alike p Break 0
 
@@ -376,7 +376,7 @@ module _ (shape : Shape) (a b : List ℕ) (good : IsState (made shape a)) (good'
   unfolding writes
   writes-alike = ap (cells_of_outcome shape) (sym both_alike.outcomes)
 
-  goes_on : (list : List Change) → outcome shape (view_of from) ≡ Goes list → (after : State) → next from ≡ Went after
+  goes_on : (list : List Change) → outcome shape (view_of from) ≡ Went list → (after : State) → next from ≡ Went after
       → (end : State) × (next other ≡ Went end) × GoesAlike (places_written from) from after other end
   goes_on list e after h =
       let there : next from ≡ Went (made shape (bytes_after a (writes from))) = next-goes from list good e in
@@ -395,7 +395,7 @@ module _ (shape : Shape) (a b : List ℕ) (good : IsState (made shape a)) (good'
       )
 
   steps-alike : (o : Outcome) → outcome shape (view_of from) ≡ o → StepsAlike from other
-  steps-alike (Goes list) e =
+  steps-alike (Went list) e =
       let n = next-goes from list good e in
       record {
         read = sym both_alike.places;
@@ -404,7 +404,7 @@ module _ (shape : Shape) (a b : List ℕ) (good : IsState (made shape a)) (good'
         calls = λ h. absurd (cc);
         fails = λ fault h. absurd (cc);
       }
-  steps-alike Calls e =
+  steps-alike Call e =
       let n = next-calls from e in
       record {
         read = sym both_alike.places;
@@ -413,7 +413,7 @@ module _ (shape : Shape) (a b : List ℕ) (good : IsState (made shape a)) (good'
         calls = λ h. next-calls other (sym both_alike.outcomes ∙ e);
         fails = λ fault h. absurd (cc);
       }
-  steps-alike (Faults fault) e =
+  steps-alike (Faulted fault) e =
       let n = next-fails from fault e in
       record {
         read = sym both_alike.places;

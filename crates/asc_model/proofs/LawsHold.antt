@@ -4,7 +4,7 @@ use Rattle.std.proofs.lemmas.List.{get_or-set_other}
 use Rattle.asc_model.specs.Places.{writes, bytes_after}
 use Rattle.asc_model.specs.State.{State, IsState}
 use Rattle.asc_model.specs.Machine.{after_changes, view_of, state_of}
-use Rattle.asc_model.specs.Step.{Outcome, Goes, Calls, Faults, outcome, Went, next_of, next}
+use Rattle.asc_model.specs.Step.{Outcome, Went, Call, Faulted, outcome, next_of, next}
 use Rattle.asc_model.specs.Laws.{ViewsDetermineStates, StatesDetermineViews, WritesOfStep, StepWritesBytes, StepsKeepStates}
 use Rattle.asc_model.proofs.Changes.{state_of-view_of, view_of-state_of, IsMachine-view_of, IsState-state_of, IsMachine-after_changes}
 use Rattle.asc_model.proofs.Steps.{outcome-AreChanges, next-goes, next-calls, next-fails, writes-calls, writes-fails}
@@ -24,7 +24,7 @@ bytes_after-other bytes (cell ∷ list) place apart =
     ∙ get_or-set_other bytes cell.0 place cell.1 0 first
 
 by_outcome : (s : State) → IsState s → (o : Outcome) → outcome s.shape (view_of s) ≡ o → WritesOfStep s
-by_outcome s good (Goes list) e =
+by_outcome s good (Went list) e =
     let n = next-goes s list good e in
     record {
       goes = λ after h. cc;
@@ -34,7 +34,7 @@ by_outcome s good (Goes list) e =
       calls = λ h. absurd (cc);
       fails = λ fault h. absurd (cc);
     }
-by_outcome s good Calls e =
+by_outcome s good Call e =
     let n = next-calls s e in
     record {
       goes = λ after h. absurd (cc);
@@ -42,7 +42,7 @@ by_outcome s good Calls e =
       calls = λ h. writes-calls s e;
       fails = λ fault h. absurd (cc);
     }
-by_outcome s good (Faults kind) e =
+by_outcome s good (Faulted kind) e =
     let n = next-fails s kind e in
     record {
       goes = λ after h. absurd (cc);
@@ -56,13 +56,13 @@ step_writes_bytes s good = by_outcome s good (outcome s.shape (view_of s)) refl
 
 kept_by_outcome : (s after : State) → IsState s → (o : Outcome) → outcome s.shape (view_of s) ≡ o → next s ≡ Went after → IsState after × (after.shape ≡ s.shape)
 unfolding next state_of
-kept_by_outcome s after good (Goes list) e h =
+kept_by_outcome s after good (Went list) e h =
     let n : next s ≡ Went (state_of s.shape (after_changes s.shape (view_of s) list)) = ap (next_of s.shape (view_of s)) e in
     let same : state_of s.shape (after_changes s.shape (view_of s) list) ≡ after = cc in
     let machine = IsMachine-after_changes s.shape (view_of s) list (IsMachine-view_of s good) (outcome-AreChanges s list good e) in
     (subst IsState same (IsState-state_of s.shape (after_changes s.shape (view_of s) list) machine), sym (ap (λ (t : State). t.shape) same))
-kept_by_outcome s after good Calls e h = let n = next-calls s e in absurd (cc)
-kept_by_outcome s after good (Faults fault) e h = let n = next-fails s fault e in absurd (cc)
+kept_by_outcome s after good Call e h = let n = next-calls s e in absurd (cc)
+kept_by_outcome s after good (Faulted fault) e h = let n = next-fails s fault e in absurd (cc)
 
 pub steps_keep_states : StepsKeepStates
 steps_keep_states s after good h = kept_by_outcome s after good (outcome s.shape (view_of s)) refl h

@@ -21,7 +21,7 @@ use Rattle.asc_model.specs.Machine.{Machine, Change, Pc, Register, Memory, reser
 use Rattle.asc_model.specs.Arithmetic.{◌+w◌, signed, one_if}
 use Rattle.asc_model.specs.Effect.{Effect, Set, Load, Store, Jump, LoadReserved, StoreConditional, Modify, GuestCall, Breakpoint, branch, effect}
 use Rattle.asc_model.specs.Instruction.{Format, U, J, I, Shift, S, B, R, Plain, Row, operands, fits, find, table, decode, op_of, rd_of, rs1_of, rs2_of, imm_of}
-use Rattle.asc_model.specs.Step.{Outcome, Goes, Calls, Faults, fault_outcome, is_aligned, atomic_outcome, loaded_word, effect_of, outcome_of, fetch, outcome, Went, next}
+use Rattle.asc_model.specs.Step.{Outcome, Went, Call, Faulted, fault_outcome, is_aligned, atomic_outcome, loaded_word, effect_of, outcome_of, fetch, outcome, next}
 use Rattle.asc_model.specs.Places.{places_from, register_places, reservation_places, data_places, operand_places, places_read, places_written, cells, cells_of, cells_of_outcome, writes}
 use Rattle.asc_model.specs.DependencyVector.{is_among}
 use Rattle.asc_model.specs.Laws.{RegistersFollowWords}
@@ -87,7 +87,7 @@ find-IfStores : (rows : List Row) (word : ℕ) → stores_fit rows ≡ true → 
 find-IfStores [] word h = tt
 find-IfStores (row ∷ rows) word h =
     let both = and_parts (not (is_store row.op) || has_no_destination row.format) (stores_fit rows) h in
-    by_branch IfStores (fits row.key word) (Some (operands row.format row.op word)) (find rows word)
+    by_branch IfStores (fits row.pattern word) (Some (operands row.format row.op word)) (find rows word)
     (λ e store. operands-store row.op word row.format both.0 (sym (ap is_store (op_of-operands row.format row.op word)) ∙ store)) (λ e. find-IfStores rows word both.1)
 
 pub decode-IfStores : (version : Version) (word : ℕ) → IfStores (decode version word)
@@ -207,17 +207,17 @@ abbrev registers_written : ℕ → List ℕ
 registers_written rd = places_from 0 4 ++ register_places rd
 
 abbrev WritesRegisters : Shape → ℕ → Outcome → Type 0
-WritesRegisters shape rd (Goes list) = (place : ℕ) → place < 128
+WritesRegisters shape rd (Went list) = (place : ℕ) → place < 128
     → is_among place (map (λ cell. cell.0) (flat_map (cells_of shape) list)) ≡ is_among place (registers_written rd)
-WritesRegisters shape rd Calls = Unit {0}
-WritesRegisters shape rd (Faults fault) = Unit {0}
+WritesRegisters shape rd Call = Unit {0}
+WritesRegisters shape rd (Faulted fault) = Unit {0}
 
 register-cells : (shape : Shape) (rd value : ℕ) → map (λ cell. cell.0) (cells_of shape (Register rd value)) ≡ register_places rd
 register-cells shape zero value = refl
 register-cells shape (suc k) value = refl
 
 sets-registers : (shape : Shape) (pc rd value : ℕ) (list : List Change) → AreHigh (map (λ cell. cell.0) (flat_map (cells_of shape) list))
-    → WritesRegisters shape rd (Goes (Pc pc ∷ Register rd value ∷ list))
+    → WritesRegisters shape rd (Went (Pc pc ∷ Register rd value ∷ list))
 sets-registers shape pc rd value list high place low =
     let first = cells_of shape (Pc pc) in
     let second = cells_of shape (Register rd value) in
@@ -229,7 +229,7 @@ sets-registers shape pc rd value list high place low =
     ∙ ap (is_among place) (register-cells shape rd value))
     ∙ sym (among-append place (places_from 0 4) (register_places rd))
 
-stores-registers : (shape : Shape) (pc rd : ℕ) (list : List Change) → rd ≡ 0 → AreHigh (map (λ cell. cell.0) (flat_map (cells_of shape) list)) → WritesRegisters shape rd (Goes (Pc pc ∷ list))
+stores-registers : (shape : Shape) (pc rd : ℕ) (list : List Change) → rd ≡ 0 → AreHigh (map (λ cell. cell.0) (flat_map (cells_of shape) list)) → WritesRegisters shape rd (Went (Pc pc ∷ list))
 stores-registers shape pc rd list none high place low =
     let first = cells_of shape (Pc pc) in
     let rest = flat_map (cells_of shape) list in
@@ -238,11 +238,11 @@ stores-registers shape pc rd list none high place low =
     ∙ sym (among-behind place (places_from 0 4) [] none-AreHigh low)
     ∙ ap (λ k. is_among place (registers_written k)) (sym none)
 
-atomic-registers : (shape : Shape) (m : Machine) (rd : ℕ) (outside : FaultKind) (address : ℕ) (list : List Change) → WritesRegisters shape rd (Goes list)
+atomic-registers : (shape : Shape) (m : Machine) (rd : ℕ) (outside : FaultKind) (address : ℕ) (list : List Change) → WritesRegisters shape rd (Went list)
     → WritesRegisters shape rd (atomic_outcome shape m outside address list)
 atomic-registers shape m rd outside address list h =
-    by_branch (WritesRegisters shape rd) (not (is_aligned address)) (fault_outcome m AtomicMisaligned address) (if holds shape address 4 then Goes list else fault_outcome m outside address) (λ e. tt)
-    (λ e. by_branch (WritesRegisters shape rd) (holds shape address 4) (Goes list) (fault_outcome m outside address) (λ e. h) (λ e. tt))
+    by_branch (WritesRegisters shape rd) (not (is_aligned address)) (fault_outcome m AtomicMisaligned address) (if holds shape address 4 then Went list else fault_outcome m outside address) (λ e. tt)
+    (λ e. by_branch (WritesRegisters shape rd) (holds shape address 4) (Went list) (fault_outcome m outside address) (λ e. h) (λ e. tt))
 
 one-AreHigh : (shape : Shape) (address : ℕ) (bytes : List ℕ) → AreHigh (map (λ cell. cell.0) (flat_map (cells_of shape) (Memory address bytes ∷ [])))
 one-AreHigh shape address bytes = map-AreHigh (cells_of shape (Memory address bytes)) [] (stored-AreHigh shape address bytes) none-AreHigh
@@ -250,13 +250,13 @@ one-AreHigh shape address bytes = map-AreHigh (cells_of shape (Memory address by
 outcome_of-registers : (shape : Shape) (m : Machine) (rd : ℕ) (e : Effect) → StoresNone e rd → WritesRegisters shape rd (outcome_of shape m rd e)
 outcome_of-registers shape m rd (Set value) h = sets-registers shape (m.pc +w 4) rd value [] none-AreHigh
 outcome_of-registers shape m rd (Load n signed address) h =
-    by_branch (WritesRegisters shape rd) (holds shape address n) (Goes (Pc (m.pc +w 4) ∷ Register rd (loaded_word n signed (load shape m n address)) ∷ [])) (fault_outcome m LoadOutside address)
+    by_branch (WritesRegisters shape rd) (holds shape address n) (Went (Pc (m.pc +w 4) ∷ Register rd (loaded_word n signed (load shape m n address)) ∷ [])) (fault_outcome m LoadOutside address)
     (λ e. sets-registers shape (m.pc +w 4) rd (loaded_word n signed (load shape m n address)) [] none-AreHigh) (λ e. tt)
 outcome_of-registers shape m rd (Store n address value) h =
-    by_branch (WritesRegisters shape rd) (holds shape address n) (Goes (Pc (m.pc +w 4) ∷ Memory address (bytes_of n value) ∷ [])) (fault_outcome m StoreOutside address)
+    by_branch (WritesRegisters shape rd) (holds shape address n) (Went (Pc (m.pc +w 4) ∷ Memory address (bytes_of n value) ∷ [])) (fault_outcome m StoreOutside address)
     (λ e. stores-registers shape (m.pc +w 4) rd (Memory address (bytes_of n value) ∷ []) h (one-AreHigh shape address (bytes_of n value))) (λ e. tt)
 outcome_of-registers shape m rd (Jump target) h =
-    by_branch (WritesRegisters shape rd) (is_aligned target) (Goes (Pc target ∷ Register rd (m.pc +w 4) ∷ [])) (fault_outcome m Misaligned target)
+    by_branch (WritesRegisters shape rd) (is_aligned target) (Went (Pc target ∷ Register rd (m.pc +w 4) ∷ [])) (fault_outcome m Misaligned target)
     (λ e. sets-registers shape target rd (m.pc +w 4) [] none-AreHigh) (λ e. tt)
 outcome_of-registers shape m rd (LoadReserved address) h =
     atomic-registers shape m rd LoadOutside address (Pc (m.pc +w 4) ∷ Register rd (load shape m 4 address) ∷ reserve address ∷ [])
@@ -283,20 +283,20 @@ record StepsBy (s : State) (i : Instr) : Type 0 where
   read : (place : ℕ) → place < 128 → is_among place (places_read s) ≡ is_among place (registers_read i)
   written : (place : ℕ) → place < 128 → is_among place (places_written s) ≡ is_among place (registers_written (rd_of i))
 
-goes≢ : (s after : State) (fault : Fault) → outcome s.shape (view_of s) ≡ Faults fault → next s ≡ Went after → ⊥
+goes≢ : (s after : State) (fault : Fault) → outcome s.shape (view_of s) ≡ Faulted fault → next s ≡ Went after → ⊥
 goes≢ s after fault e h = let n = next-fails s fault e in absurd (cc)
 
 refused≢ : (s after : State) (kind : FaultKind) (value : ℕ) → outcome s.shape (view_of s) ≡ fault_outcome (view_of s) kind value → next s ≡ Went after → ⊥
 refused≢ s after kind value e h = goes≢ s after (record { kind = kind; pc = (view_of s).pc; value = value }) e h
 
-calls≢ : (s after : State) → outcome s.shape (view_of s) ≡ Calls → next s ≡ Went after → ⊥
+calls≢ : (s after : State) → outcome s.shape (view_of s) ≡ Call → next s ≡ Went after → ⊥
 calls≢ s after e h = let n = next-calls s e in absurd (cc)
 
-written_by : (shape : Shape) (rd : ℕ) (o : Outcome) → WritesRegisters shape rd o → (o ≡ Calls → ⊥) → ((fault : Fault) → o ≡ Faults fault → ⊥) → (place : ℕ) → place < 128
+written_by : (shape : Shape) (rd : ℕ) (o : Outcome) → WritesRegisters shape rd o → (o ≡ Call → ⊥) → ((fault : Fault) → o ≡ Faulted fault → ⊥) → (place : ℕ) → place < 128
     → is_among place (map (λ cell. cell.0) (cells_of_outcome shape o)) ≡ is_among place (registers_written rd)
-written_by shape rd (Goes list) h calls fails place low = h place low
-written_by shape rd Calls h calls fails place low = absurd (calls refl)
-written_by shape rd (Faults fault) h calls fails place low = absurd (fails fault refl)
+written_by shape rd (Went list) h calls fails place low = h place low
+written_by shape rd Call h calls fails place low = absurd (calls refl)
+written_by shape rd (Faulted fault) h calls fails place low = absurd (fails fault refl)
 
 goes_by : (s after : State) (aligned held : Bool) (i : Option Instr) → next s ≡ Went after → is_aligned (view_of s).pc ≡ aligned → holds s.shape (view_of s).pc 4 ≡ held
     → decode s.shape.version (fetch s.shape (view_of s)) ≡ i → (found : Instr) × StepsBy s found

@@ -7,7 +7,7 @@ use Rattle.std.proofs.lemmas.Bool.{and_parts, eqb-true, eq-eqb}
 use Rattle.std.proofs.lemmas.List.Elements.{All-nil, All-cons}
 use Rattle.std.proofs.lemmas.List.Kept.{AllPairs-cons}
 use Rattle.asc_model.specs.declared.version.Version.TheVariants.{One, Two}
-use Rattle.asc_model.specs.Instruction.{opcode, funct3, funct5, funct7, rs2, atomic_opcode, word_width, Key, Major, Minor, Full, Atomic, AtomicLoad, Whole, fits, Row, table}
+use Rattle.asc_model.specs.Instruction.{opcode, funct3, funct5, funct7, rs2, atomic_opcode, word_width, Pattern, Major, Minor, Full, Atomic, AtomicLoad, Whole, fits, Row, table}
 use Rattle.asc_model.specs.Laws.{ShareNoWord, RowsDiffer}
 
 -- the parts of a word of which a key may ask a value
@@ -24,7 +24,7 @@ field_of Rs2 word = rs2 word
 field_of Word word = word
 
 -- the value that a key asks of a field, if it asks for one
-abbrev asked : Key → Field → Option ℕ
+abbrev asked : Pattern → Field → Option ℕ
 asked (Major major) Opcode = Some major
 asked (Major major) Funct3 = None
 asked (Major major) Funct7 = None
@@ -80,7 +80,7 @@ four true false c d h = absurd (cc)
 four false b c d h = absurd (cc)
 
 -- a word that fits a key has each field as asked
-fits-IsAsked : (key : Key) (word : ℕ) → fits key word ≡ true → (field : Field) → IsAsked (field_of field word) (asked key field)
+fits-IsAsked : (key : Pattern) (word : ℕ) → fits key word ≡ true → (field : Field) → IsAsked (field_of field word) (asked key field)
 fits-IsAsked (Major major) word h Opcode = eqb-true _ _ h
 fits-IsAsked (Major major) word h Funct3 = tt
 fits-IsAsked (Major major) word h Funct7 = tt
@@ -120,7 +120,7 @@ conflict (Some a) None = false
 conflict (Some a) (Some b) = not (a == b)
 
 -- whether two keys ask for two values of some field
-abbrev keys_differ : Key → Key → Bool
+abbrev keys_differ : Pattern → Pattern → Bool
 keys_differ a b =
     conflict (asked a Opcode) (asked b Opcode) || conflict (asked a Funct3) (asked b Funct3) || conflict (asked a Funct7) (asked b Funct7)
     || conflict (asked a Funct5) (asked b Funct5) || conflict (asked a Rs2) (asked b Rs2) || conflict (asked a Word) (asked b Word)
@@ -132,19 +132,19 @@ no-conflict value (Some a) None p q = refl
 no-conflict value (Some a) (Some b) p q = ap not (eq-eqb a b (sym p ∙ q))
 
 -- keys that a word fits ask for the same
-no-keys_differ : (a b : Key) (word : ℕ) → fits a word ≡ true → fits b word ≡ true → keys_differ a b ≡ false
+no-keys_differ : (a b : Pattern) (word : ℕ) → fits a word ≡ true → fits b word ≡ true → keys_differ a b ≡ false
 no-keys_differ a b word p q =
     let agree = λ (field : Field). no-conflict (field_of field word) (asked a field) (asked b field) (fits-IsAsked a word p field) (fits-IsAsked b word q field) in
     rw (agree Opcode, agree Funct3, agree Funct7, agree Funct5, agree Rs2, agree Word) refl
 
 -- rows whose keys differ share no word
-ShareNoWord-keys_differ : (a b : Row) → keys_differ a.key b.key ≡ true → ShareNoWord a b
-ShareNoWord-keys_differ a b h word p q = let e : true ≡ false = sym h ∙ no-keys_differ a.key b.key word p q in absurd (cc)
+ShareNoWord-keys_differ : (a b : Row) → keys_differ a.pattern b.pattern ≡ true → ShareNoWord a b
+ShareNoWord-keys_differ a b h word p q = let e : true ≡ false = sym h ∙ no-keys_differ a.pattern b.pattern word p q in absurd (cc)
 
 -- whether a row's key differs from each of the rows' keys
 abbrev differs : Row → List Row → Bool
 differs first [] = true
-differs first (row ∷ rows) = keys_differ first.key row.key && differs first rows
+differs first (row ∷ rows) = keys_differ first.pattern row.pattern && differs first rows
 
 -- whether the keys of each two rows differ
 abbrev all_differ : List Row → Bool
@@ -155,7 +155,7 @@ all_differ (first ∷ rows) = differs first rows && all_differ rows
 All-differs : (first : Row) (rows : List Row) → differs first rows ≡ true → All (ShareNoWord first) rows
 All-differs first [] h = All-nil (ShareNoWord first)
 All-differs first (row ∷ rows) h =
-    let both = and_parts (keys_differ first.key row.key) (differs first rows) h in
+    let both = and_parts (keys_differ first.pattern row.pattern) (differs first rows) h in
     All-cons (ShareNoWord first) row rows (ShareNoWord-keys_differ first row both.0) (All-differs first rows both.1)
 
 -- rows whose keys all differ share no word

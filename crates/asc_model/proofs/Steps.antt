@@ -23,7 +23,7 @@ use Rattle.asc_model.specs.Machine.{Machine, IsMachine, register, load, is_reser
 use Rattle.asc_model.specs.Instruction.{Format, U, J, I, Shift, S, B, R, Plain, Row, operands, fits, find, table, decode, rd_of, rs1_of, rs2_of, imm_of, op_of}
 use Rattle.asc_model.specs.Arithmetic.{signed, word_of, ◌+w◌, one_if, even_part, shift_right_signed, shift_amount, high_word, quotient, quotient_unsigned, remainder, remainder_unsigned}
 use Rattle.asc_model.specs.Effect.{Effect, Set, Load, Store, Jump, LoadReserved, StoreConditional, Modify, GuestCall, Breakpoint, branch, effect}
-use Rattle.asc_model.specs.Step.{Outcome, Goes, Calls, Faults, fault_outcome, is_aligned, atomic_outcome, loaded_word, effect_of, outcome_of, fetch, outcome_of_word, outcome, Went, Call, Faulted, next_of, next}
+use Rattle.asc_model.specs.Step.{Outcome, Went, Call, Faulted, fault_outcome, is_aligned, atomic_outcome, loaded_word, effect_of, outcome_of, fetch, outcome_of_word, outcome, next_of, next}
 use Rattle.asc_model.specs.Places.{cells_of_outcome, writes, bytes_after}
 use Rattle.asc_model.proofs.Numbers.{number_of-below, length-bytes_of, AreBytes-bytes_of, AreBytes-append, AreBytes-take, AreBytes-drop}
 use Rattle.asc_model.proofs.Changes.{IsChange, AreChanges, IsMachine-view_of, state_of-after_changes}
@@ -139,7 +139,7 @@ find-IsInstruction : (version : Version) (rows : List Row) (word : ℕ) → all_
 find-IsInstruction version [] word h = tt
 find-IsInstruction version (row ∷ rows) word h =
     let both = and_parts (is_of_version version row.op) (all_of_version version rows) h in
-    by_branch (IfInstruction version) (fits row.key word) (Some (operands row.format row.op word)) (find rows word)
+    by_branch (IfInstruction version) (fits row.pattern word) (Some (operands row.format row.op word)) (find rows word)
     (λ e. operands-IsInstruction version row.op word both.0 row.format) (λ e. find-IsInstruction version rows word both.1)
 
 -- each version has the operations of its table
@@ -366,16 +366,16 @@ loaded_word-below n number false h small = let most : 2 ^ (8 * n) ≤ 2 ^ 32 = p
 
 -- what an outcome may be
 abbrev pub IsOutcome : Shape → Outcome → Type 0
-IsOutcome shape (Goes list) = AreChanges shape list
-IsOutcome shape Calls = ⊤
-IsOutcome shape (Faults fault) = ⊤
+IsOutcome shape (Went list) = AreChanges shape list
+IsOutcome shape Call = ⊤
+IsOutcome shape (Faulted fault) = ⊤
 
 -- changes at an atomic's word may be, if they may be where that word is in memory
 atomic-IsOutcome : (shape : Shape) (m : Machine) (outside : FaultKind) (address : ℕ) (list : List Change) → (holds shape address 4 ≡ true → AreChanges shape list)
     → IsOutcome shape (atomic_outcome shape m outside address list)
 atomic-IsOutcome shape m outside address list h =
-    by_branch (IsOutcome shape) (not (is_aligned address)) (fault_outcome m AtomicMisaligned address) (if holds shape address 4 then Goes list else fault_outcome m outside address) (λ e. tt)
-    (λ e. by_branch (IsOutcome shape) (holds shape address 4) (Goes list) (fault_outcome m outside address) h (λ f. tt))
+    by_branch (IsOutcome shape) (not (is_aligned address)) (fault_outcome m AtomicMisaligned address) (if holds shape address 4 then Went list else fault_outcome m outside address) (λ e. tt)
+    (λ e. by_branch (IsOutcome shape) (holds shape address 4) (Went list) (fault_outcome m outside address) h (λ f. tt))
 
 -- a word stored is a change that may be
 word-IsChange : (shape : Shape) (address value : ℕ) → holds shape address 4 ≡ true → IsChange shape (Memory address (bytes_of 4 value))
@@ -397,13 +397,13 @@ release-IsChange shape e = (e, omega arith, zero-AreBytes)
 pub outcome_of-IsOutcome : (shape : Shape) (m : Machine) (rd : ℕ) (e : Effect) → IsMachine shape m → rd ≤ 31 → IsEffect shape.version e → IsOutcome shape (outcome_of shape m rd e)
 outcome_of-IsOutcome shape m rd (Set value) good hrd h = (add_words-below m.pc 4, ((hrd, h), tt))
 outcome_of-IsOutcome shape m rd (Load n signed address) good hrd h =
-    by_branch (IsOutcome shape) (holds shape address n) (Goes (Pc (m.pc +w 4) ∷ Register rd (loaded_word n signed (load shape m n address)) ∷ [])) (fault_outcome m LoadOutside address)
+    by_branch (IsOutcome shape) (holds shape address n) (Went (Pc (m.pc +w 4) ∷ Register rd (loaded_word n signed (load shape m n address)) ∷ [])) (fault_outcome m LoadOutside address)
     (λ e. (add_words-below m.pc 4, ((hrd, loaded_word-below n (load shape m n address) signed h (load-below shape m n address good)), tt))) (λ e. tt)
 outcome_of-IsOutcome shape m rd (Store n address value) good hrd h =
-    by_branch (IsOutcome shape) (holds shape address n) (Goes (Pc (m.pc +w 4) ∷ Memory address (bytes_of n value) ∷ [])) (fault_outcome m StoreOutside address)
+    by_branch (IsOutcome shape) (holds shape address n) (Went (Pc (m.pc +w 4) ∷ Memory address (bytes_of n value) ∷ [])) (fault_outcome m StoreOutside address)
     (λ e. (add_words-below m.pc 4, ((ap (holds shape address) (length-bytes_of n value) ∙ e, AreBytes-bytes_of n value), tt))) (λ e. tt)
 outcome_of-IsOutcome shape m rd (Jump target) good hrd h =
-    by_branch (IsOutcome shape) (is_aligned target) (Goes (Pc target ∷ Register rd (m.pc +w 4) ∷ [])) (fault_outcome m Misaligned target)
+    by_branch (IsOutcome shape) (is_aligned target) (Went (Pc target ∷ Register rd (m.pc +w 4) ∷ [])) (fault_outcome m Misaligned target)
     (λ e. (h, ((hrd, add_words-below m.pc 4), tt))) (λ e. tt)
 outcome_of-IsOutcome shape m rd (LoadReserved address) good hrd h =
     let old : load shape m 4 address < 2 ^ 32 = load-below shape m 4 address good in
@@ -445,29 +445,29 @@ outcome-IsOutcome shape m good =
 -- ---- the next state
 
 -- each change that a step comes to may be
-pub outcome-AreChanges : (s : State) (list : List Change) → IsState s → outcome s.shape (view_of s) ≡ Goes list → AreChanges s.shape list
+pub outcome-AreChanges : (s : State) (list : List Change) → IsState s → outcome s.shape (view_of s) ≡ Went list → AreChanges s.shape list
 outcome-AreChanges s list good e = subst (IsOutcome s.shape) e (outcome-IsOutcome s.shape (view_of s) (IsMachine-view_of s good))
 
 -- a step that goes on writes its changes into the state
-pub next-goes : (s : State) (list : List Change) → IsState s → outcome s.shape (view_of s) ≡ Goes list → next s ≡ Went (record s { bytes = bytes_after s.bytes (writes s) })
+pub next-goes : (s : State) (list : List Change) → IsState s → outcome s.shape (view_of s) ≡ Went list → next s ≡ Went (record s { bytes = bytes_after s.bytes (writes s) })
 unfolding next writes
 next-goes s list good e =
     ap (next_of s.shape (view_of s)) e
     ∙ ap Went (state_of-after_changes s list good (outcome-AreChanges s list good e))
     ∙ ap (λ o. Went (record s { bytes = bytes_after s.bytes (cells_of_outcome s.shape o) })) (sym e)
 
-pub next-calls : (s : State) → outcome s.shape (view_of s) ≡ Calls → next s ≡ Call
+pub next-calls : (s : State) → outcome s.shape (view_of s) ≡ Call → next s ≡ Call
 unfolding next
 next-calls s e = ap (next_of s.shape (view_of s)) e
 
-pub next-fails : (s : State) (fault : Fault) → outcome s.shape (view_of s) ≡ Faults fault → next s ≡ Faulted fault
+pub next-fails : (s : State) (fault : Fault) → outcome s.shape (view_of s) ≡ Faulted fault → next s ≡ Faulted fault
 unfolding next
 next-fails s fault e = ap (next_of s.shape (view_of s)) e
 
-pub writes-calls : (s : State) → outcome s.shape (view_of s) ≡ Calls → writes s ≡ []
+pub writes-calls : (s : State) → outcome s.shape (view_of s) ≡ Call → writes s ≡ []
 unfolding writes
 writes-calls s e = ap (cells_of_outcome s.shape) e
 
-pub writes-fails : (s : State) (fault : Fault) → outcome s.shape (view_of s) ≡ Faults fault → writes s ≡ []
+pub writes-fails : (s : State) (fault : Fault) → outcome s.shape (view_of s) ≡ Faulted fault → writes s ≡ []
 unfolding writes
 writes-fails s fault e = ap (cells_of_outcome s.shape) e

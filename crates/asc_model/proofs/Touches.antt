@@ -12,7 +12,7 @@ use Rattle.asc_model.specs.State.{State, IsState}
 use Rattle.asc_model.specs.Machine.{Machine, Change, Pc, Register, Memory, Reservation, view_of}
 use Rattle.asc_model.specs.Instruction.{decode, rs1_of, rs2_of}
 use Rattle.asc_model.specs.Effect.{Effect, Set, Load, Store, Jump, LoadReserved, StoreConditional, Modify, GuestCall, Breakpoint}
-use Rattle.asc_model.specs.Step.{Outcome, Goes, Calls, Faults, is_aligned, effect_of, fetch, outcome}
+use Rattle.asc_model.specs.Step.{Outcome, Went, Call, Faulted, is_aligned, effect_of, fetch, outcome}
 use Rattle.asc_model.specs.Places.{places_from, register_places, atomic_places, reservation_places, data_places, operand_places, places_read, cells, cells_of, cells_of_outcome, writes, places_written}
 use Rattle.asc_model.specs.Laws.{TouchesPlaces}
 use Rattle.asc_model.proofs.Numbers.{length-bytes_of}
@@ -142,9 +142,9 @@ changes-CellsBelow shape (first ∷ rest) h =
 
 -- the same of what a step comes to
 cells_of_outcome-CellsBelow : (shape : Shape) (o : Outcome) → IsOutcome shape o → CellsBelow (length_of shape) (cells_of_outcome shape o)
-cells_of_outcome-CellsBelow shape (Goes list) h = changes-CellsBelow shape list h
-cells_of_outcome-CellsBelow shape Calls h = All-nil (λ (cell : ℕ × ℕ). cell.0 < length_of shape)
-cells_of_outcome-CellsBelow shape (Faults fault) h = All-nil (λ (cell : ℕ × ℕ). cell.0 < length_of shape)
+cells_of_outcome-CellsBelow shape (Went list) h = changes-CellsBelow shape list h
+cells_of_outcome-CellsBelow shape Call h = All-nil (λ (cell : ℕ × ℕ). cell.0 < length_of shape)
+cells_of_outcome-CellsBelow shape (Faulted fault) h = All-nil (λ (cell : ℕ × ℕ). cell.0 < length_of shape)
 
 -- the places that a step writes are below the length of its shape
 pub places_written-AllBelow : (s : State) → IsState s → AllBelow (length_of s.shape) (places_written s)

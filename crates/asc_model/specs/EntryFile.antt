@@ -1,7 +1,8 @@
 -- The file of saved entries: its bytes, and what the bytes of any file mean. Its numbers are little-endian.
-use Rattle.std.specs.Prelude.{◌≡◌, ℕ, zero, suc, ◌+◌, ◌*◌, ◌≤◌, Bool, true, false, not, ◌==◌, ◌&&◌, ◌||◌, nat_eq, nat_lt, nat_le, List, [], ◌∷◌, ◌++◌, All, map, length, drop, slice_index, Option, Some, None, Result, Ok, Err, if◌then◌else◌}
+use Rattle.std.specs.Prelude.{◌≡◌, ℕ, zero, suc, ◌+◌, ◌*◌, ◌≤◌, Bool, true, false, not, ◌==◌, ◌&&◌, ◌||◌, nat_eq, nat_lt, nat_le, List, [], ◌∷◌, ◌++◌, All, map, length, drop, slice_index, Some, None, Result, Ok, Err, if◌then◌else◌}
 use Rattle.std.specs.List.{flat_map, list_all, starts_with}
 use lib.Pointwise.{pointwise}
+use Rattle.asc_model.specs.declared.limits.TheConstants.{MOST_ENTRIES, MOST_ENTRY_STEPS, MOST_PLACES}
 use Rattle.asc_model.specs.declared.version.Version.{Version}
 use Rattle.asc_model.specs.declared.version.Version.TheVariants.{One, Two}
 use Rattle.asc_model.specs.declared.save_fault.SaveFault.{SaveFault}
@@ -43,28 +44,18 @@ entry_file shape entries = header_bytes shape (length entries) ++ flat_map entry
 
 -- ---- what a file may hold
 
-abbrev pub most_entries : ℕ
-most_entries = 1024
-
-abbrev pub most_steps : ℕ
-most_steps = 1000000000
-
--- how many reads an entry may have, and how many writes
-abbrev pub most_cells : ℕ
-most_cells = 4096
-
 -- an entry of a shape that a file may hold
 pub record IsSavable (shape : Shape) (e : Entry) : Type 0 where
   pub same : e.shape ≡ shape
   pub entry : IsEntry e
-  pub steps : e.steps ≤ most_steps
-  pub reads : length e.reads ≤ most_cells
-  pub writes : length e.writes ≤ most_cells
+  pub steps : e.steps ≤ MOST_ENTRY_STEPS
+  pub reads : length e.reads ≤ MOST_PLACES
+  pub writes : length e.writes ≤ MOST_PLACES
 
 -- entries of a shape that one file may hold
 pub record AreSavable (shape : Shape) (entries : List Entry) : Type 0 where
   pub good : IsShape shape
-  pub count : length entries ≤ most_entries
+  pub count : length entries ≤ MOST_ENTRIES
   pub each : All (IsSavable shape) entries
 
 -- ---- what the bytes of a file mean
@@ -91,7 +82,7 @@ header_cases file =
     ∷ (faults.Machine if not ((slice_index file 5 == 1) || (slice_index file 5 == 2))
     || not (slice_index file 6 == 0) || not (slice_index file 7 == 0))
     ∷ (faults.Shape if not (is_base (word_at file 8) (word_at file 12)) || not (is_size (word_at file 12)))
-    ∷ (faults.Count if nat_lt most_entries (count_in file))
+    ∷ (faults.Count if nat_lt MOST_ENTRIES (count_in file))
     ∷ []
 
 -- An entry at the front of bytes has three parts: its steps and counts, its reads, and its writes.
@@ -129,8 +120,8 @@ writes_in bytes = cells_in (write_count bytes) (drop (reads_end bytes) bytes)
 
 -- whether the steps or a count are out of bounds
 abbrev pub is_out_of_bounds : List ℕ → Bool
-is_out_of_bounds bytes = (steps_in bytes == 0) || nat_lt most_steps (steps_in bytes)
-    || nat_lt most_cells (read_count bytes) || nat_lt most_cells (write_count bytes)
+is_out_of_bounds bytes = (steps_in bytes == 0) || nat_lt MOST_ENTRY_STEPS (steps_in bytes)
+    || nat_lt MOST_PLACES (read_count bytes) || nat_lt MOST_PLACES (write_count bytes)
 
 -- whether places rise, the first of them being at least this one
 abbrev pub rise_from : ℕ → List ℕ → Bool

@@ -59,19 +59,19 @@ shamt word = bits word 20 5
 -- ---- the table
 
 -- which words a row of the table is for
-pub data Key : Type 0 where
+pub data Pattern : Type 0 where
   -- by opcode
-  Major : (opcode : ℕ) → Key
+  Major : (opcode : ℕ) → Pattern
   -- by opcode and funct3
-  Minor : (opcode funct3 : ℕ) → Key
+  Minor : (opcode funct3 : ℕ) → Pattern
   -- by opcode, funct3 and funct7
-  Full : (opcode funct3 funct7 : ℕ) → Key
+  Full : (opcode funct3 funct7 : ℕ) → Pattern
   -- an atomic on words, by funct5
-  Atomic : (funct5 : ℕ) → Key
+  Atomic : (funct5 : ℕ) → Pattern
   -- an atomic on words without a second source, by funct5
-  AtomicLoad : (funct5 : ℕ) → Key
+  AtomicLoad : (funct5 : ℕ) → Pattern
   -- one word
-  Whole : (word : ℕ) → Key
+  Whole : (word : ℕ) → Pattern
 
 -- AMO, and the width of its word
 abbrev pub atomic_opcode : ℕ
@@ -80,7 +80,7 @@ atomic_opcode = 0b0101111
 abbrev pub word_width : ℕ
 word_width = 0b010
 
-abbrev pub fits : Key → ℕ → Bool
+abbrev pub fits : Pattern → ℕ → Bool
 fits (Major major) word = opcode word == major
 fits (Minor major minor) word = (opcode word == major) && (funct3 word == minor)
 fits (Full major minor funct) word =
@@ -113,12 +113,12 @@ operands R op word = instrs.R op (rd word) (rs1 word) (rs2 word)
 operands Plain op word = instrs.Plain op
 
 pub record Row : Type 0 where
-  pub key : Key
+  pub pattern : Pattern
   pub format : Format
   pub op : Op
 
-abbrev row : Key → Format → Op → Row
-row key format op = record { key = key; format = format; op = op }
+abbrev row : Pattern → Format → Op → Row
+row key format op = record { pattern = key; format = format; op = op }
 
 -- RV32I, Zifencei and RV32M
 abbrev pub base_table : List Row
@@ -199,7 +199,7 @@ table Two = base_table ++ atomic_table
 abbrev pub find : List Row → ℕ → Option Instr
 find [] word = None
 find (first ∷ rows) word =
-    if fits first.key word then Some (operands first.format first.op word) else find rows word
+    if fits first.pattern word then Some (operands first.format first.op word) else find rows word
 
 unfoldable pub decode : Version → ℕ → Option Instr
 decode version word = find (table version) word

@@ -6,7 +6,7 @@ use Rattle.std.specs.Option.{is_some, option_map, option_or}
 use Rattle.asc_model.specs.Shape.{Shape, is_same_shape, length_of}
 use Rattle.asc_model.specs.Places.{places_from}
 use Rattle.asc_model.specs.Entry.{Entry}
-use Rattle.asc_model.specs.EntryFile.{most_steps}
+use Rattle.asc_model.specs.declared.limits.TheConstants.{MOST_ENTRY_STEPS, MOST_PLACES}
 
 -- the byte that cells have at a place
 abbrev pub byte_in : List (ℕ × ℕ) → (place : ℕ) → Option ℕ
@@ -25,10 +25,6 @@ agrees (Some known) byte = known == byte
 abbrev pub reads_agree : (a b : Entry) → Bool
 reads_agree a b = list_all (λ cell. agrees (known_after a cell.0) cell.1) b.reads
 
--- how many cells two entries that are joined may have together
-abbrev pub most_joined : ℕ
-most_joined = 4096
-
 abbrev pub cell_count : Entry → ℕ
 cell_count e = length e.reads + length e.writes
 
@@ -37,8 +33,8 @@ cell_count e = length e.reads + length e.writes
 abbrev pub can_join : (a b : Entry) → Bool
 can_join a b = is_same_shape a.shape b.shape
     && reads_agree a b
-    && nat_le (a.steps + b.steps) most_steps
-    && nat_le (cell_count a + cell_count b) most_joined
+    && nat_le (a.steps + b.steps) MOST_ENTRY_STEPS
+    && nat_le (cell_count a + cell_count b) MOST_PLACES
 
 -- what a and then b read first at a place: what a reads there, where a reads or writes it, and elsewhere what b reads
 abbrev pub read_by_both : (a b : Entry) → (place : ℕ) → Option ℕ

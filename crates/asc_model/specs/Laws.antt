@@ -69,7 +69,7 @@ PlainStepsKeepStates = (n : ℕ) (s after : State) → IsState s → plain n s �
 
 -- no word is for both rows
 abbrev pub ShareNoWord : Row → Row → Type 0
-ShareNoWord a b = (word : ℕ) → fits a.key word ≡ true → fits b.key word ≡ true → ⊥
+ShareNoWord a b = (word : ℕ) → fits a.pattern word ≡ true → fits b.pattern word ≡ true → ⊥
 
 -- No word is for two rows of a table, so its order is of no account.
 abbrev pub RowsDiffer : Type 0
@@ -77,9 +77,9 @@ RowsDiffer = (version : Version) → AllPairs ShareNoWord (table version)
 
 -- A word that fits a row of the table decodes to that row's instruction, and one that fits none to none.
 pub record DecodesByRows (version : Version) : Type 0 where
-  pub some : All (λ row. (word : ℕ) → fits row.key word ≡ true
+  pub some : All (λ row. (word : ℕ) → fits row.pattern word ≡ true
       → decode version word ≡ Some (operands row.format row.op word)) (table version)
-  pub none : (word : ℕ) → All (λ row. fits row.key word ≡ false) (table version) → decode version word ≡ None
+  pub none : (word : ℕ) → All (λ row. fits row.pattern word ≡ false) (table version) → decode version word ≡ None
 
 abbrev pub DecodeIsTheTable : Type 0
 DecodeIsTheTable = (version : Version) → DecodesByRows version

@@ -8,7 +8,7 @@ use Rattle.asc_model.specs.State.{State}
 use Rattle.asc_model.specs.Machine.{Machine, Change, Pc, Register, Memory, Reservation, view_of}
 use Rattle.asc_model.specs.Instruction.{decode, rs1_of, rs2_of}
 use Rattle.asc_model.specs.Effect.{Effect, Set, Load, Store, Jump, LoadReserved, StoreConditional, Modify, GuestCall, Breakpoint}
-use Rattle.asc_model.specs.Step.{Outcome, Goes, Calls, Faults, is_aligned, effect_of, fetch, outcome}
+use Rattle.asc_model.specs.Step.{Outcome, Went, Call, Faulted, is_aligned, effect_of, fetch, outcome}
 
 -- n places from a place on
 abbrev pub places_from : ℕ → ℕ → List ℕ
@@ -74,9 +74,9 @@ cells_of shape (Memory address bytes) = cells (place_of shape address) bytes
 cells_of shape (Reservation i bytes) = cells (128 + i) bytes
 
 abbrev pub cells_of_outcome : Shape → Outcome → List (ℕ × ℕ)
-cells_of_outcome shape (Goes list) = flat_map (cells_of shape) list
-cells_of_outcome shape Calls = []
-cells_of_outcome shape (Faults fault) = []
+cells_of_outcome shape (Went list) = flat_map (cells_of shape) list
+cells_of_outcome shape Call = []
+cells_of_outcome shape (Faulted fault) = []
 
 -- What a step writes, each place with its new byte: the pc, the destination unless it is x0, what changes of the
 -- reservation, and the bytes stored. A step that calls or faults writes nothing.

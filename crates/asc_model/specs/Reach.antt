@@ -2,6 +2,7 @@
 use Rattle.std.specs.Prelude.{◌≡◌, ℕ, zero, suc, ◌+◌, ◌<◌, Bool, false, ◌==◌, ◌++◌, length, nat_lt, count_by, Option, Some, None, if◌then◌else◌}
 use Rattle.std.specs.List.{range_with_len}
 use Rattle.std.specs.Option.{option_or}
+use Rattle.asc_model.specs.declared.limits.TheConstants.{STEP_ROOM}
 use Rattle.asc_model.specs.declared.why.Why.{Why}
 use Rattle.asc_model.specs.declared.why.Why.TheVariants as whys
 use Rattle.asc_model.specs.State.{State}
@@ -36,17 +37,13 @@ abbrev pub touched_in : ℕ → State → ℕ
 touched_in n s =
     count_by (λ place. is_among place (first_reads n s ++ written_in n s)) (places_from 0 (length s.bytes))
 
--- room enough for each step; a step touches at most 29 places
-abbrev pub step_room : ℕ
-step_room = 32
-
 -- The first of these that holds after n steps of a start: so many laps were made; so many steps were taken; there might
 -- be no room for a step.
 abbrev pub bound_met : Bounds → ℕ → State → Option Why
 bound_met bounds n start =
     if laps_in bounds.pc n start == bounds.laps then Some whys.Lap
     else (if n == bounds.span then Some whys.Span
-    else (if nat_lt bounds.cap (touched_in n start + step_room) then Some whys.Room
+    else (if nat_lt bounds.cap (touched_in n start + STEP_ROOM) then Some whys.Room
     else None))
 
 -- why there is no next step

@@ -1,5 +1,6 @@
 -- A shape: where memory begins, how many bytes it has, and which version of the machine it is.
 use Rattle.std.specs.Prelude.{◌≡◌, ℕ, ◌+◌, ◌-◌, ◌≤◌, ◌%◌, ◌^◌, Bool, true, false, ◌==◌, nat_le, ◌&&◌}
+use Rattle.asc_model.specs.declared.limits.TheConstants.{LEAST_SIZE, MOST_SIZE, PAGE_SIZE}
 use Rattle.asc_model.specs.declared.version.Version.{Version}
 use Rattle.asc_model.specs.declared.version.Version.TheVariants.{One, Two}
 
@@ -8,34 +9,23 @@ pub record Shape : Type 0 where
   pub size : ℕ
   pub version : Version
 
--- the least and the greatest size of memory, in bytes: 64 KiB and 64 MiB
-abbrev pub least_size : ℕ
-least_size = 65536
-
-abbrev pub most_size : ℕ
-most_size = 67108864
-
--- memory begins at a multiple of this
-abbrev pub page_size : ℕ
-page_size = 4096
-
 -- a size of memory, in bytes
 pub record IsSize (size : ℕ) : Type 0 where
   pub aligned : size % 4 ≡ 0
-  pub least : least_size ≤ size
-  pub most : size ≤ most_size
+  pub least : LEAST_SIZE ≤ size
+  pub most : size ≤ MOST_SIZE
 
 -- memory begins at a page and ends within the 2 ^ 32 addresses
 pub record IsBase (base size : ℕ) : Type 0 where
-  pub aligned : base % page_size ≡ 0
+  pub aligned : base % PAGE_SIZE ≡ 0
   pub within : base + size ≤ 2 ^ 32
 
 -- the tests of these two
 abbrev pub is_size : ℕ → Bool
-is_size size = (size % 4 == 0) && nat_le least_size size && nat_le size most_size
+is_size size = (size % 4 == 0) && nat_le LEAST_SIZE size && nat_le size MOST_SIZE
 
 abbrev pub is_base : ℕ → ℕ → Bool
-is_base base size = (base % page_size == 0) && nat_le (base + size) (2 ^ 32)
+is_base base size = (base % PAGE_SIZE == 0) && nat_le (base + size) (2 ^ 32)
 
 pub record IsShape (shape : Shape) : Type 0 where
   pub base : IsBase shape.base shape.size

@@ -15,14 +15,18 @@ use Rattle.asc_model.specs.Instruction.{decode, op_of, rd_of, rs1_of, rs2_of, im
 use Rattle.asc_model.specs.Arithmetic.{◌+w◌, one_if}
 use Rattle.asc_model.specs.Effect.{Effect, Set, Load, Store, Jump, LoadReserved, StoreConditional, Modify, GuestCall, Breakpoint, effect}
 
--- what a step comes to: changes of the machine, a guest call, or a fault
-pub data Outcome : Type 0 where
-  Goes : List Change → Outcome
-  Calls : Outcome
-  Faults : Fault → Outcome
+-- what a step comes to: it went on, and left this, or it met a guest call or a fault
+pub data Stepped (X : Type 0) : Type 0 where
+  Went : X → Stepped X
+  Call : Stepped X
+  Faulted : Fault → Stepped X
+
+-- what becomes of the machine: changes of it
+abbrev pub Outcome : Type 0
+Outcome = Stepped (List Change)
 
 abbrev pub fault_outcome : Machine → FaultKind → ℕ → Outcome
-fault_outcome m kind value = Faults (record { kind = kind; pc = m.pc; value = value })
+fault_outcome m kind value = Faulted (record { kind = kind; pc = m.pc; value = value })
 
 abbrev pub is_aligned : ℕ → Bool
 is_aligned address = address % 4 == 0
@@ -39,20 +43,20 @@ effect_of m i = effect (op_of i) m.pc (register m (rs1_of i)) (register m (rs2_o
 abbrev pub atomic_outcome : Shape → Machine → (outside : FaultKind) → (address : ℕ) → List Change → Outcome
 atomic_outcome shape m outside address list =
     if not (is_aligned address) then fault_outcome m AtomicMisaligned address
-    else (if holds shape address 4 then Goes list else fault_outcome m outside address)
+    else (if holds shape address 4 then Went list else fault_outcome m outside address)
 
 -- what an effect comes to: data outside memory, a misaligned atomic and a target that is no multiple of 4 are faults
 abbrev pub outcome_of : Shape → Machine → (rd : ℕ) → Effect → Outcome
-outcome_of shape m rd (Set value) = Goes (Pc (m.pc +w 4) ∷ Register rd value ∷ [])
+outcome_of shape m rd (Set value) = Went (Pc (m.pc +w 4) ∷ Register rd value ∷ [])
 outcome_of shape m rd (Load n signed address) =
     if holds shape address n
-    then Goes (Pc (m.pc +w 4) ∷ Register rd (loaded_word n signed (load shape m n address)) ∷ [])
+    then Went (Pc (m.pc +w 4) ∷ Register rd (loaded_word n signed (load shape m n address)) ∷ [])
     else fault_outcome m LoadOutside address
 outcome_of shape m rd (Store n address value) =
-    if holds shape address n then Goes (Pc (m.pc +w 4) ∷ Memory address (bytes_of n value) ∷ [])
+    if holds shape address n then Went (Pc (m.pc +w 4) ∷ Memory address (bytes_of n value) ∷ [])
     else fault_outcome m StoreOutside address
 outcome_of shape m rd (Jump target) =
-    if is_aligned target then Goes (Pc target ∷ Register rd (m.pc +w 4) ∷ [])
+    if is_aligned target then Went (Pc target ∷ Register rd (m.pc +w 4) ∷ [])
     else fault_outcome m Misaligned target
 outcome_of shape m rd (LoadReserved address) = atomic_outcome shape m LoadOutside address
     (Pc (m.pc +w 4) ∷ Register rd (load shape m 4 address) ∷ reserve address ∷ [])
@@ -63,7 +67,7 @@ outcome_of shape m rd (StoreConditional address value) = let reserved = is_reser
 outcome_of shape m rd (Modify address change) = let old = load shape m 4 address in
     atomic_outcome shape m StoreOutside address
     (Pc (m.pc +w 4) ∷ Register rd old ∷ Memory address (bytes_of 4 (change old)) ∷ [])
-outcome_of shape m rd GuestCall = Calls
+outcome_of shape m rd GuestCall = Call
 outcome_of shape m rd Breakpoint = fault_outcome m Break 0
 
 -- the word at the pc
@@ -82,16 +86,14 @@ outcome shape m =
     else (if not (holds shape m.pc 4) then fault_outcome m FetchOutside m.pc
     else outcome_of_word shape m (decode shape.version (fetch shape m)))
 
--- what a step makes of a state
-pub data Next : Type 0 where
-  Went : State → Next
-  Call : Next
-  Faulted : Fault → Next
+-- what becomes of the state: the next one
+abbrev pub Next : Type 0
+Next = Stepped State
 
 abbrev pub next_of : Shape → Machine → Outcome → Next
-next_of shape m (Goes list) = Went (state_of shape (after_changes shape m list))
-next_of shape m Calls = Call
-next_of shape m (Faults fault) = Faulted fault
+next_of shape m (Went list) = Went (state_of shape (after_changes shape m list))
+next_of shape m Call = Call
+next_of shape m (Faulted fault) = Faulted fault
 
 -- one step of a state, by way of its machine
 unfoldable pub next : State → Next

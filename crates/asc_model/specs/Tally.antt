@@ -13,8 +13,8 @@ pub record JobCounts : Type 0 where
   pub dropped : ℕ
   pub stopped : ℕ
 
-abbrev pub counts_of : Tally → JobCounts
-counts_of t = record {
+abbrev pub job_counts : Tally → JobCounts
+job_counts t = record {
   ran = t.ran;
   stored = t.stored;
   known = t.known;

@@ -1,12 +1,14 @@
 //! The meaning of the machine: what a state is, which instruction a word is, and what one step of it does.
 //!
 //! The definitions stand in `specs/`. The code has the plain data types that they speak of, the numbers of a run and of
-//! its workers, and functions that stand for the laws that tie the definitions to one another.
+//! its workers, limits, and functions that stand for the laws that tie the definitions to one
+//! another.
 #![tactic(auto)]
 
 mod fault;
 mod instruction;
 mod laws;
+mod limits;
 mod run_counts;
 mod save_fault;
 mod status;
@@ -22,6 +24,10 @@ pub use laws::{
     registers_follow_words, repeated_words_touch_no_new_register, rows_differ,
     states_determine_views, step_writes_bytes, steps_keep_states, steps_touch_places,
     views_determine_states,
+};
+pub use limits::{
+    LEAST_SIZE, MOST_AHEAD, MOST_ENTRIES, MOST_ENTRY_STEPS, MOST_GUESSES, MOST_PLACES, MOST_SIZE,
+    MOST_STEPS, MOST_WAITING, MOST_WORKERS, PAGE_SIZE, STEP_ROOM,
 };
 pub use run_counts::RunCounts;
 pub use save_fault::SaveFault;

@@ -34,11 +34,11 @@ pub struct Tally {
 }
 
 impl Tally {
-    ghost use Rattle.asc_model.specs.Tally.{counts_of, no_jobs, noted, added};
+    ghost use Rattle.asc_model.specs.Tally.{job_counts, no_jobs, noted, added};
 
     /// No job was run.
     pub fn new() -> Tally
-        ensures { counts_of result ≡ no_jobs }
+        ensures { job_counts result ≡ no_jobs }
     {
         Tally {
             ran: 0,
@@ -53,7 +53,7 @@ impl Tally {
     /// One job more, in a column.
     pub fn note(&mut self, column: Column)
         requires { self.old.ran + 1 < 2 ^ 64 }
-        ensures { counts_of self.new ≡ noted column (counts_of self.old) }
+        ensures { job_counts self.new ≡ noted column (job_counts self.old) }
     {
         self.ran += 1;
         match column {
@@ -68,7 +68,7 @@ impl Tally {
     /// Adds the jobs of another tally. Of 64 tallies of at most 2^57 jobs each, all can be added.
     pub fn add(&mut self, other: &Tally)
         requires { self.old.ran + other.now.ran < 2 ^ 64 }
-        ensures { counts_of self.new ≡ added (counts_of self.old) (counts_of other.now) }
+        ensures { job_counts self.new ≡ added (job_counts self.old) (job_counts other.now) }
     {
         self.ran += other.ran;
         self.stored += other.stored;

@@ -1,4 +1,4 @@
-//! The outside: the traits of sources, sinks, stores and gates, and their objects in memory.
+//! The outside: the traits of sources, sinks, stores and gates, their objects in memory, and the counter of steps.
 #![tactic(auto)]
 
 mod count_sink;
@@ -9,9 +9,8 @@ mod list_sink;
 mod list_source;
 mod list_store;
 mod outside;
+mod steps;
 mod sure_source;
-#[cfg(test)]
-mod tests;
 
 pub use count_sink::CountSink;
 pub use gate::{Gate, Open, Point};
@@ -20,4 +19,5 @@ pub use list_sink::ListSink;
 pub use list_source::ListSource;
 pub use list_store::ListStore;
 pub use outside::{Failed, Loaded, Memory, Sink, Source, Store, StoreFault, put_all};
+pub use steps::Steps;
 pub use sure_source::SureSource;

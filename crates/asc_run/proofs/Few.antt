@@ -6,6 +6,7 @@ use Rattle.std.proofs.lemmas.Bool.{cases_eq, cases_lt, lt-ltb, or_left, or_right
 use Rattle.std.proofs.lemmas.List.{length-map}
 use Rattle.std.proofs.lemmas.List.Elements.{All-head, All-tail}
 use Rattle.std.proofs.lemmas.List.Sums.{length-filter}
+use Rattle.asc_model.specs.declared.limits.TheConstants.{STEP_ROOM}
 use Rattle.asc_model.specs.declared.status.Status.{Status}
 use Rattle.asc_model.specs.declared.status.Status.TheVariants.{Untouched}
 use Rattle.asc_model.specs.declared.why.Why.{Why}
@@ -17,7 +18,7 @@ use Rattle.asc_model.specs.Plain.{plain}
 use Rattle.asc_model.specs.Places.{places_from, places_read, writes, bytes_after}
 use Rattle.asc_model.specs.DependencyVector.{is_among, first_reads, written_in}
 use Rattle.asc_model.specs.Entry.{Entry, cells_among, entry_of}
-use Rattle.asc_model.specs.Reach.{Bounds, touched_in, step_room, bound_met, why_no_step, why_after, reach_from, reach_of}
+use Rattle.asc_model.specs.Reach.{Bounds, touched_in, bound_met, why_no_step, why_after, reach_from, reach_of}
 use Rattle.asc_model.proofs.Entries.{made, entry_at, entry_of-is}
 use Rattle.asc_model.proofs.LawsHold.{step_writes_bytes}
 use Rattle.asc_model.proofs.PlainSteps.{plain-zero, plain-last, plain-suc_next, plain_steps_join, plain_steps_keep_states}
@@ -164,9 +165,9 @@ touched-all cap n start x good =
 -- ---- steps
 
 -- one step more touches no more places than room is kept for
-pub touched-more : (n : ℕ) (start after : State) → IsState start → plain (suc n) start ≡ Went after → touched_in (suc n) start ≤ touched_in n start + step_room
+pub touched-more : (n : ℕ) (start after : State) → IsState start → plain (suc n) start ≡ Went after → touched_in (suc n) start ≤ touched_in n start + STEP_ROOM
 touched-more n start after good goes =
-    let cap = touched_in n start + step_room + 1 in
+    let cap = touched_in n start + STEP_ROOM + 1 in
     let last = plain-last n start after goes in
     let before = traces cap n start last.0 good last.1 in
     let same : last.0 ≡ before.t.state = at-same last.0 before.t.state (sym last.1 ∙ before.goes) in
@@ -210,12 +211,12 @@ met_none : (found : Option Why) (x : Next) → option_or found (why_no_step x) �
 met_none None x e = refl
 met_none (Some why) x e = absurd (cc)
 
-roomy : (a b : Bool) (touched cap : ℕ) → (if a then Some whys.Lap else (if b then Some whys.Span else (if nat_lt cap (touched + step_room) then Some whys.Room else None))) ≡ None → touched + step_room ≤ cap
+roomy : (a b : Bool) (touched cap : ℕ) → (if a then Some whys.Lap else (if b then Some whys.Span else (if nat_lt cap (touched + STEP_ROOM) then Some whys.Room else None))) ≡ None → touched + STEP_ROOM ≤ cap
 roomy true b touched cap e = absurd (cc)
 roomy false true touched cap e = absurd (cc)
-roomy false false touched cap e = elim (cases_lt cap (touched + step_room)) [
+roomy false false touched cap e = elim (cases_lt cap (touched + STEP_ROOM)) [
   | inl few ↦
-      let test : (if true then Some whys.Room else None) ≡ None = ap (λ b. if b then Some whys.Room else None) (sym (lt-ltb cap (touched + step_room) few)) ∙ e in
+      let test : (if true then Some whys.Room else None) ≡ None = ap (λ b. if b then Some whys.Room else None) (sym (lt-ltb cap (touched + STEP_ROOM) few)) ∙ e in
       absurd (cc)
   | inr many ↦ many
 ]
@@ -224,7 +225,7 @@ roomy false false touched cap e = elim (cases_lt cap (touched + step_room)) [
 record Goes (bounds : Bounds) (start : State) (least most n : ℕ) : Type 0 where
   from : least ≤ n
   to : n ≤ most
-  room : (m : ℕ) → n ≡ suc m → least ≤ m → touched_in m start + step_room ≤ bounds.cap
+  room : (m : ℕ) → n ≡ suc m → least ≤ m → touched_in m start + STEP_ROOM ≤ bounds.cap
 
 goes-none : (bounds : Bounds) (start : State) (k most n : ℕ) → n ≡ k → k ≤ most → Goes bounds start k most n
 goes-none bounds start k most n e le = record {
@@ -267,7 +268,7 @@ goes-turn bounds start k fuel now None (Went after) e rest =
       from = omega (arith, later.from);
       to = omega (arith, later.to);
       room = λ m is least. elim (cases_eq m k) [
-        | inl same ↦ subst (λ j. touched_in j start + step_room ≤ bounds.cap) (sym same) room
+        | inl same ↦ subst (λ j. touched_in j start + STEP_ROOM ≤ bounds.cap) (sym same) room
         | inr other ↦ later.room m is (omega (arith, other))
       ];
     }

@@ -7,9 +7,9 @@ use Rattle.std.proofs.lemmas.List.{flat_map_more}
 use Rattle.std.proofs.lemmas.List.FromFn.{length-range_with_len, get_or-range_with_len}
 use Rattle.asc_guess.specs.declared.kind.Kind.{Kind}
 use Rattle.asc_guess.specs.declared.kind.Kind.TheVariants.{Last, Stride}
-use Rattle.asc_guess.specs.Guess.{targets_of}
+use Rattle.asc_guess.specs.Guess.{targets_of, Task}
 use Rattle.asc_find.specs.declared.guessing.Guessing.{Guessing}
-use Rattle.asc_find.specs.Serial.{Task, kinds_of}
+use Rattle.asc_find.specs.Serial.{kinds_of}
 use Rattle.asc_run.specs.SerialInside.{tasks_for}
 
 range-same : (a b n m : ℕ) → 0 < n → range_with_len a n ≡ range_with_len b m → (a ≡ b) × (n ≡ m)

@@ -6,24 +6,23 @@ use Rattle.std.specs.List.{list_any}
 use Rattle.std.specs.Option.{option_or}
 use Rattle.std.proofs.lemmas.Bool.{and_parts, leb-true}
 use Rattle.std.proofs.lemmas.List.Elements.{All-drop, All-push, All-take, All-head, All-tail}
+use Rattle.asc_model.specs.declared.limits.TheConstants.{MOST_ENTRIES, MOST_ENTRY_STEPS, MOST_PLACES}
 use Rattle.asc_model.specs.Shape.{Shape}
 use Rattle.asc_model.specs.State.{State, IsState}
 use Rattle.asc_model.specs.Entry.{Entry, entry_of}
-use Rattle.asc_model.specs.EntryFile.{IsSavable, AreSavable, most_steps}
+use Rattle.asc_model.specs.EntryFile.{IsSavable, AreSavable}
 use Rattle.asc_model.specs.Reach.{Bounds, reach_of}
-use Rattle.asc_model.specs.Join.{join_of, can_join, cell_count, most_joined}
+use Rattle.asc_model.specs.Join.{join_of, can_join, cell_count}
 use Rattle.asc_model.proofs.Entries.{entries_are_true}
 use Rattle.asc_model.proofs.Joins.{joined, join_of-is}
 use Rattle.asc_shape.proofs.Guesses.{AreBytes-strided}
 use Rattle.asc_shape.proofs.Strides.{length-strided}
-use Rattle.asc_traj.specs.Trace.{trace_cap}
 use Rattle.asc_shard.specs.Content.{is_same_entry, last_of, add}
-use Rattle.asc_shard.specs.Shard.{run_capacity}
 use Rattle.asc_guess.specs.declared.kind.Kind.{Kind}
 use Rattle.asc_guess.specs.declared.kind.Kind.TheVariants.{Last, Stride}
-use Rattle.asc_guess.specs.Guess.{guess_of}
+use Rattle.asc_guess.specs.Guess.{guess_of, Task}
 use Rattle.asc_find.specs.declared.guessing.Guessing.{Guessing}
-use Rattle.asc_find.specs.Serial.{Serial, Task, tasks_of, bounds_at, newest_join, add_found, older, add_joined, add_traced, add_guess, after_tasks, visited}
+use Rattle.asc_find.specs.Serial.{Serial, tasks_of, bounds_at, newest_join, add_found, older, add_joined, add_traced, add_guess, after_tasks, visited}
 use Rattle.asc_run.specs.Execution.{Position, Progress, On, Off, progress, first_position}
 use Rattle.asc_run.specs.Visits.{Course, Visit}
 use Rattle.asc_run.specs.Helped.{SerialAt, IsSerial}
@@ -36,15 +35,15 @@ use Rattle.asc_run.proofs.Kept.{course-states}
 -- ---- entries that are kept
 
 -- what a file may hold, with one more entry
-add-AreSavable : (shape : Shape) (held : List Entry) (e : Entry) → AreSavable shape held → IsSavable shape e → AreSavable shape (add run_capacity held e)
+add-AreSavable : (shape : Shape) (held : List Entry) (e : Entry) → AreSavable shape held → IsSavable shape e → AreSavable shape (add MOST_ENTRIES held e)
 add-AreSavable shape held e all one = by_test (list_any (is_same_entry e) held)
   where
-    by_test : (b : Bool) → AreSavable shape (if b then held else last_of run_capacity (held ++ e ∷ []))
+    by_test : (b : Bool) → AreSavable shape (if b then held else last_of MOST_ENTRIES (held ++ e ∷ []))
     by_test true = all
     by_test false = let longer = held ++ e ∷ [] in record {
       good = all.good;
-      count = omega (arith, length-drop (length longer - run_capacity) longer);
-      each = All-drop (IsSavable shape) (length longer - run_capacity) longer (All-push (IsSavable shape) held e all.each one);
+      count = omega (arith, length-drop (length longer - MOST_ENTRIES) longer);
+      each = All-drop (IsSavable shape) (length longer - MOST_ENTRIES) longer (All-push (IsSavable shape) held e all.each one);
     }
 
 -- what may be written of what is found, of nothing too
@@ -53,10 +52,10 @@ FindsSavable shape None = Unit {0}
 FindsSavable shape (Some e) = IsSavable shape e
 
 -- entries that may be joined have few steps and cells together
-can_join-bounds : (a b : Entry) → can_join a b ≡ true → (a.steps + b.steps ≤ most_steps) × (cell_count a + cell_count b ≤ most_joined)
+can_join-bounds : (a b : Entry) → can_join a b ≡ true → (a.steps + b.steps ≤ MOST_ENTRY_STEPS) × (cell_count a + cell_count b ≤ MOST_PLACES)
 can_join-bounds a b can =
     let both = and_parts _ _ can in
-    (leb-true (a.steps + b.steps) most_steps (and_parts _ _ both.0).1, leb-true (cell_count a + cell_count b) most_joined both.1)
+    (leb-true (a.steps + b.steps) MOST_ENTRY_STEPS (and_parts _ _ both.0).1, leb-true (cell_count a + cell_count b) MOST_PLACES both.1)
 
 -- the join of two that may be written
 joined-IsSavable : (shape : Shape) (a b : Entry) → IsSavable shape a → IsSavable shape b → can_join a b ≡ true → IsSavable shape (joined a b)
@@ -95,7 +94,7 @@ joined-AreSavable : (shape : Shape) (join : Bool) (held : List Entry) (e : Entry
 joined-AreSavable shape join held e all one = by_test (join && not (list_any (is_same_entry e) held))
   where
     content : List Entry
-    content = add run_capacity held e
+    content = add MOST_ENTRIES held e
 
     by_test : (b : Bool) → AreSavable shape (add_found content (if b then newest_join (older content) e else None))
     by_test false = add-AreSavable shape held e all one
@@ -104,7 +103,7 @@ joined-AreSavable shape join held e all one = by_test (join && not (list_any (is
         found-AreSavable shape content (newest_join (older content) e) kept (newest-FindsSavable shape (older content) e (All-take (IsSavable shape) (length content - 1) content kept.each) one)
 
 -- the entry of a trace
-trace-IsSavable : (bounds : Bounds) (shape : Shape) (start : State) (e : Entry) → IsState start → start.shape ≡ shape → bounds.span ≤ most_steps → bounds.cap ≡ trace_cap
+trace-IsSavable : (bounds : Bounds) (shape : Shape) (start : State) (e : Entry) → IsState start → start.shape ≡ shape → bounds.span ≤ MOST_ENTRY_STEPS → bounds.cap ≡ MOST_PLACES
     → 1 ≤ reach_of bounds start → entry_of (reach_of bounds start) start ≡ Some e → IsSavable shape e
 trace-IsSavable bounds shape start e good same span cap some is =
     let few = trace-few bounds start e good some is in
@@ -138,7 +137,7 @@ guess-shape Stride ahead prev last = refl
 
 -- ---- visits
 
-module _ (shape : Shape) (g : Guessing) (span : g.span ≤ most_steps) where
+module _ (shape : Shape) (g : Guessing) (span : g.span ≤ MOST_ENTRY_STEPS) where
   guess-AreSavable : (prev last : State) (content : List Entry) (task : Task) → IsState last → last.shape ≡ shape → AreSavable shape content → AreSavable shape (add_guess g prev last content task)
   guess-AreSavable prev last content task good same all =
       let start = guess_of task.0 task.1 prev last in

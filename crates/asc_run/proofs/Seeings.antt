@@ -9,7 +9,7 @@ use Rattle.asc_run.specs.Visits.{Visit, jumps_of, with_landing}
 use Rattle.asc_run.specs.Helped.{Helped, Lands}
 use Rattle.asc_find.specs.Helper.{Plans, newly_guessed, guesses_at, seen, Sees}
 use Rattle.asc_run.specs.Walk.{IsRaisedBy, jumps}
-use Rattle.asc_run.specs.Seen.{guesses_until, SeesAll}
+use Rattle.asc_run.specs.Guessed.{guesses_until, SeesAll}
 
 -- from the third visit on one more visit is guessed at each
 pub newly-later : (ahead n : ℕ) → 2 ≤ n → newly_guessed ahead (n + 1) ≡ 1

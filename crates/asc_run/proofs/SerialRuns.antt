@@ -114,21 +114,21 @@ serial_visits_are_one limit run rule first vs us x y m n p q s t =
 
 abbrev numbers : (executed skipped asked hits made : ℕ) → Numbers
 numbers executed skipped asked hits made =
-    record { executed = executed; skipped = skipped; asked = asked; hits = hits; made = made }
+    record { run = record { executed = executed; skipped = skipped; asked = asked; hits = hits }; made = made }
 
-same_numbers : (a b : Numbers) → a.executed ≡ b.executed → a.skipped ≡ b.skipped → a.asked ≡ b.asked → a.hits ≡ b.hits → a.made ≡ b.made → a ≡ b
+same_numbers : (a b : Numbers) → a.run.executed ≡ b.run.executed → a.run.skipped ≡ b.run.skipped → a.run.asked ≡ b.run.asked → a.run.hits ≡ b.run.hits → a.made ≡ b.made → a ≡ b
 same_numbers a b e s k h m =
-    ap (λ x. numbers x a.skipped a.asked a.hits a.made) e
-    ∙ ap (λ x. numbers b.executed x a.asked a.hits a.made) s
-    ∙ ap (λ x. numbers b.executed b.skipped x a.hits a.made) k
-    ∙ ap (λ x. numbers b.executed b.skipped b.asked x a.made) h
-    ∙ ap (numbers b.executed b.skipped b.asked b.hits) m
+    ap (λ x. numbers x a.run.skipped a.run.asked a.run.hits a.made) e
+    ∙ ap (λ x. numbers b.run.executed x a.run.asked a.run.hits a.made) s
+    ∙ ap (λ x. numbers b.run.executed b.run.skipped x a.run.hits a.made) k
+    ∙ ap (λ x. numbers b.run.executed b.run.skipped b.run.asked x a.made) h
+    ∙ ap (numbers b.run.executed b.run.skipped b.run.asked b.run.hits) m
 
 pub serial_runs_are_one : SerialRunsAreOne
 serial_runs_are_one limit run rule shape guessing first a b p q =
     let i = serial_visits_are_one limit run rule (serial_of shape guessing first) p.visits q.visits p.now q.now a.made b.made p.are q.are p.serial q.serial in
-    let e : jumps a.asked a.skipped a.hits ≡ jumps b.asked b.skipped b.hits = sym p.jumps ∙ ap (λ vs. jumps_of vs (jumps 0 0 0)) i.0 ∙ q.jumps in
-    let skipped : a.skipped ≡ b.skipped = ap (λ (t : Jumps). t.given) e in
+    let e : jumps a.run.asked a.run.skipped a.run.hits ≡ jumps b.run.asked b.run.skipped b.run.hits = sym p.jumps ∙ ap (λ vs. jumps_of vs (jumps 0 0 0)) i.0 ∙ q.jumps in
+    let skipped : a.run.skipped ≡ b.run.skipped = ap (λ (t : Jumps). t.given) e in
     let x = p.executed in
     let y = q.executed in (
       same_numbers a b (omega (arith, x, y, skipped)) skipped (ap (λ (t : Jumps). t.asked) e) (ap (λ (t : Jumps). t.hits) e) i.1.1,

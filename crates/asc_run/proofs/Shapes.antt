@@ -3,7 +3,7 @@ use Rattle.std.proofs.Common.{◌≡◌, ℕ, zero, suc, ◌+◌, ◌-◌, ◌�
 use Rattle.asc_model.specs.Shape.{Shape}
 use Rattle.asc_model.specs.State.{State}
 use Rattle.asc_model.specs.Machine.{Machine, state_of, view_of}
-use Rattle.asc_model.specs.Step.{Went, Outcome, Goes, Calls, Faults, next_of, outcome, next}
+use Rattle.asc_model.specs.Step.{Went, Outcome, Call, Faulted, next_of, outcome, next}
 use Rattle.asc_model.specs.Plain.{plain}
 use Rattle.asc_traj.specs.Jump.{IsJump}
 use Rattle.asc_model.proofs.PlainSteps.{plain-first, plain-last, plain-none}
@@ -13,9 +13,9 @@ at-same a b e = cc
 
 next_of-shape : (shape : Shape) (m : Machine) (o : Outcome) (t : State) → next_of shape m o ≡ Went t → t.shape ≡ shape
 unfolding state_of
-next_of-shape shape m (Goes list) t e = let k = at-same _ t e in sym (ap (λ (s : State). s.shape) k)
-next_of-shape shape m Calls t e = cc
-next_of-shape shape m (Faults fault) t e = cc
+next_of-shape shape m (Went list) t e = let k = at-same _ t e in sym (ap (λ (s : State). s.shape) k)
+next_of-shape shape m Call t e = cc
+next_of-shape shape m (Faulted fault) t e = cc
 
 -- a step
 pub next-shape : (s t : State) → next s ≡ Went t → t.shape ≡ s.shape

@@ -5,19 +5,19 @@ use Rattle.std.specs.Arc.{arc_value}
 use Rattle.std.proofs.lemmas.Bool.{ltb-true, lt-ltb}
 use Rattle.std.proofs.lemmas.List.{take_more, take_all, get_or_default}
 use Rattle.std.proofs.lemmas.List.Sums.{fold_push}
+use Rattle.asc_model.specs.declared.limits.TheConstants.{MOST_ENTRIES}
 use Rattle.asc_outside.specs.Outside.{one_more}
 use Rattle.asc_model.specs.State.{State}
 use Rattle.asc_model.specs.Entry.{Entry, entry_of}
 use Rattle.asc_model.specs.Reach.{Bounds, reach_of}
 use Rattle.asc_guess.specs.declared.kind.Kind.TheVariants.{Last}
-use Rattle.asc_guess.specs.Guess.{guess_of}
+use Rattle.asc_guess.specs.Guess.{guess_of, Task}
 use Rattle.asc_traj.specs.declared.made.Made.{Made}
 use Rattle.asc_traj.specs.declared.made.Made.TheVariants.{One, Empty, Stopped, Refused}
 use Rattle.asc_traj.specs.Made.{IsMade}
 use Rattle.asc_find.specs.declared.guessing.Guessing.{Guessing}
-use Rattle.asc_find.specs.Serial.{Serial, Task, tasks_of, bounds_at, add_joined, add_traced, add_trace, add_guess, after_tasks, visited, made_at}
+use Rattle.asc_find.specs.Serial.{Serial, tasks_of, bounds_at, add_joined, add_traced, add_trace, add_guess, after_tasks, visited, made_at}
 use Rattle.asc_shard.specs.Content.{add}
-use Rattle.asc_shard.specs.Shard.{run_capacity}
 use Rattle.asc_run.specs.LastVisits.{tasks_after, issued_after}
 use Rattle.asc_run.specs.SerialHelper.{SerialHelper, told_machine, jobs_at, planned, IsPlanned, added_joined, one_refused, IsSettled}
 use Rattle.asc_run.specs.SerialInside.{MakesJob}
@@ -138,7 +138,7 @@ works-settled plan now i Refused w l m = works-refused plan now now.machine.cont
 settled-by : (old : SerialHelper) (made : Made) (new : SerialHelper) → IsSettled old made new
     → (new ≡ settled old made) ⊎ ((content : List Entry) × (new ≡ one_refused (record old { machine = record old.machine { content = content } })))
 settled-by old (One entry) new (inl e) = inl e
-settled-by old (One entry) new (inr (join, e)) = inr (add run_capacity old.machine.content (arc_value entry), e)
+settled-by old (One entry) new (inr (join, e)) = inr (add MOST_ENTRIES old.machine.content (arc_value entry), e)
 settled-by old Empty new e = inl e
 settled-by old Stopped new e = inl e
 settled-by old Refused new e = inl e

@@ -1,5 +1,5 @@
 -- What a walk does with its helper.
-use Rattle.std.specs.Prelude.{◌≡◌, ℕ, ◌+◌, ◌-◌, ◌*◌, ◌≤◌, ◌<◌, Bool, true, false, List, [], ◌∷◌, length, Option, Some}
+use Rattle.std.specs.Prelude.{◌≡◌, ℕ, ◌+◌, ◌-◌, ◌<◌, Bool, true, false, List, [], ◌∷◌, length, Option, Some}
 use Rattle.asc_model.specs.State.{State}
 use Rattle.asc_find.specs.Finder.{Aid, Tells}
 use Rattle.asc_find.specs.Helper.{Plans}

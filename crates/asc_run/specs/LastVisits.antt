@@ -3,8 +3,9 @@ use Rattle.std.specs.Prelude.{ℕ, ◌+◌, List, [], Option, Some, None}
 use Rattle.std.specs.Global.{Global}
 use Rattle.std.specs.declared.sync.Arc.{Arc}
 use Rattle.asc_model.specs.State.{State}
+use Rattle.asc_guess.specs.Guess.{Task}
 use Rattle.asc_find.specs.declared.guessing.Guessing.{Guessing}
-use Rattle.asc_find.specs.Serial.{Task, tasks_of}
+use Rattle.asc_find.specs.Serial.{tasks_of}
 
 pub record LastVisits : Type 0 where
   -- what is guessed

@@ -2,7 +2,7 @@ pub mod Execution
 pub mod Turn
 pub mod Visits
 pub mod LastVisits
-pub mod Seen
+pub mod Guessed
 pub mod Helped
 pub mod VisitedBy
 pub mod Way

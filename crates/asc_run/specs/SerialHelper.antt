@@ -2,19 +2,20 @@
 use Rattle.std.specs.Prelude.{◌≡◌, ◌≢◌, ◌⊎◌, ℕ, ◌+◌, ◌-◌, ◌^◌, nat_lt, true, List, [], length, Option, Some, None, if◌then◌else◌}
 use Rattle.std.specs.Arc.{arc_value}
 use Rattle.std.specs.Option.{is_some}
+use Rattle.asc_model.specs.declared.limits.TheConstants.{MOST_ENTRIES}
 use Rattle.asc_model.specs.Shape.{Shape}
 use Rattle.asc_model.specs.State.{State}
 use Rattle.asc_model.specs.Entry.{Entry}
 use Rattle.asc_outside.specs.Outside.{one_more}
+use Rattle.asc_guess.specs.Guess.{Task}
 use Rattle.asc_find.specs.declared.guessing.Guessing.{Guessing}
 use Rattle.asc_traj.specs.declared.made.Made.{Made}
 use Rattle.asc_traj.specs.declared.made.Made.TheVariants.{One, Empty, Stopped, Refused}
 use Rattle.asc_find.specs.Finder.{Aid, Jumps, Plan}
-use Rattle.asc_find.specs.Serial.{Serial, Task, add_joined, due_join}
+use Rattle.asc_find.specs.Serial.{Serial, add_joined, due_join}
 use Rattle.asc_shard.specs.Content.{add}
 use Rattle.asc_run.specs.Walk.{jumps}
 use Rattle.asc_run.specs.SerialRun.{serial_of}
-use Rattle.asc_shard.specs.Shard.{run_capacity}
 use Rattle.asc_run.specs.LastVisits.{tasks_after, issued_after}
 
 -- the machine, the guesses that were planned at the last visit, and what was counted
@@ -84,7 +85,7 @@ IsPlanned number now old new =
 
 -- an entry is added to those that it keeps
 abbrev pub added : SerialHelper → Entry → SerialHelper
-added h e = record h { machine = record h.machine { content = add run_capacity h.machine.content e } }
+added h e = record h { machine = record h.machine { content = add MOST_ENTRIES h.machine.content e } }
 
 -- an entry is added, and where entries are joined its join too
 abbrev pub added_joined : SerialHelper → Entry → SerialHelper

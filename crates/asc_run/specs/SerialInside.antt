@@ -2,19 +2,18 @@
 use Rattle.std.specs.Prelude.{◌≡◌, ◌≢◌, ◌⊎◌, ℕ, ◌≤◌, ◌-◌, true, List, [], ◌∷◌, ◌++◌, map, slice_index_or, Some, IfSome}
 use Rattle.std.specs.List.{flat_map, range_with_len}
 use Rattle.std.specs.Option.{is_some}
+use Rattle.asc_model.specs.declared.limits.TheConstants.{MOST_ENTRIES, MOST_PLACES}
 use Rattle.asc_model.specs.State.{State}
 use Rattle.asc_model.specs.Entry.{Entry}
 use Rattle.asc_guess.specs.declared.kind.Kind.{Kind}
-use Rattle.asc_guess.specs.Guess.{guess_of}
+use Rattle.asc_guess.specs.Guess.{guess_of, Task}
 use Rattle.asc_find.specs.declared.guessing.Guessing.{Guessing}
 use Rattle.asc_traj.specs.declared.made.Made.{Made}
 use Rattle.asc_traj.specs.declared.made.Made.TheVariants.{Refused}
 use Rattle.asc_traj.specs.Made.{IsMade}
-use Rattle.asc_traj.specs.Trace.{trace_cap}
 use Rattle.asc_run.specs.declared.serial.Serial.TheInside.{Inside}
 use Rattle.asc_run.specs.Walk.{jumps}
-use Rattle.asc_shard.specs.Shard.{run_capacity}
-use Rattle.asc_find.specs.Serial.{Task, kinds_of, bounds_at, add_found, newest_join}
+use Rattle.asc_find.specs.Serial.{kinds_of, bounds_at, add_found, newest_join}
 use Rattle.asc_run.specs.SerialHelper.{SerialHelper, one_refused}
 
 -- the guesses of these targets
@@ -44,8 +43,8 @@ pub record IsHelper (s : Inside) : Type 0 where
   pub last : IfSome s.visits.last (λ last. last.shape ≡ s.shape)
   pub tracer_shape : s.tracer.shape ≡ s.shape
   pub state_shape : s.tracer.state.shape ≡ s.shape
-  pub cap : s.tracer.cap ≡ trace_cap
-  pub capacity : s.shard.capacity ≡ run_capacity
+  pub cap : s.tracer.cap ≡ MOST_PLACES
+  pub capacity : s.shard.capacity ≡ MOST_ENTRIES
   pub laps : 1 ≤ s.visits.guessing.laps
   pub span : 1 ≤ s.visits.guessing.span
   pub hits : s.hits ≤ s.asked

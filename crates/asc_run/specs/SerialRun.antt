@@ -1,5 +1,6 @@
 -- A run without workers: its machine at first, and its numbers.
 use Rattle.std.specs.Prelude.{◌≡◌, ℕ, ◌+◌, List, None}
+use Rattle.asc_model.specs.declared.run_counts.RunCounts.{RunCounts}
 use Rattle.asc_model.specs.Shape.{Shape}
 use Rattle.asc_model.specs.Entry.{Entry}
 use Rattle.asc_find.specs.declared.guessing.Guessing.{Guessing}
@@ -17,10 +18,7 @@ serial_of shape guessing content =
 -- What is told of a run: the steps that were executed and those that were jumped over, the visits, the jumps, and the
 -- guesses that were made.
 pub record Numbers : Type 0 where
-  pub executed : ℕ
-  pub skipped : ℕ
-  pub asked : ℕ
-  pub hits : ℕ
+  pub run : RunCounts
   pub made : ℕ
 
 -- These are the numbers of a run without workers, with guesses of this kind, which has these entries before its first
@@ -34,6 +32,6 @@ pub record IsSerialRun (limit : ℕ) (rule : VisitRule) (run : Course) (shape : 
   pub now : Serial
   pub serial : IsSerial limit run (serial_of shape guessing first) visits now numbers.made
   -- how many visits there were, how many steps their jumps gave, and how many jumps there were
-  pub jumps : jumps_of visits (jumps 0 0 0) ≡ jumps numbers.asked numbers.skipped numbers.hits
+  pub jumps : jumps_of visits (jumps 0 0 0) ≡ jumps numbers.run.asked numbers.run.skipped numbers.run.hits
   -- the other steps of the run were executed
-  pub executed : numbers.executed + numbers.skipped ≡ (run_of limit (run limit)).count
+  pub executed : numbers.run.executed + numbers.run.skipped ≡ (run_of limit (run limit)).count

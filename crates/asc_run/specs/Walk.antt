@@ -12,7 +12,7 @@ use Rattle.asc_run.specs.declared.recognised.Recognised.TheVariants.{Nowhere}
 use Rattle.asc_run.specs.declared.walk.Ended.TheVariants.{Limit}
 use Rattle.asc_run.specs.Execution.{Run, exec, Progress, progress, first_position, device_of, StandsAtFailure}
 use Rattle.asc_run.specs.Visits.{Course, Visit, visit_rule, VisitRule}
-use Rattle.asc_run.specs.Seen.{SeesAll}
+use Rattle.asc_run.specs.Guessed.{SeesAll}
 use Rattle.asc_run.specs.Helped.{Helped, HasVisits}
 
 -- A walk: where its program stands, its settings, the steps done or jumped over so far, what was asked for and given,

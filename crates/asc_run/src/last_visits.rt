@@ -7,18 +7,13 @@ ghost use Rattle.asc_run.specs.SerialInside.{tasks_for};
 
 use asc_find::Guessing;
 use asc_guess::{Kind, targets};
+use asc_model::{MOST_AHEAD, MOST_GUESSES};
 use asc_outside::Memory;
 use asc_shape::{Snapshot, State};
 use std::alloc::Global;
 use std::marker::Model;
 use std::ops::Range;
 use std::sync::Arc;
-
-/// The greatest number of visits ahead that may be guessed.
-pub const MOST_AHEAD: u32 = 64;
-
-/// The greatest number of jobs of a visit: one of each kind for each visit ahead.
-pub const MOST_JOBS: usize = 128;
 
 /// The last two visits of a walk, by whose states later ones are guessed, and the jobs that are due at the last one.
 #[derive(Drop)]
@@ -35,6 +30,7 @@ pub struct LastVisits {
 
 impl Model for LastVisits {
     ghost use Rattle.std.specs.Prelude.{◌≡◌, ◌≤◌, ◌^◌, vec_capacity, vec_len, None};
+    ghost use Rattle.asc_model.specs.declared.limits.TheConstants.{MOST_AHEAD, MOST_GUESSES};
     ghost use Rattle.asc_run.specs.LastVisits as model;
 
     ghost Value = { model.LastVisits };
@@ -47,8 +43,8 @@ impl Model for LastVisits {
       jobs = s.jobs.items;
     } };
 
-    ghost invariant = { λ s. (s.guessing.ahead ≤ 64) × (s.issued ≤ 2 ^ 41) × (128 ≤ vec_capacity s.jobs)
-        × (vec_len s.jobs ≤ 128) × (s.last ≡ None → s.prev ≡ None) };
+    ghost invariant = { λ s. (s.guessing.ahead ≤ MOST_AHEAD) × (s.issued ≤ 2 ^ 41)
+        × (MOST_GUESSES ≤ vec_capacity s.jobs) × (vec_len s.jobs ≤ MOST_GUESSES) × (s.last ≡ None → s.prev ≡ None) };
 }
 
 impl LastVisits {
@@ -57,7 +53,7 @@ impl LastVisits {
         requires { guessing.ahead ≤ MOST_AHEAD }
         ensures { IfOk result (λ visits. visits ≡ no_visits guessing) }
     {
-        let jobs = Vec::with_capacity(alloc, MOST_JOBS)?;
+        let jobs = Vec::with_capacity(alloc, MOST_GUESSES)?;
         Ok(LastVisits {
             guessing,
             prev: None,
@@ -184,7 +180,7 @@ impl LastVisits {
     /// The jobs that were listed last: each one's kind, and how many visits after the last one it guesses.
     pub fn jobs(&self) -> &[(Kind, u32)]
         ensures jobs { result.now ≡ self.now.jobs }
-        ensures few { length result.now ≤ MOST_JOBS }
+        ensures few { length result.now ≤ MOST_GUESSES }
     {
         self.jobs.as_slice()
     }

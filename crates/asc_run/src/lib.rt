@@ -13,11 +13,12 @@ mod sought;
 mod visited;
 mod walk;
 
-pub use last_visits::{LastVisits, MOST_AHEAD, MOST_JOBS};
+pub use last_visits::LastVisits;
 pub use laws::{
     progress_is_plain, replies_determine_visits, rows_are_computed, serial_runs_are_one,
+    serial_runs_are_savable,
 };
 pub use process::Process;
 pub use recognised::Recognised;
 pub use serial::Serial;
-pub use walk::{Ended, MOST_STEPS, Settings, Walk};
+pub use walk::{Ended, Settings, Walk};

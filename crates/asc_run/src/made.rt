@@ -1,16 +1,16 @@
-ghost use Rattle.std.specs.Prelude.{◌≡◌, ◌≢◌, ◌≤◌, IfOk};
+ghost use Rattle.std.specs.Prelude.{◌≡◌, ◌≢◌, ◌≤◌};
 ghost use Rattle.asc_guess.specs.Guess.{guess_of};
 ghost use Rattle.asc_traj.specs.declared.made.Made.TheVariants as became;
 ghost use Rattle.asc_traj.specs.Made.{IsMade};
-ghost use Rattle.asc_traj.specs.Trace.{trace_cap};
 ghost use Rattle.asc_find.specs.Serial.{bounds_at};
 
 use asc_depvec::Tracer;
 use asc_find::Guessing;
-use asc_guess::{Kind, guess};
-use asc_shape::{Guess, Snapshot};
+use asc_guess::{Kind, guess_from};
+use asc_model::MOST_PLACES;
+use asc_shape::Snapshot;
 use asc_traj::{Entry, Made, Never, Stop};
-use std::alloc::{AllocError, Global};
+use std::alloc::Global;
 use std::sync::Arc;
 
 /// Guesses the state that is `ahead` visits after the last one, and traces it up to that one's pc. It costs what
@@ -27,7 +27,7 @@ pub(crate) fn make(
     requires prev { prev.now.value.shape ≡ last.now.value.shape }
     requires shape { last.now.value.shape ≡ tracer.old.shape }
     requires own_shape { tracer.old.state.shape ≡ tracer.old.shape }
-    requires cap { tracer.old.cap ≡ trace_cap }
+    requires cap { tracer.old.cap ≡ MOST_PLACES }
     requires laps { 1 ≤ guessing.now.laps }
     requires span { 1 ≤ guessing.now.span }
     ensures made { result ≢ became.Refused → IsMade (bounds_at guessing.now last.now.value)
@@ -45,19 +45,4 @@ pub(crate) fn make(
         Ok(guess) => Entry::traced(alloc, tracer, guess, &stop, &mut Never),
         Err(_) => Made::Refused,
     }
-}
-
-// A guess that shares both snapshots.
-fn guess_from(
-    kind: Kind,
-    prev: &Arc<Snapshot>,
-    last: &Arc<Snapshot>,
-    ahead: u32,
-) -> Result<Guess, AllocError>
-    requires { prev.now.value.shape ≡ last.now.value.shape }
-    ensures { IfOk result (λ guess. guess ≡ guess_of kind ahead prev.now.value last.now.value) }
-{
-    let prev = Arc::try_clone(prev)?;
-    let last = Arc::try_clone(last)?;
-    Ok(guess(kind, prev, last, ahead))
 }

@@ -3,8 +3,8 @@ ghost use Rattle.std.specs.Prelude.{◌≡◌, ◌≢◌, ◌≤◌, ◌<◌, �
 use crate::walk::Ended;
 use asc_calls::{Calls, Devices, Served};
 use asc_elf::Image;
-use asc_outside::{Memory, Sink, Source};
-use asc_shape::{State, Steps};
+use asc_outside::{Memory, Sink, Source, Steps};
+use asc_shape::State;
 use asc_step::{Stepped, step_many, step_until};
 use std::alloc::Global;
 use std::sync::ledger::Ledger;

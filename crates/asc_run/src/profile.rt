@@ -6,8 +6,7 @@ use crate::recognised::Recognised;
 use crate::walk::{Ended, Settings};
 use asc_calls::Devices;
 use asc_guess::choose;
-use asc_outside::{Sink, Source};
-use asc_shape::Steps;
+use asc_outside::{Sink, Source, Steps};
 use std::sync::ledger::Ledger;
 
 impl Process {

@@ -4,11 +4,9 @@ ghost use Rattle.asc_traj.specs.Jump.{IsJump};
 ghost use Rattle.asc_find.specs.Finder.{jumps_after, Tells};
 ghost use Rattle.asc_find.specs.Serial.{Serial as machine, serial_reply};
 ghost use Rattle.asc_find.specs.Helper.{Plans, VisitsMachine};
-ghost use Rattle.asc_shard.specs.Content.{outcome_of};
-ghost use Rattle.asc_shard.specs.Shard.{run_capacity};
+ghost use Rattle.asc_shard.specs.Content.{inserted_in};
 ghost use Rattle.asc_run.specs.SerialHelper.{IsPlanned, IsSettled, added, begun, first_helper, aid_of, told_machine};
 ghost use Rattle.asc_run.specs.SerialInside.{AddsJoin, MakesJob};
-ghost use Rattle.asc_run.specs.declared.last_visits.TheConstants.{MOST_AHEAD, MOST_JOBS};
 
 use crate::joining::join_newest;
 use crate::last_visits::LastVisits;
@@ -16,10 +14,11 @@ use crate::made::make;
 use asc_depvec::Tracer;
 use asc_find::{Finder, Guessing, Helper};
 use asc_guess::Kind;
+use asc_model::{MOST_AHEAD, MOST_ENTRIES, MOST_GUESSES, MOST_PLACES};
 use asc_outside::Memory;
 use asc_shape::{Shape, Snapshot, State};
-use asc_shard::{Inserted, RUN_CAPACITY, Shard};
-use asc_traj::{Entry, Made, TRACE_CAP};
+use asc_shard::{Inserted, Shard};
+use asc_traj::{Entry, Made};
 use std::alloc::Global;
 use std::marker::Model;
 use std::sync::Arc;
@@ -66,8 +65,8 @@ impl Serial {
         requires ahead { guessing.ahead ≤ MOST_AHEAD }
         ensures { IfOk result (λ s. s ≡ first_helper shape guessing) }
     {
-        let tracer = Tracer::new(alloc, shape, TRACE_CAP)?;
-        let shard = Shard::new(alloc, RUN_CAPACITY)?;
+        let tracer = Tracer::new(alloc, shape, MOST_PLACES)?;
+        let shard = Shard::new(alloc, MOST_ENTRIES)?;
         let visits = LastVisits::new(alloc, guessing)?;
         Ok(Serial {
             alloc,
@@ -85,7 +84,7 @@ impl Serial {
 
     /// What it keeps.
     pub fn content(&self) -> &Shard
-        ensures { result.now ≡ record { held = self.now.machine.content; capacity = run_capacity } }
+        ensures { result.now ≡ record { held = self.now.machine.content; capacity = MOST_ENTRIES } }
     {
         &self.shard
     }
@@ -93,7 +92,7 @@ impl Serial {
     /// Adds an entry that another run has kept, as one of its own would be. No allocator is handed in.
     pub fn preload(&mut self, entry: Arc<Entry>) -> Inserted
         ensures added { self.new ≡ added self.old (arc_value entry) }
-        ensures outcome { result ≡ outcome_of self.old.machine.content (arc_value entry) }
+        ensures answer { result ≡ inserted_in self.old.machine.content (arc_value entry) }
     {
         self.shard.insert(entry)
     }
@@ -118,7 +117,7 @@ impl Serial {
         requires number { number ≤ 2 ^ 40 }
         requires made { self.old.made < 2 ^ 62 }
         ensures jobs { result ≡ length self.new.jobs }
-        ensures few { result ≤ MOST_JOBS }
+        ensures few { result ≤ MOST_GUESSES }
         ensures planned { IsPlanned number state.old self.old self.new }
         ensures stays { state.new ≡ state.old }
     {
@@ -139,7 +138,7 @@ impl Serial {
     /// The jobs of the last plan in their order: each one's kind, and how many visits after the last one it guesses.
     pub fn jobs(&self) -> &[(Kind, u32)]
         ensures jobs { result.now ≡ self.now.jobs }
-        ensures few { length result.now ≤ MOST_JOBS }
+        ensures few { length result.now ≤ MOST_GUESSES }
     {
         self.visits.jobs()
     }

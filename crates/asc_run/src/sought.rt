@@ -18,9 +18,9 @@ use crate::visited::Visited;
 use crate::walk::Ended;
 use asc_calls::Devices;
 use asc_find::Finder;
-use asc_outside::{Sink, Source};
+use asc_outside::{Sink, Source, Steps};
 use asc_seek::Seeker;
-use asc_shape::{State, Steps};
+use asc_shape::State;
 use asc_step::{Stepped, step_down};
 use std::sync::ledger::Ledger;
 
@@ -29,7 +29,7 @@ impl Visited {
     ghost use Rattle.asc_run.specs.Execution.{device_of};
     ghost use Rattle.asc_run.specs.Visits.{visit_rule};
     ghost use Rattle.asc_run.specs.Helped.{HasRoom};
-    ghost use Rattle.asc_run.specs.Seen.{SeesAll};
+    ghost use Rattle.asc_run.specs.Guessed.{SeesAll};
     ghost use Rattle.asc_run.specs.Walk.{jumps, GoesHelped, HasNotBegun, IsRaisedBy};
 
     /// Runs a program that has not begun until it ends, a device fails, or `limit` steps are done or jumped over. Where it

@@ -7,8 +7,8 @@ use crate::process::Process;
 use crate::walk::Ended;
 use asc_calls::Devices;
 use asc_find::Finder;
-use asc_outside::{Sink, Source};
-use asc_shape::{State, Steps};
+use asc_outside::{Sink, Source, Steps};
+use asc_shape::State;
 use std::sync::ledger::Ledger;
 
 /// A program on its way, and how it was visited.
@@ -30,7 +30,7 @@ impl Visited {
     ghost use Rattle.asc_run.specs.Execution.{device_of};
     ghost use Rattle.asc_run.specs.Visits.{Course, VisitRule, is_at, with_landing};
     ghost use Rattle.asc_run.specs.Helped.{HasRoom, Helped, Lands};
-    ghost use Rattle.asc_run.specs.Seen.{SeesAll};
+    ghost use Rattle.asc_run.specs.Guessed.{SeesAll};
     ghost use Rattle.asc_run.specs.Way.{ComesUnvisited};
     ghost use Rattle.asc_run.specs.Walk.{jumps, GoesHelped, IsRaisedBy};
 

@@ -6,10 +6,10 @@ use crate::visited::Visited;
 use asc_calls::Devices;
 use asc_elf::Image;
 use asc_find::{Finder, Helper};
-use asc_model::{Fault, RunCounts};
-use asc_outside::{Memory, Sink, Source};
+use asc_model::{Fault, MOST_STEPS, RunCounts};
+use asc_outside::{Memory, Sink, Source, Steps};
 use asc_seek::Seeker;
-use asc_shape::{Shape, State, Steps};
+use asc_shape::{Shape, State};
 use std::alloc::Global;
 use std::marker::Model;
 use std::sync::ledger::Ledger;
@@ -30,9 +30,6 @@ pub enum Ended {
     /// The sink of file 2 failed in a call, which counts no step.
     ErrFault,
 }
-
-/// The greatest limit on steps.
-pub const MOST_STEPS: u64 = 1 << 40;
 
 /// How a program is run.
 #[derive(Clone, Copy, Debug, PartialEq, Eq)]

@@ -6,10 +6,9 @@ ghost use Rattle.asc_model.specs.EntryFile.{header_cases, entry_cases, entries_c
 
 use crate::cells::{Cells, reads, writes};
 use crate::fields::{
-    COUNTS_SIZE, HEADER_SIZE, MOST_CELLS, MOST_ENTRIES, MOST_STEPS, count, read_count, reads_end,
-    steps, word, write_count, writes_end,
+    COUNTS_SIZE, HEADER_SIZE, count, read_count, reads_end, steps, word, write_count, writes_end,
 };
-use asc_model::{SaveFault, Version};
+use asc_model::{MOST_ENTRIES, MOST_ENTRY_STEPS, MOST_PLACES, SaveFault, Version};
 use asc_shape::Shape;
 
 /// The first fault of the header.
@@ -26,7 +25,7 @@ pub(crate) fn header_fault(file: &[u8]) -> Option<SaveFault>
         Some(SaveFault::Machine)
     } else if Shape::of(word(file, 8), word(file, 12), Version::One).is_err() {
         Some(SaveFault::Shape)
-    } else if count(file) > MOST_ENTRIES {
+    } else if count(file) as usize > MOST_ENTRIES {
         Some(SaveFault::Count)
     } else {
         None
@@ -79,9 +78,9 @@ fn is_out_of_bounds(bytes: &[u8]) -> bool
     ensures { result ≡ is_out_of_bounds bytes.now }
 {
     steps(bytes) == 0
-        || steps(bytes) > MOST_STEPS
-        || read_count(bytes) > MOST_CELLS
-        || write_count(bytes) > MOST_CELLS
+        || steps(bytes) > MOST_ENTRY_STEPS
+        || read_count(bytes) as usize > MOST_PLACES
+        || write_count(bytes) as usize > MOST_PLACES
 }
 
 /// Whether places rise, and are places of a shape.

@@ -15,15 +15,6 @@ pub(crate) const COUNTS_SIZE: usize = 16;
 /// The bytes of a place and its byte.
 pub(crate) const CELL_SIZE: usize = 5;
 
-/// The most entries of a file.
-pub(crate) const MOST_ENTRIES: u32 = 1024;
-
-/// The most steps of an entry.
-pub(crate) const MOST_STEPS: u64 = 1_000_000_000;
-
-/// The most reads of an entry, and the most writes.
-pub(crate) const MOST_CELLS: u32 = 4096;
-
 /// The number in the four bytes from a place on.
 pub(crate) fn word(bytes: &[u8], at: usize) -> u32
     requires { at + 4 ≤ length bytes.now }

@@ -7,7 +7,6 @@ ghost use Rattle.asc_model.specs.Shape.{length_of};
 ghost use Rattle.asc_model.specs.Case.{first_fault};
 ghost use Rattle.asc_model.specs.EntryFile.{are_same_cells, counts_size, entries_cases, entries_in, entry_in, reads_in, steps_in, writes_end, writes_in};
 ghost use Rattle.asc_shape.specs.State.{zero_state};
-ghost use Rattle.asc_depvec.specs.Tracer.{most_cap};
 ghost use Rattle.asc_traj.specs.Parts.{all_cells};
 ghost use Rattle.asc_save.specs.Listed.{IsListed};
 ghost use Rattle.asc_save.specs.Traced.{AreRetraced, IsRetraced};
@@ -57,7 +56,7 @@ fn retrace(
 ) -> Result<Option<Arc<Entry>>, Memory>
     requires listed { IsListed tracer.old.shape bytes.now }
     requires zeros { zeros.old ≡ zero_state tracer.old.shape }
-    requires cap { tracer.old.cap ≡ most_cap }
+    requires cap { tracer.old.cap ≡ MOST_CAP }
     ensures entry { IfOk result (λ made. IsRetraced (entry_in tracer.old.shape bytes.now) made) }
     ensures zeros { zeros.new ≡ zeros.old }
     ensures shape { tracer.new.shape ≡ tracer.old.shape }

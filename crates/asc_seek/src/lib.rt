@@ -8,8 +8,6 @@
 
 mod heads;
 mod seeker;
-#[cfg(test)]
-mod tests;
 
 pub use heads::Head;
 pub use seeker::{Phase, Scored, Seeker, Seeking, Service, Trial};

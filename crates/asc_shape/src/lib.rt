@@ -9,14 +9,12 @@ mod page;
 mod shape;
 mod snapshot;
 mod state;
-mod steps;
 mod words;
 
 pub use bytes::Bytes;
 pub use guess::Guess;
 pub use laws::good_shapes_are_made;
-pub use shape::{LEAST_SIZE, MOST_SIZE, PAGE_SIZE, Shape, ShapeFault};
+pub use shape::{Shape, ShapeFault};
 pub use snapshot::Snapshot;
 pub use state::State;
-pub use steps::Steps;
 pub use words::{Words, get_by_bytes, put_by_bytes};

@@ -3,7 +3,7 @@ ghost use Rattle.asc_shape.specs.Shape.{shape_of};
 ghost use Rattle.asc_model.specs.Shape.{IsShape, start_of, place_of, holds, is_size};
 ghost use Rattle.asc_model.specs.declared.version.Version.TheVariants.{One, Two};
 
-use asc_model::Version;
+use asc_model::{LEAST_SIZE, MOST_SIZE, PAGE_SIZE, Version};
 use std::marker::Model;
 
 /// Why a base and a size make no shape.
@@ -14,15 +14,6 @@ pub enum ShapeFault {
     /// The size is not a multiple of 4, below `LEAST_SIZE` or above `MOST_SIZE`.
     Size,
 }
-
-/// The least size of memory, in bytes: 64 KiB.
-pub const LEAST_SIZE: u32 = 65_536;
-
-/// The greatest size of memory, in bytes: 64 MiB.
-pub const MOST_SIZE: u32 = 67_108_864;
-
-/// Memory begins at a multiple of this.
-pub const PAGE_SIZE: u32 = 4096;
 
 /// Where a machine's memory begins, how many bytes it has, and which version the machine is of.
 ///

@@ -24,8 +24,8 @@ abbrev pub add : (capacity : ℕ) → List Entry → Entry → List Entry
 add capacity held e = if list_any (is_same_entry e) held then held else last_of capacity (held ++ e ∷ [])
 
 -- what then is answered
-abbrev pub outcome_of : List Entry → Entry → Inserted
-outcome_of held e = if list_any (is_same_entry e) held then Known else Stored
+abbrev pub inserted_in : List Entry → Entry → Inserted
+inserted_in held e = if list_any (is_same_entry e) held then Known else Stored
 
 -- the content that these insertions leave
 abbrev pub content_of : (capacity : ℕ) → List Entry → List Entry

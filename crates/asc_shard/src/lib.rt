@@ -13,4 +13,4 @@ mod shard;
 mod tests;
 
 pub use laws::{insertions_add, prints_hide_no_match};
-pub use shard::{Inserted, MOST_CAPACITY, RUN_CAPACITY, Shard};
+pub use shard::{Inserted, MOST_CAPACITY, Shard};

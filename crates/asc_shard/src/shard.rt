@@ -4,14 +4,14 @@ ghost use Rattle.std.specs.List.{list_any};
 ghost use Rattle.asc_traj.specs.Jump.{IsJump};
 ghost use Rattle.asc_traj.specs.Content.{longest};
 ghost use Rattle.asc_shard.specs.Groups.{AreAsked, Asked};
-ghost use Rattle.asc_shard.specs.Content.{add, is_same_entry, outcome_of, IsContent, IsFound};
+ghost use Rattle.asc_shard.specs.Content.{add, is_same_entry, inserted_in, IsContent, IsFound};
 ghost use Rattle.asc_shard.specs.Inside.{raised};
 
 use crate::find::{Probes, Uncounted, search};
 use crate::index::{Index, add, forget_oldest, place_of};
 use crate::key::key_of;
-use asc_outside::Memory;
-use asc_shape::{State, Steps};
+use asc_outside::{Memory, Steps};
+use asc_shape::State;
 use asc_traj::{Entry, jump_by};
 use std::alloc::Global;
 use std::marker::Model;
@@ -31,9 +31,6 @@ pub enum Inserted {
 /// cache while the walk looks up.
 pub const MOST_CAPACITY: usize = 4096;
 
-/// How many entries the shard of a run holds, and that of each of its workers.
-pub const RUN_CAPACITY: usize = 1024;
-
 /// A bounded list of entries, the oldest first.
 #[derive(Drop)]
 pub struct Shard {
@@ -49,12 +46,13 @@ impl Model for Shard {
     ghost use Rattle.asc_shard.specs.Content.{AreApart};
     ghost use Rattle.asc_shard.specs.Inside.{IsIndexed};
     ghost use Rattle.asc_shard.specs.Shard as model;
+    ghost use Rattle.asc_shard.specs.declared.shard.TheConstants.{MOST_CAPACITY};
 
     ghost Value = { model.Shard };
 
     ghost view = { λ s. record { held = map arc_value s.entries.items; capacity = s.capacity } };
 
-    ghost invariant = { λ s. (length s.entries.items ≤ s.capacity) × (0 < s.capacity) × (s.capacity ≤ 4096)
+    ghost invariant = { λ s. (length s.entries.items ≤ s.capacity) × (0 < s.capacity) × (s.capacity ≤ MOST_CAPACITY)
         × (s.capacity < vec_capacity s.entries) × (s.capacity < vec_capacity s.index.numbers)
         × (s.capacity < vec_capacity s.index.prints) × (s.capacity < vec_capacity s.index.heads)
         × AreApart (map arc_value s.entries.items) × IsIndexed (map arc_value s.entries.items) s.index };
@@ -93,7 +91,7 @@ impl Shard {
     pub fn insert(&mut self, entry: Arc<Entry>) -> Inserted
         ensures content { self.new.held ≡ add self.old.capacity self.old.held (arc_value entry) }
         ensures capacity { self.new.capacity ≡ self.old.capacity }
-        ensures outcome { result ≡ outcome_of self.old.held (arc_value entry) }
+        ensures answer { result ≡ inserted_in self.old.held (arc_value entry) }
     {
         let key = key_of(&entry);
         let place = place_of(&self.entries, &self.index, &entry, key);

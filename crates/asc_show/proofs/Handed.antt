@@ -1,8 +1,8 @@
 -- What the system tells.
 use Rattle.std.proofs.Common.{◌≡◌, ℕ, List, None, subst}
 use Rattle.asc_outside.specs.Outside.{Given}
-use Rattle.asc_show.specs.declared.answer.Answer.{Answer}
-use Rattle.asc_show.specs.Shown.{Answers, Outer, outer}
+use Rattle.asc_inspect.specs.declared.answer.Answer.{Answer}
+use Rattle.asc_inspect.specs.Shown.{Answers, Outer, outer}
 use Rattle.asc_streams.specs.Told.{untold}
 use Rattle.asc_show.specs.Status.{IsStatusOf, IsStatusOver, IsToldOver}
 

@@ -1,11 +1,1 @@
-pub mod Visited
-pub mod Seen
-pub mod Text
-pub mod Entered
-pub mod Missed
-pub mod Registers
-pub mod Profile
-pub mod Sought
-pub mod Asked
-pub mod Shown
 pub mod Status

@@ -6,8 +6,8 @@ use Rattle.std.specs.declared.vec.IntoIter.{IntoIter}
 use Rattle.asc_outside.specs.Outside.{Given, PutsPart, given_after, one_more}
 use Rattle.asc_streams.specs.Told.{untold}
 use Rattle.asc_words.specs.Given.{HoldsOf}
-use Rattle.asc_show.specs.Shown.{Answers, Outer, answer_text, code_of, outer, refusal_of}
-use Rattle.asc_show.specs.declared.answer.Answer.{Answer}
+use Rattle.asc_inspect.specs.Shown.{Answers, Outer, answer_text, code_of, outer, refusal_of}
+use Rattle.asc_inspect.specs.declared.answer.Answer.{Answer}
 
 -- The line of an answer was put to a report, or the report failed, once, while it took a beginning of it.
 abbrev pub IsReported : (before after : Given) → (faults now : ℕ) → Answer → Type 0

@@ -23,29 +23,8 @@ ghost use Rattle.std.specs.Process.{exit_status};
 ghost use Rattle.std.specs.String.{string_bytes};
 ghost use Rattle.asc_show.specs.Status.{IsStatusFor, IsStatusOf, IsStatusOver};
 
-mod answer;
-mod entry;
-mod lap;
-mod laws;
-mod meetings;
-mod miss;
-mod miss_text;
-mod profile;
-mod profile_text;
-mod registers;
-mod request;
-mod show;
-mod sought;
-mod sought_text;
-#[cfg(test)]
-mod tests;
-mod text;
-mod visit;
-
-use crate::answer::Answer;
-use crate::show::show;
-use asc_outside::{Sink, put_all};
-use asc_shape::Steps;
+use asc_inspect::{Answer, show};
+use asc_outside::{Sink, Steps, put_all};
 use asc_streams::{FileStore, StreamSink, StreamSource};
 use asc_words::given_words;
 use std::env::Args;

@@ -15,7 +15,7 @@ use Rattle.asc_model.specs.State.{State, IsState}
 use Rattle.asc_model.specs.Machine.{Machine, Change, Pc, Register, Memory, reserve, release, load, is_reserved, view_of}
 use Rattle.asc_model.specs.Arithmetic.{◌+w◌, one_if}
 use Rattle.asc_model.specs.Effect.{Effect, Set, Load, Store, Jump, LoadReserved, StoreConditional, Modify, GuestCall, Breakpoint}
-use Rattle.asc_model.specs.Step.{Outcome, Goes, Faults, fault_outcome, is_aligned, atomic_outcome, loaded_word, effect_of, outcome_of}
+use Rattle.asc_model.specs.Step.{Outcome, Went, Faulted, fault_outcome, is_aligned, atomic_outcome, loaded_word, effect_of, outcome_of}
 use Rattle.asc_model.specs.Instruction.{decode}
 use Rattle.asc_model.proofs.Steps.{IsInstruction, IfInstruction, decode-IsInstruction, IsEffect, effect_of-IsEffect}
 use Rattle.asc_model.specs.Places.{places_from, reservation_places, cells, cells_of, cells_of_outcome, atomic_places, data_places}
@@ -73,7 +73,7 @@ length_puts f g list e =
 -- ---- effects
 
 -- an effect that goes on
-pub finishes_goes : (f f1 g : Face) (rd : ℕ) (e : Effect) (list : List Change) (answer : Stepped) → outcome_of f.state.shape (view_of f.state) rd e ≡ Goes list
+pub finishes_goes : (f f1 g : Face) (rd : ℕ) (e : Effect) (list : List Change) (answer : Stepped) → outcome_of f.state.shape (view_of f.state) rd e ≡ Went list
     → f1 ≡ face_after_reads f (data_places f.state.shape e) → Puts f1 g list → answer ≡ answers.Went → Finishes f g rd e answer
 finishes_goes f f1 g rd e list answer o r p a =
     let places = data_places f.state.shape e in
@@ -87,7 +87,7 @@ finishes_goes f f1 g rd e list answer o r p a =
     }
 
 -- an effect that ends in a fault
-pub finishes_fails : (f : Face) (rd : ℕ) (e : Effect) (fault : Fault) (answer : Stepped) → outcome_of f.state.shape (view_of f.state) rd e ≡ Faults fault
+pub finishes_fails : (f : Face) (rd : ℕ) (e : Effect) (fault : Fault) (answer : Stepped) → outcome_of f.state.shape (view_of f.state) rd e ≡ Faulted fault
     → data_places f.state.shape e ≡ [] → answer ≡ answers.Faulted fault → Finishes f f rd e answer
 finishes_fails f rd e fault answer o p a = record {
   answer = a ∙ ap answer_of (sym o);
@@ -105,15 +105,15 @@ finishes_calls f rd = record { answer = refl; face = sym (face_after_puts-nil (f
 abbrev pub fault_at : FaultKind → (pc value : ℕ) → Fault
 fault_at kind pc value = record { kind = kind; pc = pc; value = value }
 
-pub fault_outcome-at : (m : Machine) (kind : FaultKind) (pc value : ℕ) → pc ≡ m.pc → fault_outcome m kind value ≡ Faults (fault_at kind pc value)
-fault_outcome-at m kind pc value e = ap (λ x. Faults (fault_at kind x value)) (sym e)
+pub fault_outcome-at : (m : Machine) (kind : FaultKind) (pc value : ℕ) → pc ≡ m.pc → fault_outcome m kind value ≡ Faulted (fault_at kind pc value)
+fault_outcome-at m kind pc value e = ap (λ x. Faulted (fault_at kind x value)) (sym e)
 
 -- ---- each effect
 
 -- x[rd] = value
 pub finishes_set : (f g : Face) (pc rd value : ℕ) (answer : Stepped) → AtInstruction f pc → Puts f g (Pc (pc +w 4) ∷ Register rd value ∷ []) → answer ≡ answers.Went → Finishes f g rd (Set value) answer
 finishes_set f g pc rd value answer at p a =
-    finishes_goes f f g rd (Set value) (Pc (pc +w 4) ∷ Register rd value ∷ []) answer (ap (λ x. Goes (Pc (x +w 4) ∷ Register rd value ∷ [])) (sym at.pc))
+    finishes_goes f f g rd (Set value) (Pc (pc +w 4) ∷ Register rd value ∷ []) answer (ap (λ x. Went (Pc (x +w 4) ∷ Register rd value ∷ [])) (sym at.pc))
     (sym (face_after_reads-nil f)) p a
 
 -- x[rd] = M[address]
@@ -126,8 +126,8 @@ module _ (f : Face) (pc rd n : ℕ) (signed : Bool) (address : ℕ) (at : AtInst
       let value : number ≡ load f.state.shape m n address = v ∙ ap (number_at n f.state.bytes) e ∙ sym (view_of-load f.state n address) in
       finishes_goes f f1 g rd (Load n signed address) (Pc (pc +w 4) ∷ Register rd (loaded_word n signed number) ∷ []) answer
       (cond-true _ _ _ h
-      ∙ ap (λ x. Goes (Pc (x +w 4) ∷ Register rd (loaded_word n signed (load f.state.shape m n address)) ∷ [])) (sym at.pc)
-      ∙ ap (λ x. Goes (Pc (pc +w 4) ∷ Register rd (loaded_word n signed x) ∷ [])) (sym value))
+      ∙ ap (λ x. Went (Pc (x +w 4) ∷ Register rd (loaded_word n signed (load f.state.shape m n address)) ∷ [])) (sym at.pc)
+      ∙ ap (λ x. Went (Pc (pc +w 4) ∷ Register rd (loaded_word n signed x) ∷ [])) (sym value))
       (r ∙ ap (λ x. face_after_reads f (places_from x n)) e ∙ ap (face_after_reads f) (sym (cond-true _ (places_from (place_of f.state.shape address) n) [] h)))
       p a
 
@@ -142,7 +142,7 @@ module _ (f : Face) (pc rd n address value : ℕ) (at : AtInstruction f pc) wher
       → answer ≡ answers.Went → Finishes f g rd (Store n address value) answer
   finishes_store g answer h p a =
       finishes_goes f f g rd (Store n address value) (Pc (pc +w 4) ∷ Memory address (bytes_of n value) ∷ []) answer
-      (cond-true _ _ _ h ∙ ap (λ x. Goes (Pc (x +w 4) ∷ Memory address (bytes_of n value) ∷ [])) (sym at.pc)) (sym (face_after_reads-nil f)) p a
+      (cond-true _ _ _ h ∙ ap (λ x. Went (Pc (x +w 4) ∷ Memory address (bytes_of n value) ∷ [])) (sym at.pc)) (sym (face_after_reads-nil f)) p a
 
   pub fails_store : (answer : Stepped) → holds f.state.shape address n ≡ false → answer ≡ answers.Faulted (fault_at StoreOutside pc address) → Finishes f f rd (Store n address value) answer
   fails_store answer h a =
@@ -154,7 +154,7 @@ module _ (f : Face) (pc rd target : ℕ) (at : AtInstruction f pc) where
   pub finishes_jump : (g : Face) (answer : Stepped) → is_aligned target ≡ true → Puts f g (Pc target ∷ Register rd (pc +w 4) ∷ []) → answer ≡ answers.Went → Finishes f g rd (Jump target) answer
   finishes_jump g answer h p a =
       finishes_goes f f g rd (Jump target) (Pc target ∷ Register rd (pc +w 4) ∷ []) answer
-      (cond-true _ _ _ h ∙ ap (λ x. Goes (Pc target ∷ Register rd (x +w 4) ∷ [])) (sym at.pc)) (sym (face_after_reads-nil f)) p a
+      (cond-true _ _ _ h ∙ ap (λ x. Went (Pc target ∷ Register rd (x +w 4) ∷ [])) (sym at.pc)) (sym (face_after_reads-nil f)) p a
 
   pub fails_jump : (answer : Stepped) → is_aligned target ≡ false → answer ≡ answers.Faulted (fault_at Misaligned pc target) → Finishes f f rd (Jump target) answer
   fails_jump answer h a =
@@ -192,7 +192,7 @@ pub fails_atomic : (f : Face) (pc rd : ℕ) (e : Effect) (outside kind : FaultKi
     → data_places f.state.shape e ≡ atomic_places f.state.shape address places → Some kind ≡ word_fault f.state.shape address AtomicMisaligned outside
     → answer ≡ answers.Faulted (fault_at kind pc address) → Finishes f f rd e answer
 fails_atomic f pc rd e outside kind address list places answer at o d k a =
-    let both = atomic_fails (is_aligned address) (holds f.state.shape address 4) (view_of f.state) outside kind address (Goes list) places (sym k) in
+    let both = atomic_fails (is_aligned address) (holds f.state.shape address 4) (view_of f.state) outside kind address (Went list) places (sym k) in
     finishes_fails f rd e (fault_at kind pc address) answer (o ∙ both.0 ∙ fault_outcome-at (view_of f.state) kind pc address at.pc) (d ∙ both.1) a
 
 -- an atomic that goes on
@@ -201,8 +201,8 @@ pub finishes_atomic : (f f1 g : Face) (rd : ℕ) (e : Effect) (outside : FaultKi
     → data_places f.state.shape e ≡ atomic_places f.state.shape address places → None ≡ word_fault f.state.shape address AtomicMisaligned outside
     → list ≡ new → f1 ≡ face_after_reads f places → Puts f1 g new → answer ≡ answers.Went → Finishes f g rd e answer
 finishes_atomic f f1 g rd e outside address list new places answer o d k l r p a =
-    let both = atomic_goes (is_aligned address) (holds f.state.shape address 4) (fault_outcome (view_of f.state) AtomicMisaligned address) (fault_outcome (view_of f.state) outside address) (Goes list) outside places (sym k) in
-    finishes_goes f f1 g rd e new answer (o ∙ both.0 ∙ ap Goes l) (r ∙ ap (face_after_reads f) (sym (d ∙ both.1))) p a
+    let both = atomic_goes (is_aligned address) (holds f.state.shape address 4) (fault_outcome (view_of f.state) AtomicMisaligned address) (fault_outcome (view_of f.state) outside address) (Went list) outside places (sym k) in
+    finishes_goes f f1 g rd e new answer (o ∙ both.0 ∙ ap Went l) (r ∙ ap (face_after_reads f) (sym (d ∙ both.1))) p a
 
 -- ---- lengths
 

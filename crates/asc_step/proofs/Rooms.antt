@@ -4,6 +4,7 @@ use Rattle.std.specs.List.{flat_map}
 use Rattle.std.specs.Prelude.{◌==◌, int_lt, nat_lt}
 use Rattle.std.proofs.lemmas.Bool.{cond_both}
 use Rattle.std.proofs.lemmas.List.{length-append, length-map}
+use Rattle.asc_model.specs.declared.limits.TheConstants.{STEP_ROOM}
 use Rattle.asc_model.specs.declared.fault.FaultKind.{FaultKind}
 use Rattle.asc_model.specs.declared.fault.FaultKind.TheVariants.{Misaligned, FetchOutside, Illegal, LoadOutside, StoreOutside, Break, AtomicMisaligned}
 use Rattle.asc_model.specs.declared.version.Version.{Version}
@@ -17,9 +18,8 @@ use Rattle.asc_model.specs.Machine.{Machine, Change, Pc, Register, Memory, reser
 use Rattle.asc_model.specs.Arithmetic.{◌+w◌, signed, one_if}
 use Rattle.asc_model.specs.Effect.{Effect, Set, Load, Store, Jump, LoadReserved, StoreConditional, Modify, GuestCall, Breakpoint, branch, effect}
 use Rattle.asc_model.specs.Instruction.{decode, op_of, rd_of, rs1_of, rs2_of, imm_of}
-use Rattle.asc_model.specs.Step.{Outcome, Goes, fault_outcome, is_aligned, atomic_outcome, effect_of, outcome_of, outcome_of_word, fetch, outcome}
+use Rattle.asc_model.specs.Step.{Outcome, Went, fault_outcome, is_aligned, atomic_outcome, effect_of, outcome_of, outcome_of_word, fetch, outcome}
 use Rattle.asc_model.specs.Places.{places_from, register_places, reservation_places, data_places, operand_places, places_read, cells, cells_of, cells_of_outcome, writes}
-use Rattle.asc_model.specs.Reach.{step_room}
 use Rattle.asc_model.proofs.Numbers.{length-bytes_of}
 use Rattle.asc_model.proofs.Changes.{IsMachine-view_of}
 use Rattle.asc_model.proofs.Steps.{IfInstruction, decode-IsInstruction, IsEffect, effect_of-IsEffect}
@@ -213,11 +213,11 @@ module _ (marks : Marks) (shape : Shape) (touched : untouched_count marks (place
   fails-IsShort m kind value = omega (arith, untouched_count-le-length marks [])
 
   -- the pc and other changes
-  goes-IsShort : (pc : ℕ) (list : List Change) → length (flat_map (cells_of shape) list) ≤ 9 → IsShort (Goes (Pc pc ∷ list))
+  goes-IsShort : (pc : ℕ) (list : List Change) → length (flat_map (cells_of shape) list) ≤ 9 → IsShort (Went (Pc pc ∷ list))
   goes-IsShort pc list h = omega (arith, h, untouched_behind_pc marks pc (flat_map (cells_of shape) list) touched)
 
   -- the pc, a register and other changes
-  sets-IsShort : (pc rd value : ℕ) (list : List Change) → length (flat_map (cells_of shape) list) ≤ 5 → IsShort (Goes (Pc pc ∷ Register rd value ∷ list))
+  sets-IsShort : (pc rd value : ℕ) (list : List Change) → length (flat_map (cells_of shape) list) ≤ 5 → IsShort (Went (Pc pc ∷ Register rd value ∷ list))
   sets-IsShort pc rd value list h =
       goes-IsShort pc (Register rd value ∷ list) (omega (arith, h, length-append (cells_of shape (Register rd value)) (flat_map (cells_of shape) list), length-cells_of_register shape rd value))
 
@@ -226,7 +226,7 @@ module _ (marks : Marks) (shape : Shape) (touched : untouched_count marks (place
       let cells = cells_of shape (Memory address (bytes_of n value)) in
       omega (arith, length-append cells [], length-cells (place_of shape address) (bytes_of n value), length-bytes_of n value)
 
-  atomic-IsShort : (m : Machine) (outside : FaultKind) (address : ℕ) (list : List Change) → IsShort (Goes list) → IsShort (atomic_outcome shape m outside address list)
+  atomic-IsShort : (m : Machine) (outside : FaultKind) (address : ℕ) (list : List Change) → IsShort (Went list) → IsShort (atomic_outcome shape m outside address list)
   atomic-IsShort m outside address list h =
       cond_both (not (is_aligned address)) _ _ IsShort (λ yes. fails-IsShort m AtomicMisaligned address)
       (λ no. cond_both (holds shape address 4) _ _ IsShort (λ yes. h) (λ no. fails-IsShort m outside address))
@@ -271,7 +271,7 @@ unfolding writes
 writes-short s marks touched = outcome-IsShort marks s.shape touched (view_of s)
 
 -- a step takes no more room than is kept for one
-pub room_after_step : (f g : Face) → IsState f.state → FitPlaces (length f.state.bytes) f.marks → g ≡ face_after f → room_of f.marks ≤ room_of g.marks + step_room
+pub room_after_step : (f g : Face) → IsState f.state → FitPlaces (length f.state.bytes) f.marks → g ≡ face_after f → room_of f.marks ≤ room_of g.marks + STEP_ROOM
 room_after_step f g good fit e =
     let a = places_from 0 4 in
     let b = places_behind f.state in

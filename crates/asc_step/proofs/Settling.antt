@@ -17,7 +17,7 @@ use Rattle.asc_model.specs.Machine.{Machine, Change, Pc, Register, Memory, reser
 use Rattle.asc_model.specs.Arithmetic.{◌+w◌, signed, one_if}
 use Rattle.asc_model.specs.Effect.{Effect, Set, Load, Store, Jump, LoadReserved, StoreConditional, Modify, GuestCall, Breakpoint}
 use Rattle.asc_model.specs.Instruction.{decode, rd_of, rs1_of, rs2_of}
-use Rattle.asc_model.specs.Step.{Outcome, Goes, Calls, Faults, fault_outcome, is_aligned, atomic_outcome, loaded_word, effect_of, outcome_of, outcome_of_word, fetch, outcome}
+use Rattle.asc_model.specs.Step.{Outcome, Went, Call, Faulted, fault_outcome, is_aligned, atomic_outcome, loaded_word, effect_of, outcome_of, outcome_of_word, fetch, outcome}
 use Rattle.asc_model.specs.Places.{places_from, register_places, data_places, operand_places, places_read, cells_of, cells_of_outcome, writes}
 use Rattle.asc_model.proofs.Changes.{holds-parts}
 use Rattle.asc_model.proofs.Numbers.{length-bytes_after}
@@ -39,10 +39,10 @@ use Rattle.asc_step.proofs.Steps.{fetch_fault, fetched_tests, outcome-fetched, o
 
 -- where all that it writes is written, the pc and the destination are
 abbrev WritesBoth : Shape → ℕ → Outcome → Type 0
-WritesBoth shape rd (Goes list) = (marks : Marks) → unwritten_count marks (map (λ cell. cell.0) (flat_map (cells_of shape) list)) ≡ 0
+WritesBoth shape rd (Went list) = (marks : Marks) → unwritten_count marks (map (λ cell. cell.0) (flat_map (cells_of shape) list)) ≡ 0
     → (unwritten_count marks (places_from 0 4) ≡ 0) × (unwritten_count marks (register_places rd) ≡ 0)
-WritesBoth shape rd Calls = Unit {0}
-WritesBoth shape rd (Faults fault) = Unit {0}
+WritesBoth shape rd Call = Unit {0}
+WritesBoth shape rd (Faulted fault) = Unit {0}
 
 unwritten-map : (marks : Marks) (a b : List (ℕ × ℕ)) → unwritten_count marks (map (λ cell. cell.0) (a ++ b)) ≡ unwritten_count marks (map (λ cell. cell.0) a) + unwritten_count marks (map (λ cell. cell.0) b)
 unwritten-map marks a b = ap (unwritten_count marks) (map-append (λ (cell : ℕ × ℕ). cell.0) a b) ∙ unwritten_count-append marks (map (λ cell. cell.0) a) (map (λ cell. cell.0) b)
@@ -51,7 +51,7 @@ unwritten_register : (marks : Marks) (shape : Shape) (rd value : ℕ) → unwrit
 unwritten_register marks shape zero value = refl
 unwritten_register marks shape (suc k) value = refl
 
-sets-both : (shape : Shape) (pc rd value : ℕ) (list : List Change) → WritesBoth shape rd (Goes (Pc pc ∷ Register rd value ∷ list))
+sets-both : (shape : Shape) (pc rd value : ℕ) (list : List Change) → WritesBoth shape rd (Went (Pc pc ∷ Register rd value ∷ list))
 sets-both shape pc rd value list marks none =
     let first = cells_of shape (Pc pc) in
     let second = cells_of shape (Register rd value) in
@@ -62,7 +62,7 @@ sets-both shape pc rd value list marks none =
     let pcs : unwritten_count marks (map (λ cell. cell.0) first) ≡ unwritten_count marks (places_from 0 4) = refl in
     (omega (arith, none, parts, pcs), omega (arith, none, parts, more, same))
 
-stores-both : (shape : Shape) (pc rd : ℕ) (list : List Change) → rd ≡ 0 → WritesBoth shape rd (Goes (Pc pc ∷ list))
+stores-both : (shape : Shape) (pc rd : ℕ) (list : List Change) → rd ≡ 0 → WritesBoth shape rd (Went (Pc pc ∷ list))
 stores-both shape pc rd list e marks none =
     let first = cells_of shape (Pc pc) in
     let parts = unwritten-map marks first (flat_map (cells_of shape) list) in
@@ -72,21 +72,21 @@ stores-both shape pc rd list e marks none =
     unwritten_none : (marks : Marks) → unwritten_count marks [] ≡ 0
     unwritten_none marks = unwritten_count-nil marks
 
-atomic-both : (shape : Shape) (m : Machine) (rd : ℕ) (outside : FaultKind) (address : ℕ) (list : List Change) → WritesBoth shape rd (Goes list) → WritesBoth shape rd (atomic_outcome shape m outside address list)
+atomic-both : (shape : Shape) (m : Machine) (rd : ℕ) (outside : FaultKind) (address : ℕ) (list : List Change) → WritesBoth shape rd (Went list) → WritesBoth shape rd (atomic_outcome shape m outside address list)
 atomic-both shape m rd outside address list h =
-    by_branch (WritesBoth shape rd) (not (is_aligned address)) (fault_outcome m AtomicMisaligned address) (if holds shape address 4 then Goes list else fault_outcome m outside address) (λ e. tt)
-    (λ e. by_branch (WritesBoth shape rd) (holds shape address 4) (Goes list) (fault_outcome m outside address) (λ e. h) (λ e. tt))
+    by_branch (WritesBoth shape rd) (not (is_aligned address)) (fault_outcome m AtomicMisaligned address) (if holds shape address 4 then Went list else fault_outcome m outside address) (λ e. tt)
+    (λ e. by_branch (WritesBoth shape rd) (holds shape address 4) (Went list) (fault_outcome m outside address) (λ e. h) (λ e. tt))
 
 outcome_of-both : (shape : Shape) (m : Machine) (rd : ℕ) (e : Effect) → StoresNone e rd → WritesBoth shape rd (outcome_of shape m rd e)
 outcome_of-both shape m rd (Set value) h = sets-both shape (m.pc +w 4) rd value []
 outcome_of-both shape m rd (Load n signed address) h =
-    by_branch (WritesBoth shape rd) (holds shape address n) (Goes (Pc (m.pc +w 4) ∷ Register rd (loaded_word n signed (load shape m n address)) ∷ [])) (fault_outcome m LoadOutside address)
+    by_branch (WritesBoth shape rd) (holds shape address n) (Went (Pc (m.pc +w 4) ∷ Register rd (loaded_word n signed (load shape m n address)) ∷ [])) (fault_outcome m LoadOutside address)
     (λ e. sets-both shape (m.pc +w 4) rd (loaded_word n signed (load shape m n address)) []) (λ e. tt)
 outcome_of-both shape m rd (Store n address value) h =
-    by_branch (WritesBoth shape rd) (holds shape address n) (Goes (Pc (m.pc +w 4) ∷ Memory address (bytes_of n value) ∷ [])) (fault_outcome m StoreOutside address)
+    by_branch (WritesBoth shape rd) (holds shape address n) (Went (Pc (m.pc +w 4) ∷ Memory address (bytes_of n value) ∷ [])) (fault_outcome m StoreOutside address)
     (λ e. stores-both shape (m.pc +w 4) rd (Memory address (bytes_of n value) ∷ []) h) (λ e. tt)
 outcome_of-both shape m rd (Jump target) h =
-    by_branch (WritesBoth shape rd) (is_aligned target) (Goes (Pc target ∷ Register rd (m.pc +w 4) ∷ [])) (fault_outcome m Misaligned target)
+    by_branch (WritesBoth shape rd) (is_aligned target) (Went (Pc target ∷ Register rd (m.pc +w 4) ∷ [])) (fault_outcome m Misaligned target)
     (λ e. sets-both shape target rd (m.pc +w 4) []) (λ e. tt)
 outcome_of-both shape m rd (LoadReserved address) h =
     atomic-both shape m rd LoadOutside address (Pc (m.pc +w 4) ∷ Register rd (load shape m 4 address) ∷ reserve address ∷ [])
@@ -115,9 +115,9 @@ called≢ e = absurd (cc)
 
 went-both : (shape : Shape) (rd : ℕ) (o : Outcome) (marks : Marks) → answer_of o ≡ answers.Went → WritesBoth shape rd o → unwritten_count marks (map (λ cell. cell.0) (cells_of_outcome shape o)) ≡ 0
     → (unwritten_count marks (places_from 0 4) ≡ 0) × (unwritten_count marks (register_places rd) ≡ 0)
-went-both shape rd (Goes list) marks e h none = h marks none
-went-both shape rd Calls marks e h none = absurd (called≢ e)
-went-both shape rd (Faults fault) marks e h none = absurd (went≢ fault e)
+went-both shape rd (Went list) marks e h none = h marks none
+went-both shape rd Call marks e h none = absurd (called≢ e)
+went-both shape rd (Faulted fault) marks e h none = absurd (went≢ fault e)
 
 -- ---- a step that goes on
 

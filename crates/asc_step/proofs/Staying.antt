@@ -6,7 +6,7 @@ use Rattle.asc_model.specs.Number.{word_at}
 use Rattle.asc_model.specs.Machine.{Machine, view_of}
 use Rattle.asc_model.specs.Effect.{Effect, Set, Load, Store, Jump, LoadReserved, StoreConditional, Modify, GuestCall, Breakpoint}
 use Rattle.asc_model.specs.Instruction.{decode, rd_of, rs1_of, rs2_of}
-use Rattle.asc_model.specs.Step.{Outcome, Goes, Calls, Faults, is_aligned, effect_of, outcome_of, outcome_of_word}
+use Rattle.asc_model.specs.Step.{Outcome, Went, Call, Faulted, is_aligned, effect_of, outcome_of, outcome_of_word}
 use Rattle.asc_model.specs.Places.{places_from, register_places, data_places, operand_places, cells_of_outcome}
 use Rattle.asc_shape.specs.Face.{Face, face_after_reads}
 use Rattle.asc_shape.specs.Settled.{AreSettled, IsSettled}
@@ -19,9 +19,9 @@ use Rattle.asc_step.proofs.Touches.{puts_none, reads_none}
 
 -- an outcome that does not go on writes nothing
 no_cells : (shape : Shape) (o : Outcome) → (answer_of o ≡ answers.Went → ⊥) → cells_of_outcome shape o ≡ []
-no_cells shape (Goes list) other = absurd (other refl)
-no_cells shape Calls other = refl
-no_cells shape (Faults fault) other = refl
+no_cells shape (Went list) other = absurd (other refl)
+no_cells shape Call other = refl
+no_cells shape (Faulted fault) other = refl
 
 -- and an effect of such an outcome loads nothing
 by_test : (b : Bool) (goes fails : Outcome) (places : List ℕ) → answer_of goes ≡ answers.Went → (answer_of (if b then goes else fails) ≡ answers.Went → ⊥) → (if b then places else []) ≡ []

@@ -9,7 +9,7 @@ use Rattle.asc_model.specs.Number.{word_at}
 use Rattle.asc_model.specs.State.{State, IsState}
 use Rattle.asc_model.specs.Machine.{Machine, view_of}
 use Rattle.asc_model.specs.Instruction.{decode}
-use Rattle.asc_model.specs.Step.{Outcome, Goes, Calls, Faults, fault_outcome, is_aligned, outcome_of_word, fetch, outcome, Next, next, next_of}
+use Rattle.asc_model.specs.Step.{Outcome, Went, Call, Faulted, fault_outcome, is_aligned, outcome_of_word, fetch, outcome, Next, next, next_of}
 use Rattle.asc_model.specs.Places.{places_from, places_read, operand_places, cells_of_outcome, writes, bytes_after}
 use Rattle.asc_model.proofs.Views.{view_of-pc, view_of-fetch}
 use Rattle.asc_model.proofs.Steps.{next-goes, next-calls, next-fails, writes-calls, writes-fails}
@@ -28,9 +28,9 @@ fetch_fault shape pc = word_fault shape pc Misaligned FetchOutside
 
 -- the answer of an outcome
 stepped_of-next_of : (shape : Shape) (m : Machine) (o : Outcome) → stepped_of (next_of shape m o) ≡ answer_of o
-stepped_of-next_of shape m (Goes list) = refl
-stepped_of-next_of shape m Calls = refl
-stepped_of-next_of shape m (Faults fault) = refl
+stepped_of-next_of shape m (Went list) = refl
+stepped_of-next_of shape m Call = refl
+stepped_of-next_of shape m (Faulted fault) = refl
 
 -- the answer of a step
 pub stepped_of-next : (s : State) → stepped_of (next s) ≡ answer_of (outcome s.shape (view_of s))
@@ -39,10 +39,10 @@ stepped_of-next s = stepped_of-next_of s.shape (view_of s) (outcome s.shape (vie
 
 -- what a step writes makes the state after it, in each outcome
 after_outcome : (s : State) (o : Outcome) → IsState s → outcome s.shape (view_of s) ≡ o → state_after_step (next s) s ≡ record s { bytes = bytes_after s.bytes (writes s) }
-after_outcome s (Goes list) good e = ap (λ (n : Next). state_after_step n s) (next-goes s list good e)
-after_outcome s Calls good e =
+after_outcome s (Went list) good e = ap (λ (n : Next). state_after_step n s) (next-goes s list good e)
+after_outcome s Call good e =
     ap (λ (n : Next). state_after_step n s) (next-calls s e) ∙ ap (λ list. record s { bytes = bytes_after s.bytes list }) (sym (writes-calls s e))
-after_outcome s (Faults fault) good e =
+after_outcome s (Faulted fault) good e =
     ap (λ (n : Next). state_after_step n s) (next-fails s fault e) ∙ ap (λ list. record s { bytes = bytes_after s.bytes list }) (sym (writes-fails s fault e))
 
 -- what a step writes makes the state after it

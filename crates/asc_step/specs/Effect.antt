@@ -35,5 +35,5 @@ model_effect (codes.Jump target) = Jump target
 model_effect (codes.LoadReserved address) = LoadReserved address
 model_effect (codes.StoreConditional address value) = StoreConditional address value
 model_effect (codes.Modify amo address value) = Modify address (λ old. changed amo old value)
-model_effect codes.Call = GuestCall
-model_effect codes.Break = Breakpoint
+model_effect codes.GuestCall = GuestCall
+model_effect codes.Breakpoint = Breakpoint

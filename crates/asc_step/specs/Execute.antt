@@ -9,7 +9,7 @@ use Rattle.asc_model.specs.Shape.{Shape, holds}
 use Rattle.asc_model.specs.State.{IsState}
 use Rattle.asc_model.specs.Machine.{Change, view_of}
 use Rattle.asc_model.specs.Effect.{Effect, Set, Load, Store, Jump, LoadReserved, StoreConditional, Modify, GuestCall, Breakpoint}
-use Rattle.asc_model.specs.Step.{Outcome, Goes, Calls, Faults, is_aligned, outcome_of}
+use Rattle.asc_model.specs.Step.{Outcome, Went, Call, Faulted, is_aligned, outcome_of}
 use Rattle.asc_model.specs.Places.{places_from, register_places, data_places, cells_of, cells_of_outcome}
 use Rattle.asc_shape.specs.Face.{Face, Marks, face_after_reads, face_after_puts, untouched_count}
 use Rattle.asc_shape.specs.Settled.{AreSettled, unwritten_count}
@@ -24,9 +24,9 @@ word_fault shape address misaligned outside =
 
 -- the answer of an outcome
 abbrev pub answer_of : Outcome → Stepped
-answer_of (Goes list) = answers.Went
-answer_of Calls = answers.Call
-answer_of (Faults fault) = answers.Faulted fault
+answer_of (Went list) = answers.Went
+answer_of Call = answers.Call
+answer_of (Faulted fault) = answers.Faulted fault
 
 -- the face after these places are read and an outcome's cells are put
 abbrev pub face_after_outcome : Face → List ℕ → Outcome → Face

@@ -1,11 +1,11 @@
 -- What a step answers, and what it leaves.
 use Rattle.std.specs.Prelude.{◌≡◌, ◌≢◌, ℕ, ◌+◌, ◌-◌, ◌≤◌, ◌<◌}
+use Rattle.asc_model.specs.declared.limits.TheConstants.{STEP_ROOM}
 use Rattle.asc_model.specs.State.{State}
 use Rattle.asc_model.specs.Machine.{view_of}
 use Rattle.asc_model.specs.Plain.{plain}
 use Rattle.asc_model.specs.Places.{places_read, writes}
 use Rattle.asc_model.specs.Step.{Next, Went, Call, Faulted, next}
-use Rattle.asc_model.specs.Reach.{step_room}
 use Rattle.asc_shape.specs.Face.{Face, face_after_reads, face_after_puts, room_of}
 use Rattle.asc_step.specs.declared.stepped.Stepped.{Stepped}
 use Rattle.asc_step.specs.declared.stepped.Stepped.TheVariants as answers
@@ -33,7 +33,7 @@ pub record Attempts (f g : Face) (answered : Stepped) : Type 0 where
   -- the places read, in order, and then the places written
   pub places : g ≡ face_after f
   -- room for at most 32 places is used
-  pub room : room_of f.marks ≤ room_of g.marks + step_room
+  pub room : room_of f.marks ≤ room_of g.marks + STEP_ROOM
 
 -- how many steps an answer counts
 abbrev pub counted_steps : Stepped → ℕ

@@ -83,9 +83,9 @@ pub(crate) enum Effect {
         value: u32,
     },
     /// The environment is called.
-    Call,
+    GuestCall,
     /// The program breaks.
-    Break,
+    Breakpoint,
 }
 
 /// What an operation computes with.
@@ -196,8 +196,8 @@ pub(crate) fn effect_of(op: Op, operands: Operands) -> Effect
         Op::Or => Effect::Set(a | b),
         Op::And => Effect::Set(a & b),
         Op::Fence | Op::FenceI => Effect::Set(0),
-        Op::Ecall => Effect::Call,
-        Op::Ebreak => Effect::Break,
+        Op::Ecall => Effect::GuestCall,
+        Op::Ebreak => Effect::Breakpoint,
         Op::Mul => Effect::Set(a.wrapping_mul(b)),
         Op::Mulh => Effect::Set(high_product_signed(a, b)),
         Op::Mulhsu => Effect::Set(high_product_mixed(a, b)),

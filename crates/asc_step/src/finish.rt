@@ -60,8 +60,8 @@ pub(crate) fn finish<B: Words, const SETTLED: bool>(
             address,
             value,
         } => modify::<B, SETTLED>(bytes, shape, pc, rd, amo, address, value),
-        Effect::Call => Stepped::Call,
-        Effect::Break => fault(FaultKind::Break, pc, 0),
+        Effect::GuestCall => Stepped::Call,
+        Effect::Breakpoint => fault(FaultKind::Break, pc, 0),
     }
 }
 

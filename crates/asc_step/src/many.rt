@@ -7,7 +7,8 @@ ghost use Rattle.asc_step.specs.Step.{Climbs, Lowers, PassesBy, stepped_of};
 
 use crate::Stepped;
 use crate::stepping::step_of;
-use asc_shape::{State, Steps};
+use asc_outside::Steps;
+use asc_shape::State;
 use std::sync::ledger::Ledger;
 
 /// The loop of `step_many`.

@@ -6,7 +6,6 @@ ghost use Rattle.std.specs.Prelude.{◌≡◌, ◌≤◌, Some};
 ghost use Rattle.asc_model.specs.Machine.{view_of};
 ghost use Rattle.asc_model.specs.Instruction.{op_of};
 ghost use Rattle.asc_model.specs.Places.{operand_places};
-ghost use Rattle.asc_model.specs.Reach.{step_room};
 ghost use Rattle.asc_model.specs.Step.{effect_of, outcome_of_word};
 ghost use Rattle.asc_isa.specs.Decode.{HasRegisters};
 ghost use Rattle.asc_shape.specs.Face.{room_of};
@@ -19,7 +18,7 @@ use crate::faults::{fault, word_fault};
 use crate::places::read_word;
 use crate::version::has_atomics;
 use asc_isa::{decode, operation};
-use asc_model::{FaultKind, Instr, Op};
+use asc_model::{FaultKind, Instr, Op, STEP_ROOM};
 use asc_shape::{Shape, Words};
 
 /// A match with an arm for each of these operations, all of which do the same.
@@ -41,7 +40,7 @@ macro_rules! each_operation {
 #[inline]
 pub(crate) fn step_specialized<B: Words, K>(bytes: &mut B, shape: Shape) -> Stepped
     requires shape { shape ≡ (B.face bytes.old).state.shape }
-    requires room { step_room ≤ room_of (B.face bytes.old).marks }
+    requires room { STEP_ROOM ≤ room_of (B.face bytes.old).marks }
     ensures { Attempts (B.face bytes.old) (B.face bytes.new) result }
 {
     // That its state is one, and its marks fit it.

@@ -4,7 +4,6 @@ ghost use Rattle.asc_model.specs.declared.instruction.Instr.{Instr};
 ghost use Rattle.asc_model.specs.Instruction.{decode};
 ghost use Rattle.asc_model.specs.Machine.{view_of};
 ghost use Rattle.asc_model.specs.Places.{operand_places};
-ghost use Rattle.asc_model.specs.Reach.{step_room};
 ghost use Rattle.asc_model.specs.Step.{fetch, outcome_of_word};
 ghost use Rattle.asc_shape.specs.Face.{room_of};
 ghost use Rattle.asc_step.specs.Execute.{AtInstruction, RunsSettled, answer_of, face_after_outcome};
@@ -18,8 +17,9 @@ use crate::places::read_word;
 use crate::specialized::{execute_likely, step_specialized};
 use crate::version::has_atomics;
 use asc_isa::{decode, decode_likely};
-use asc_model::FaultKind;
-use asc_shape::{Shape, Steps, Words};
+use asc_model::{FaultKind, STEP_ROOM};
+use asc_outside::Steps;
+use asc_shape::{Shape, Words};
 use std::sync::ledger::Ledger;
 
 /// Takes one step, where the program goes on: the instruction at the pc is fetched, decoded and carried out.
@@ -27,7 +27,7 @@ use std::sync::ledger::Ledger;
 /// All that the step reads is read before anything is put. A step that calls or faults puts nothing.
 #[inline(always)]
 pub fn try_step<B: Words>(bytes: &mut B) -> Stepped
-    requires room { step_room ≤ room_of (B.face bytes.old).marks }
+    requires room { STEP_ROOM ≤ room_of (B.face bytes.old).marks }
     ensures { Attempts (B.face bytes.old) (B.face bytes.new) result }
 {
     let shape = bytes.shape();
@@ -52,7 +52,7 @@ pub fn try_step<B: Words>(bytes: &mut B) -> Stepped
 #[inline(always)]
 pub fn step_settled<B: Words, K>(bytes: &mut B, shape: Shape, rare: &mut Stepped) -> bool
     requires shape { shape ≡ (B.face bytes.old).state.shape }
-    requires room { step_room ≤ room_of (B.face bytes.old).marks }
+    requires room { STEP_ROOM ≤ room_of (B.face bytes.old).marks }
     ensures went { result ≡ true → Attempts (B.face bytes.old) (B.face bytes.new) Went }
     ensures stays { result ≡ false → B.face bytes.new ≡ B.face bytes.old }
 {
@@ -77,7 +77,7 @@ pub fn step_settled<B: Words, K>(bytes: &mut B, shape: Shape, rare: &mut Stepped
 /// came to is put into `rare`. It is long, and for a function that stands out of its caller's loop.
 #[inline(always)]
 pub fn step_anew<B: Words>(bytes: &mut B, rare: &mut Stepped)
-    requires room { step_room ≤ room_of (B.face bytes.old).marks }
+    requires room { STEP_ROOM ≤ room_of (B.face bytes.old).marks }
     ensures { Attempts (B.face bytes.old) (B.face bytes.new) rare.new }
 {
     let shape = bytes.shape();
@@ -162,7 +162,7 @@ pub(crate) fn step_of<B: Words, L: Ledger, K>(
     steps: &mut Steps<L>,
 ) -> Stepped
     requires shape { shape ≡ (B.face bytes.old).state.shape }
-    requires room { step_room ≤ room_of (B.face bytes.old).marks }
+    requires room { STEP_ROOM ≤ room_of (B.face bytes.old).marks }
     ensures step { Attempts (B.face bytes.old) (B.face bytes.new) result }
     ensures counter { steps.new ≡ steps.old + counted_steps result }
 {
@@ -176,7 +176,7 @@ pub(crate) fn step_of<B: Words, L: Ledger, K>(
 /// Takes one step as `try_step` does, and counts it where the program went on.
 #[inline]
 pub fn step<B: Words, L: Ledger>(bytes: &mut B, steps: &mut Steps<L>) -> Stepped
-    requires room { step_room ≤ room_of (B.face bytes.old).marks }
+    requires room { STEP_ROOM ≤ room_of (B.face bytes.old).marks }
     ensures step { Attempts (B.face bytes.old) (B.face bytes.new) result }
     ensures counter { steps.new ≡ steps.old + counted_steps result }
 {

@@ -5,8 +5,6 @@ mod sink;
 mod source;
 mod steady;
 mod store;
-#[cfg(test)]
-mod tests;
 
 pub use sink::StreamSink;
 pub use source::StreamSource;

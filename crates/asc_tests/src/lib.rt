@@ -19,6 +19,8 @@ mod programs;
 #[cfg(test)]
 mod saved_entries;
 #[cfg(test)]
+mod shows;
+#[cfg(test)]
 mod single_steps;
 #[cfg(test)]
 mod sought;

@@ -2,8 +2,7 @@
 ghost use Rattle.std.specs.Prelude.{◌≡◌, ◌<◌};
 
 use asc_calls::Devices;
-use asc_outside::{Gate, ListSink, ListSource, ListStore, Open};
-use asc_shape::Steps;
+use asc_outside::{Gate, ListSink, ListSource, ListStore, Open, Steps};
 use asc_top::top;
 use asc_words::Answer;
 use std::alloc::{AllocError, Global};

@@ -59,24 +59,16 @@ fn until_end(at: Point, ticket: u64) -> Hold {
     }
 }
 
-/// A worker is held up where it has traced a job, until another has taken job 3.
-fn traced_until_all(ticket: u64) -> Hold {
-    Hold {
-        at: Point::Traced,
-        ticket,
-        until: Point::Taken,
-        other: 3,
-    }
-}
-
-/// The walk is held up at its third visit until a job is done.
-fn third_visit_until(job: u64) -> Hold {
-    Hold {
-        at: Point::Visit,
-        ticket: 3,
-        until: Point::Done,
-        other: job,
-    }
+/// What comes to a point with a ticket is held up until another point has come with another ticket.
+macro_rules! hold {
+    ($at:ident $ticket:literal until $until:ident $other:literal) => {
+        Hold {
+            at: Point::$at,
+            ticket: $ticket,
+            until: Point::$until,
+            other: $other,
+        }
+    };
 }
 
 /// The numbers of a report, in its order.
@@ -137,65 +129,64 @@ fn check_counts<R: Abort>(rt: &R, held: &Held<'_>, report: &str) {
     );
 }
 
+static HELD_RUNS: [Held<'static>; 4] = [
+    // A worker is held up where it has taken job 0 until job 1 is done, and the walk's end until both are done.
+    Held {
+        line: TWO,
+        holds: &[
+            hold!(Taken 0 until Done 1),
+            hold!(Ended 0 until Done 0),
+            hold!(Ended 0 until Done 1),
+        ],
+        asked: 4,
+        made: 4,
+        least: 2,
+        begins: "asc: executed ",
+        ends: "\n",
+    },
+    // The walk is held up at its third visit until the jobs 0 and 1 are done.
+    Held {
+        line: TWO,
+        holds: &[hold!(Visit 3 until Done 0), hold!(Visit 3 until Done 1)],
+        asked: 4,
+        made: 4,
+        least: 2,
+        begins: "asc: executed 7 skipped 6 asked 4 hits 2 made 4 refused 0\n",
+        ends: "\n",
+    },
+    // The same, and a jump goes from the third visit to the end.
+    Held {
+        line: JOINED,
+        holds: &[hold!(Visit 3 until Done 0), hold!(Visit 3 until Done 1)],
+        asked: 3,
+        made: 3,
+        least: 2,
+        begins: "asc: executed 7 skipped 6 asked 3 hits 1 made 3 refused 0\n",
+        ends: "\n",
+    },
+    // Workers are held up where they have traced a job until job 3 is taken, and the walk's end until all are done.
+    Held {
+        line: FOUR,
+        holds: &[
+            hold!(Traced 0 until Taken 3),
+            hold!(Traced 1 until Taken 3),
+            hold!(Traced 2 until Taken 3),
+            hold!(Ended 0 until Done 0),
+            hold!(Ended 0 until Done 1),
+            hold!(Ended 0 until Done 2),
+            hold!(Ended 0 until Done 3),
+        ],
+        asked: 4,
+        made: 4,
+        least: 4,
+        begins: "asc: executed ",
+        ends: "asc: ran 4 left 0 stored 4 known 0 empty 0 dropped 0 stopped 0 full 0\n",
+    },
+];
+
 #[test]
 fn held_workers(rt: HostRuntime) -> Result<(), Fail> {
-    let rows = [
-        Held {
-            line: TWO,
-            holds: &[
-                Hold {
-                    at: Point::Taken,
-                    ticket: 0,
-                    until: Point::Done,
-                    other: 1,
-                },
-                end_until(0),
-                end_until(1),
-            ],
-            asked: 4,
-            made: 4,
-            least: 2,
-            begins: "asc: executed ",
-            ends: "\n",
-        },
-        Held {
-            line: TWO,
-            holds: &[third_visit_until(0), third_visit_until(1)],
-            asked: 4,
-            made: 4,
-            least: 2,
-            begins: "asc: executed 7 skipped 6 asked 4 hits 2 made 4 refused 0\n",
-            ends: "\n",
-        },
-        // A jump goes from the third visit to the end.
-        Held {
-            line: JOINED,
-            holds: &[third_visit_until(0), third_visit_until(1)],
-            asked: 3,
-            made: 3,
-            least: 2,
-            begins: "asc: executed 7 skipped 6 asked 3 hits 1 made 3 refused 0\n",
-            ends: "\n",
-        },
-        Held {
-            line: FOUR,
-            holds: &[
-                traced_until_all(0),
-                traced_until_all(1),
-                traced_until_all(2),
-                end_until(0),
-                end_until(1),
-                end_until(2),
-                end_until(3),
-            ],
-            asked: 4,
-            made: 4,
-            least: 4,
-            begins: "asc: executed ",
-            ends: "asc: ran 4 left 0 stored 4 known 0 empty 0 dropped 0 stopped 0 full 0\n",
-        },
-    ];
-    for held in &rows {
+    for held in &HELD_RUNS {
         count_held(&rt, rt.alloc(), held)?;
     }
     Ok(())

@@ -1,10 +1,10 @@
 -- What a walk without workers did, as a line asks.
 use Rattle.std.proofs.Common.{◌≡◌, ◌&&◌, ◌||◌, true, false, Some, None, List, [], sym, ap, subst}
 use Rattle.std.specs.Option.{is_some}
+use Rattle.asc_model.specs.declared.limits.TheConstants.{MOST_ENTRIES}
 use Rattle.asc_model.specs.Entry.{Entry}
 use Rattle.asc_calls.specs.World.{Outside}
 use Rattle.asc_shard.specs.Content.{content_of}
-use Rattle.asc_shard.specs.Shard.{run_capacity}
 use Rattle.asc_find.specs.Finder.{Aid}
 use Rattle.asc_run.specs.SerialRun.{IsSerialRun, serial_of}
 use Rattle.asc_run.specs.Visits.{visit_rule}
@@ -27,7 +27,7 @@ module _ (line : RunLine) (files : Files) (was : Walk) (entries : List Entry) (o
   -- with a helper that gives no jump
   pub ran_idle : keeps_entries line ≡ false → last.jumps.hits ≡ 0 → last.jumps.given ≡ 0 → last.plan.made ≡ 0 → Ran old new line files conclusion
   ran_idle none no_hit no_step no_guess =
-      let empty : content_of run_capacity [] ≡ content_of run_capacity entries = ap (content_of run_capacity) (sym (opened.none (unloaded line none))) in
+      let empty : content_of MOST_ENTRIES [] ≡ content_of MOST_ENTRIES entries = ap (content_of MOST_ENTRIES) (sym (opened.none (unloaded line none))) in
       ran line files was entries opened now old new first last None conclusion w fresh (no_workers-told line _ alone)
       (λ _ same asked left count says refused. subst
       (λ (content : List Entry). IsSerialRun line.limit (visit_rule (recognised_by line) (course_of_image opened.own.image left)) (course_of_image opened.own.image left) opened.own.image.start.shape (guessing_of line) content
@@ -36,9 +36,9 @@ module _ (line : RunLine) (files : Files) (was : Walk) (entries : List Entry) (o
       (λ _ _ _. plain_of_none line opened.own.image (settings_of line).recognised line.report was now opened.own.walk_is old new first last None conclusion w fresh no_step)
 
   -- with the machine of a serial run
-  pub ran_serial : keeps_entries line ≡ true → first.machine ≡ Some (serial_of opened.own.image.start.shape (guessing_of line) (content_of run_capacity entries)) → Ran old new line files conclusion
+  pub ran_serial : keeps_entries line ≡ true → first.machine ≡ Some (serial_of opened.own.image.start.shape (guessing_of line) (content_of MOST_ENTRIES entries)) → Ran old new line files conclusion
   ran_serial keeps machine =
       ran line files was entries opened now old new first last None conclusion w fresh (no_workers-told line _ alone)
       (λ _ same asked left count says refused.
-      (serial_of_machine line opened.own.image (settings_of line).recognised line.report was now opened.own.walk_is old new first last None conclusion w fresh (content_of run_capacity entries) machine same left count says refused).run)
+      (serial_of_machine line opened.own.image (settings_of line).recognised line.report was now opened.own.walk_is old new first last None conclusion w fresh (content_of MOST_ENTRIES entries) machine same left count says refused).run)
       (λ _ unnamed unasked. let none = keeps_none line unnamed unasked in absurd (cc (keeps, none)))

@@ -30,7 +30,7 @@ use Rattle.asc_top.specs.Program.{IsStopped, answer_at, image_alone, load_of, ru
 use Rattle.asc_top.specs.Numbers.{AreCountsOf, WorkersAreTold, counts_of, course_of_image, guessing_of, has_workers, keeps_entries, numbers_of, recognised_by, settings_of}
 use Rattle.asc_top.specs.Endings.{device_of_answer}
 use Rattle.asc_top.specs.Ran.{IsNew, Walked}
-use Rattle.asc_top.specs.Batch.{AreRunCounts, IsRunTold, answer_of}
+use Rattle.asc_top.specs.Batch.{AreBatchCounts, IsRunTold, answer_of}
 use Rattle.asc_top.specs.Runner.{IsHelpOf, IsSerialFrom, Keeps, MakesRun, Serves, StopsRun}
 use Rattle.asc_top.specs.declared.runner.Runner.{Runner}
 use Rattle.asc_top.specs.declared.runner.Runner.TheVariants.{Plain, Alone, Beside}
@@ -127,7 +127,7 @@ module _ (line : RunLine) (image : loader.Image) (input : List ℕ) (was now : W
   abbrev pub IsPlain : Type 0
   IsPlain = line.workers ≡ 0 → line.report ≡ false → now.jumps.given ≡ 0
 
-  told_counts : (m : IsMade) → IsPlain → (report : Bool) → line.report ≡ report → AreRunCounts line image input told.run.executed (if report then Some told else None)
+  told_counts : (m : IsMade) → IsPlain → (report : Bool) → line.report ≡ report → AreBatchCounts line image input told.run.executed (if report then Some told else None)
   told_counts m plain true asked = (refl, counts_so m asked)
   told_counts m plain false unasked = λ alone.
       let count_is : (run_of_image line image input).count ≡ now.count = ap (λ (x : Run). x.count) m.run_is in
@@ -150,7 +150,7 @@ module _ (line : RunLine) (image : loader.Image) (input : List ℕ) (was now : W
         end_is = answers ∙ answer_is ∙ (λ i. answer_at (sym m.run_is i).ended (sym m.run_is i).count);
         most = omega (arith, w.executed, count_is);
         asked = subst (λ (c : Option Counts). IsSome c ↔ IsTrue line.report) (sym numbers) (told_asked line.report refl);
-        counts = subst (λ (c : Option Counts). AreRunCounts line image input told.run.executed c) (sym numbers) (told_counts m plain line.report refl);
+        counts = subst (λ (c : Option Counts). AreBatchCounts line image input told.run.executed c) (sym numbers) (told_counts m plain line.report refl);
         workers = subst (λ (c : Option Counts). WorkersAreTold line c run.workers) (sym counts_is) (subst (λ x. WorkersAreTold line conclusion.counts x) (sym workers_is) workers);
       }
 

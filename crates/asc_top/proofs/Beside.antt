@@ -3,7 +3,7 @@ use Rattle.std.proofs.Common.{ℕ, ◌≡◌, ◌∙◌, ◌+◌, ◌<◌, Optio
 use Rattle.asc_model.specs.Entry.{Entry}
 use Rattle.asc_calls.specs.World.{Outside}
 use Rattle.asc_model.specs.declared.run_counts.RunCounts.{RunCounts}
-use Rattle.asc_run.specs.Seen.{guesses_until}
+use Rattle.asc_run.specs.Guessed.{guesses_until}
 use Rattle.asc_run.specs.Walk.{Walk}
 use Rattle.asc_live.specs.Crew.{WentBeside}
 use Rattle.asc_live.specs.declared.crew.Worked.{Worked}

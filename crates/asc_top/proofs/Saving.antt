@@ -41,7 +41,7 @@ saves-long line content o long =
     (gives_refusal answers.TooLong o)
 
 -- no more steps were executed than the run has
-most_executed : (line : RunLine) (image : loader.Image) (before after : ℕ) (l : RunsToSave line image before after) → l.run.numbers.executed ≤ (run_of_image line image []).count
+most_executed : (line : RunLine) (image : loader.Image) (before after : ℕ) (l : RunsToSave line image before after) → l.run.numbers.run.executed ≤ (run_of_image line image []).count
 unfolding exec
 most_executed line image before after l = omega (arith, l.run.serial.executed)
 

@@ -1,6 +1,7 @@
 -- The numbers of a walk with a new helper are those of its visits, and of a serial run.
 use Rattle.std.proofs.Common.{◌≡◌, ◌∙◌, ℕ, ◌+◌, ◌*◌, ◌≤◌, ◌&&◌, ◌||◌, Bool, true, false, Option, Some, None, List, [], refl, sym, ap, subst, arith}
 use Rattle.std.specs.Option.{is_some}
+use Rattle.asc_model.specs.declared.limits.TheConstants.{MOST_GUESSES}
 use Rattle.asc_model.specs.Entry.{Entry}
 use Rattle.asc_elf.specs.Image as loader
 use Rattle.asc_calls.specs.World.{Outside}
@@ -79,8 +80,8 @@ module _ (line : RunLine) (image : loader.Image) (recognised : Recognised) (is_a
       → AreOfVisits line.limit (visit_rule (recognised_by line) (course_of_image image left)) (course_of_image image left) told
   seen same left has = record { visits = goes.visits; are = visited_by_line same left has.are; jumps = counted }
 
-  -- at most 128 guesses were made at each of them
-  pub few : told.made ≤ 128 * told.run.asked
+  -- at most MOST_GUESSES guesses were made at each of them
+  pub few : told.made ≤ MOST_GUESSES * told.run.asked
   few =
       let g = goes in
       let all = visits-asked g.visits now.jumps first.jumps last.jumps g.helped.jumps w.raised in

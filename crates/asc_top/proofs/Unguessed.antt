@@ -3,9 +3,10 @@ use Rattle.std.proofs.Common.{◌≡◌, ◌∙◌, ℕ, ◌+◌, ◌-◌, ◌&&
 use Rattle.std.specs.Prelude.{fold}
 use Rattle.std.specs.List.{flat_map}
 use Rattle.asc_model.specs.State.{State}
+use Rattle.asc_guess.specs.Guess.{Task}
 use Rattle.asc_find.specs.declared.guessing.Guessing.{Guessing}
 use Rattle.asc_find.specs.Finder.{Jumps, hits_of}
-use Rattle.asc_find.specs.Serial.{Serial, serial_reply, Task, add_guess, after_tasks, kinds_of, made_at, tasks_of, visited}
+use Rattle.asc_find.specs.Serial.{Serial, serial_reply, add_guess, after_tasks, kinds_of, made_at, tasks_of, visited}
 use Rattle.asc_guess.specs.Choice.{chosen_address}
 use Rattle.asc_run.specs.declared.walk.Ended.{Ended}
 use Rattle.asc_run.specs.declared.recognised.Recognised.{Recognised}

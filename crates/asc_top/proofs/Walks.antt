@@ -2,6 +2,7 @@
 use Rattle.std.proofs.Common.{◌≡◌, ◌∙◌, ◌||◌, ℕ, ◌+◌, ◌≤◌, Bool, true, false, Option, Some, None, List, [], ◌++◌, IsTrue, MatchBool, Result, Ok, refl, sym, ap, subst, arith, append_assoc}
 use Rattle.std.specs.Prelude.{if◌then◌else◌}
 use Rattle.std.specs.Option.{is_some}
+use Rattle.asc_model.specs.declared.limits.TheConstants.{MOST_ENTRIES}
 use Rattle.asc_model.specs.Shape.{IsShape}
 use Rattle.asc_model.specs.Entry.{Entry}
 use Rattle.asc_outside.specs.Outside.{IsAtEnd}
@@ -9,7 +10,6 @@ use Rattle.asc_elf.specs.Image as loader
 use Rattle.asc_calls.specs.GuestCall.{Device}
 use Rattle.asc_calls.specs.World.{BlamesOnly, Outside, World, Agrees, MayCome, KnowsEnd}
 use Rattle.asc_shard.specs.Content.{content_of}
-use Rattle.asc_shard.specs.Shard.{run_capacity}
 use Rattle.asc_run.specs.declared.recognised.Recognised.{Recognised}
 use Rattle.asc_run.specs.declared.recognised.Recognised.TheVariants.{Nowhere}
 use Rattle.asc_run.specs.Execution.{Run, device_of}
@@ -87,7 +87,7 @@ module _ (line : RunLine) (files : Files) (was : Walk) (entries : List Entry) (o
   abbrev pub AreSerial : Type 0
   AreSerial = line.workers ≡ 0 → recognised ≡ recognised_by line → line.report ≡ true → (left : List ℕ) → (run_of_image line image left).count ≡ now.count
       → SaysVisits left → last.plan.refused ≡ 0
-      → IsSerialRun line.limit (visit_rule (recognised_by line) (course_of_image image left)) (course_of_image image left) image.start.shape (guessing_of line) (content_of run_capacity entries) (numbers_of told)
+      → IsSerialRun line.limit (visit_rule (recognised_by line) (course_of_image image left)) (course_of_image image left) image.start.shape (guessing_of line) (content_of MOST_ENTRIES entries) (numbers_of told)
 
   -- where they are not, and there are neither workers nor saved entries, it was run plainly
   abbrev pub IsPlain : Type 0

@@ -99,9 +99,9 @@ answer_of (run_ends.Fault fault) steps = answers.Fault fault steps
 
 -- These are the numbers of a run that executed so many steps. Where none are told and there are no workers, it was run
 -- plainly.
-abbrev pub AreRunCounts : RunLine → loader.Image → (input : List ℕ) → (executed : ℕ) → Option Counts → Type 0
-AreRunCounts line image input executed None = line.workers ≡ 0 → executed ≡ (run_of_image line image input).count
-AreRunCounts line image input executed (Some counts) =
+abbrev pub AreBatchCounts : RunLine → loader.Image → (input : List ℕ) → (executed : ℕ) → Option Counts → Type 0
+AreBatchCounts line image input executed None = line.workers ≡ 0 → executed ≡ (run_of_image line image input).count
+AreBatchCounts line image input executed (Some counts) =
     (counts.run.executed ≡ executed) × AreCountsOf line image input counts
 
 -- This is told of the run of an image over an input, which has this number in its batch and executed so many steps.
@@ -115,7 +115,7 @@ pub record IsRunTold (line : RunLine) (image : loader.Image) (number : ℕ) (inp
   pub most : executed ≤ (run_of_image line image input).count
   -- its own numbers are told where they are asked for, and those of its workers beside them
   pub asked : IsSome run.counts ↔ IsTrue line.report
-  pub counts : AreRunCounts line image input executed run.counts
+  pub counts : AreBatchCounts line image input executed run.counts
   pub workers : WorkersAreTold line run.counts run.workers
 
 -- this is told of the runs over inputs, one after the other, from a number on; in all they executed so many steps

@@ -1,6 +1,7 @@
 -- The numbers of a run, and what a trial tells of its own.
 use Rattle.std.specs.Prelude.{◌≡◌, ℕ, zero, suc, Bool, MatchBool, true, false, ◌+◌, ◌*◌, ◌<◌, ◌≤◌, ◌&&◌, ◌||◌, nat_lt, List, [], length, Option, Some, None, Result, Ok, Err, if◌then◌else◌}
 use Rattle.std.specs.Option.{is_some}
+use Rattle.asc_model.specs.declared.limits.TheConstants.{MOST_ENTRIES, MOST_GUESSES}
 use Rattle.asc_model.specs.Entry.{Entry}
 use Rattle.asc_model.specs.EntryFile.{entry_file}
 use Rattle.asc_elf.specs.declared.fault.ElfFault.{ElfFault}
@@ -10,7 +11,6 @@ use Rattle.asc_calls.specs.World.{Outside, Agrees}
 use Rattle.asc_make.specs.File.{image_of}
 use Rattle.asc_find.specs.declared.guessing.Guessing.{Guessing}
 use Rattle.asc_shard.specs.Content.{content_of}
-use Rattle.asc_shard.specs.Shard.{run_capacity}
 use Rattle.asc_model.specs.declared.run_counts.RunCounts.{RunCounts}
 use Rattle.asc_run.specs.declared.walk.Ended.{Ended}
 use Rattle.asc_run.specs.declared.walk.Ended.TheVariants as ends
@@ -20,7 +20,7 @@ use Rattle.asc_run.specs.declared.recognised.Recognised.TheVariants.{At, Chosen,
 use Rattle.asc_run.specs.Execution.{progress, first_position}
 use Rattle.asc_run.specs.Visits.{AreVisits, Course, VisitRule, Visit, visit_rule, jumps_of}
 use Rattle.asc_run.specs.SerialRun.{Numbers, IsSerialRun}
-use Rattle.asc_run.specs.Seen.{guesses_until}
+use Rattle.asc_run.specs.Guessed.{guesses_until}
 use Rattle.asc_run.specs.Walk.{jumps}
 use Rattle.asc_words.specs.declared.line.RunLine.{RunLine}
 use Rattle.asc_words.specs.declared.line.Line.{Line}
@@ -119,13 +119,7 @@ course_of_image image left = progress image.low (loader.high_of image) (first_po
 
 -- the numbers without that of refusals
 abbrev pub numbers_of : Counts → Numbers
-numbers_of counts = record {
-  executed = counts.run.executed;
-  skipped = counts.run.skipped;
-  asked = counts.run.asked;
-  hits = counts.run.hits;
-  made = counts.made;
-}
+numbers_of counts = record { run = counts.run; made = counts.made }
 
 -- These are how many visits a run has up to its limit, how many steps their jumps gave, and how many jumps there were. The
 -- visits are those that the replies leave.
@@ -146,8 +140,8 @@ pub record AreCountsOf (line : RunLine) (image : loader.Image) (left : List ℕ)
   -- they are those of its visits
   pub visits : AreOfVisits line.limit (visit_rule (recognised_by line) (course_of_image image left))
       (course_of_image image left) counts
-  -- with memory or without, at most 128 guesses were made at each visit
-  pub few : counts.made ≤ 128 * counts.run.asked
+  -- with memory or without, at most MOST_GUESSES guesses were made at each visit
+  pub few : counts.made ≤ MOST_GUESSES * counts.run.asked
 
 -- these are the numbers of a run of an image over an input, which has these entries at first, the oldest before the others
 pub record AreNumbersOf (line : RunLine) (image : loader.Image) (entries : List Entry) (left : List ℕ) (counts : Counts)
@@ -157,7 +151,7 @@ pub record AreNumbersOf (line : RunLine) (image : loader.Image) (entries : List 
   -- its definition
   pub serial : line.workers ≡ 0 → counts.refused ≡ 0
       → IsSerialRun line.limit (visit_rule (recognised_by line) (course_of_image image left)) (course_of_image image left)
-      image.start.shape (guessing_of line) (content_of run_capacity entries) (numbers_of counts)
+      image.start.shape (guessing_of line) (content_of MOST_ENTRIES entries) (numbers_of counts)
 
 -- these are the numbers of a loaded file, where it is an image
 abbrev pub AreNumbers : RunLine → (saved : Option (List ℕ)) → Result loader.Image ElfFault → (left : List ℕ) → Counts
@@ -178,13 +172,13 @@ AreTold line saved load left executed count (Some counts) =
 -- job that was run ended in one of five ways. Where memory was never wanting, each guess that was due was made, or found
 -- no room, or was not offered once the queue had been filled up.
 -- A guess counts as full only once as many were made as the queue holds. With memory or without, those made and those
--- full are at most 128 at each visit.
+-- full are at most MOST_GUESSES at each visit.
 pub record AreWorkerNumbers (guessing : Guessing) (queue : ℕ) (counts : Counts) (workers : WorkerCounts) : Type 0 where
   pub made : counts.made ≡ workers.tally.ran + workers.left
   pub ran : workers.tally.ran ≡ workers.tally.stored + workers.tally.known + workers.tally.empty + workers.tally.dropped + workers.tally.stopped
   pub guesses : counts.refused ≡ 0 → counts.made + workers.full ≡ guesses_until guessing counts.run.asked
   pub room : 0 < workers.full → queue ≤ counts.made
-  pub few : counts.made + workers.full ≤ 128 * counts.run.asked
+  pub few : counts.made + workers.full ≤ MOST_GUESSES * counts.run.asked
 
 -- they are told beside the numbers of a run that has workers
 abbrev pub WorkersAreTold : RunLine → Option Counts → Option WorkerCounts → Type 0
@@ -227,7 +221,7 @@ save_result line image run = record {
 -- an image's run was made, and the file of its entries was put to out, however the guest ended
 pub record SavesImage (line : RunLine) (image : loader.Image) (old new : Outside) (answered : Answer) : Type 0 where
   pub run : SaveRun line image
-  pub gives : Gives old new run.numbers.executed answered (save_result line image run)
+  pub gives : Gives old new run.numbers.run.executed answered (save_result line image run)
 
 -- what a save of a loaded file did
 abbrev pub SavesLoaded : RunLine → Result loader.Image ElfFault → (old new : Outside) → Answer → Type 0
@@ -246,7 +240,7 @@ pub record SavesPart (line : RunLine) (content : List ℕ) (old new : Outside) :
   pub image : loader.Image
   pub loads : load_of line content ≡ Ok image
   pub run : SaveRun line image
-  pub gives : GivesPart old new run.numbers.executed (save_result line image run)
+  pub gives : GivesPart old new run.numbers.run.executed (save_result line image run)
 
 -- ---- trials
 

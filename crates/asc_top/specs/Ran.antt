@@ -1,5 +1,6 @@
 -- What the functions of this crate promise that run a program.
 use Rattle.std.specs.Prelude.{◌≡◌, ◌≢◌, ◌⊎◌, ◌↔◌, ℕ, Bool, IsTrue, ◌+◌, ◌<◌, ◌≤◌, List, [], length, Option, Some, None, Ok, Err, IsSome, IfSome}
+use Rattle.asc_model.specs.declared.limits.TheConstants.{MOST_ENTRIES, MOST_WORKERS}
 use Rattle.asc_model.specs.Shape.{Shape, IsShape}
 use Rattle.asc_model.specs.Entry.{Entry}
 use Rattle.asc_outside.specs.Outside.{File, AsksFor, Blames, MayHold}
@@ -9,7 +10,6 @@ use Rattle.asc_calls.specs.GuestCall.{Device}
 use Rattle.asc_calls.specs.World.{Outside, BlamesOnly}
 use Rattle.asc_find.specs.declared.guessing.Guessing.{Guessing}
 use Rattle.asc_shard.specs.Content.{content_of}
-use Rattle.asc_shard.specs.Shard.{run_capacity}
 use Rattle.asc_run.specs.declared.walk.Ended.{Ended}
 use Rattle.asc_model.specs.declared.run_counts.RunCounts.{RunCounts}
 use Rattle.asc_run.specs.declared.walk.Settings.{Settings}
@@ -117,14 +117,14 @@ pub record Opens (line : RunLine) (walk : Walk) (entries : List Entry)
 
 -- Threads run the guesses of a run: those of workers beside it, or those of lanes in rounds, and not both.
 pub record IsThreaded (workers lanes : ℕ) : Type 0 where
-  pub few : lanes ≤ 64
+  pub few : lanes ≤ MOST_WORKERS
   pub one : 0 < lanes → workers ≡ 0
   pub some : lanes ≡ 0 → 0 < workers
 
 -- a helper that was not visited yet, to which these entries were added
 abbrev pub loaded_helper : Shape → Guessing → (entries : List Entry) → SerialHelper
 loaded_helper shape guessing entries =
-    record (first_helper shape guessing) { machine = serial_of shape guessing (content_of run_capacity entries) }
+    record (first_helper shape guessing) { machine = serial_of shape guessing (content_of MOST_ENTRIES entries) }
 
 -- a helper that has done nothing
 pub record IsNew (first : Aid) : Type 0 where

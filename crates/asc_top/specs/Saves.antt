@@ -12,7 +12,7 @@ use Rattle.asc_top.specs.Answered.{RisesWithin}
 -- a save's run of an image was made, and the counter rose by the steps that it executed
 pub record RunsToSave (line : RunLine) (image : loader.Image) (before after : ℕ) : Type 0 where
   pub run : SaveRun line image
-  pub steps : after ≡ before + run.numbers.executed
+  pub steps : after ≡ before + run.numbers.run.executed
 
 -- The file of the entries was put to a sink, or the sink failed, and once. Or memory was wanting, and nothing was put: then
 -- the counter rose by no more than the line's limit.

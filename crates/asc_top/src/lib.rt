@@ -3,7 +3,6 @@
 
 mod batch;
 mod batch_files;
-mod guest;
 mod make;
 mod numbers;
 mod opened;

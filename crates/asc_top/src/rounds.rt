@@ -4,7 +4,6 @@ ghost use Rattle.std.specs.Arc.{arc_value};
 ghost use Rattle.asc_calls.specs.World.{outside_of};
 ghost use Rattle.asc_run.specs.Helped.{HasRoom};
 ghost use Rattle.asc_run.specs.VisitedBy.{IsVisit, MayVisit};
-ghost use Rattle.asc_run.specs.declared.last_visits.TheConstants.{MOST_AHEAD};
 ghost use Rattle.asc_live.specs.Rounds.{told_by};
 ghost use Rattle.asc_words.specs.Line.{IsRunWithin};
 ghost use Rattle.asc_top.specs.Program.{Files};
@@ -15,9 +14,10 @@ use crate::settings::{guessing_of, keeps_entries};
 use asc_calls::Devices;
 use asc_find::Guessing;
 use asc_live::Rounds;
-use asc_outside::{Gate, Memory, Sink, Source};
+use asc_model::{MOST_AHEAD, MOST_WORKERS};
+use asc_outside::{Gate, Memory, Sink, Source, Steps};
 use asc_run::Walk;
-use asc_shape::{Shape, State, Steps};
+use asc_shape::{Shape, State};
 use asc_traj::Entry;
 use asc_words::{Answer, Conclusion, RunLine};
 use asc_work::Lanes;
@@ -25,9 +25,6 @@ use std::alloc::Global;
 use std::sync::ledger::Ledger;
 use std::sync::{Arc, Wait};
 use std::thread::Threads;
-
-/// The most lanes of a run in rounds.
-const MOST_LANES: usize = 64;
 
 /// Runs a walk that has not begun to its end, as a line asks: in rounds where there are lanes, and else with workers beside
 /// it. It has these entries before its first visit.
@@ -80,7 +77,7 @@ fn walk_in_rounds<T: Threads + Sync, G: Gate + Sync, I: Source, O: Sink, E: Sink
     requires line { IsRunWithin line.now }
     requires none { line.now.workers ≡ 0 }
     requires some { 1 ≤ lanes }
-    requires few { lanes ≤ 64 }
+    requires few { lanes ≤ MOST_WORKERS }
     ensures { (files : Files) → AreOpened line.now files walk.old (map arc_value first.now) → Ran
         (outside_of devices.old steps.old) (outside_of devices.new steps.new) line.now files result }
 {
@@ -133,11 +130,11 @@ fn go_in_rounds<T: Threads + Sync, G: Gate + Sync, I: Source, O: Sink, E: Sink, 
 /// are 64 at most.
 fn lanes_beside(workers: usize) -> usize
     requires some { 1 ≤ workers }
-    requires few { workers ≤ 64 }
-    ensures one { workers < 64 → result ≡ workers + 1 }
-    ensures most { workers ≡ 64 → result ≡ 64 }
+    requires few { workers ≤ MOST_WORKERS }
+    ensures one { workers < MOST_WORKERS → result ≡ workers + 1 }
+    ensures most { workers ≡ MOST_WORKERS → result ≡ MOST_WORKERS }
 {
-    (workers + 1).min(MOST_LANES)
+    (workers + 1).min(MOST_WORKERS)
 }
 
 /// A helper in rounds that was not visited yet. It has these entries, and so many lanes.
@@ -152,7 +149,7 @@ fn rounds_with(
     requires span { 1 ≤ guessing.span }
     requires ahead { guessing.ahead ≤ MOST_AHEAD }
     requires some { 1 ≤ lanes }
-    requires few { lanes ≤ 64 }
+    requires few { lanes ≤ MOST_WORKERS }
     ensures helper { IfOk result (λ rounds. rounds.helper ≡ loaded_helper shape guessing (map arc_value first.now)) }
     ensures lanes { IfOk result (λ rounds. rounds.lanes.lanes ≡ lanes) }
 {

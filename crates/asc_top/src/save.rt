@@ -8,15 +8,14 @@ ghost use Rattle.asc_top.specs.Ran.{IsWalkOf};
 ghost use Rattle.asc_top.specs.Saves.{EndsSave};
 ghost use Rattle.asc_top.specs.Answered.{IsAnswerFor, around};
 
-use crate::guest::no_devices;
 use crate::opened::walk_in;
 use crate::run::run_with;
 use crate::settings::{guessing_of, visited_settings};
+use asc_calls::no_devices;
 use asc_find::Helper;
-use asc_outside::{Failed, Sink, Store};
+use asc_outside::{Failed, Sink, Steps, Store};
 use asc_run::{Serial, Walk};
 use asc_save::write;
-use asc_shape::Steps;
 use asc_words::{Answer, Conclusion, Line, RunLine};
 use std::alloc::Global;
 use std::sync::ledger::Ledger;

@@ -8,12 +8,11 @@ ghost use Rattle.asc_top.specs.Ran.{IsThreaded};
 ghost use Rattle.asc_top.specs.Answered.{IsAnswerFor, around};
 ghost use Rattle.asc_top.specs.Reported.{EndsTrial, IsPut};
 
-use crate::guest::no_devices;
 use crate::run::{run_file_alone, run_file_beside};
+use asc_calls::no_devices;
 use asc_make::image;
-use asc_model::Version;
-use asc_outside::{Failed, Gate, Sink, put_all};
-use asc_shape::Steps;
+use asc_model::{MOST_WORKERS, Version};
+use asc_outside::{Failed, Gate, Sink, Steps, put_all};
 use asc_words::{Answer, Conclusion, Counts, FileName, Line, RunLine, TrialRun, trial_text};
 use std::alloc::Global;
 use std::sync::Wait;
@@ -64,7 +63,7 @@ pub(crate) fn trial_beside<
     steps: &mut Steps<L>,
 ) -> Conclusion
     requires threads { IsThreaded workers lanes }
-    requires few { workers ≤ 64 }
+    requires few { workers ≤ MOST_WORKERS }
     ensures { (files : Option (List File)) (asked : Option (List (List ℕ))) (store_faults : ℕ)
         (left : Option (List ℕ)) (err : Given) (input_faults err_faults : ℕ)
         → IsAnswerFor (Ok (Line.Trial n workers lanes))

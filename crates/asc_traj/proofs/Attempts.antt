@@ -3,12 +3,13 @@ use Rattle.std.proofs.Common.{◌≡◌, ℕ, ◌-◌, ◌≤◌, Bool, true, fa
 use Rattle.std.proofs.lemmas.Bool.{false≢true}
 use Rattle.std.proofs.lemmas.List.{length-take}
 use Rattle.std.proofs.lemmas.Bool.Decides.{nat_tests}
+use Rattle.asc_model.specs.declared.limits.TheConstants.{STEP_ROOM}
 use Rattle.asc_model.specs.declared.status.Status.{Status}
 use Rattle.asc_model.specs.declared.why.Why.{Why}
 use Rattle.asc_model.specs.State.{State, IsState}
 use Rattle.asc_model.specs.Step.{Next, Went, Call, Faulted, next}
 use Rattle.asc_model.specs.Places.{places_read, writes}
-use Rattle.asc_model.specs.Reach.{step_room, why_no_step}
+use Rattle.asc_model.specs.Reach.{why_no_step}
 use Rattle.asc_model.proofs.LawsHold.{step_writes_bytes}
 use Rattle.asc_model.proofs.Shapes.{is_same_shape-same}
 use Rattle.asc_shape.specs.Face.{Face, Marks, Untold, Told, room_of, face_after_reads, face_after_puts}
@@ -30,7 +31,7 @@ same_tracing a b shape cap face =
     λ i. record { shape = shape i; cap = cap i; state = (face i).state; statuses = statuses i; touched = touched i }
 
 -- an attempt keeps shape and cap
-pub limits-step : (t later : Tracing) → step_room ≤ room_of (face_of t).marks → face_of later ≡ face_after (face_of t) → (later.shape ≡ t.shape) × (later.cap ≡ t.cap)
+pub limits-step : (t later : Tracing) → STEP_ROOM ≤ room_of (face_of t).marks → face_of later ≡ face_after (face_of t) → (later.shape ≡ t.shape) × (later.cap ≡ t.cap)
 limits-step t later room face = limits_stay t later (places_read t.state) (writes t.state) (omega (arith, room)) face
 
 none_touched : (f : Face) → face_after_puts (face_after_reads f []) [] ≡ f
@@ -38,7 +39,7 @@ unfolding face_after_puts face_after_reads
 none_touched f = refl
 
 -- a tracer of which code sees the same is the same
-pub unchanged : (t later : Tracing) → step_room ≤ room_of (face_of t).marks → face_of later ≡ face_of t → later ≡ t
+pub unchanged : (t later : Tracing) → STEP_ROOM ≤ room_of (face_of t).marks → face_of later ≡ face_of t → later ≡ t
 unchanged t later room face = grind (arith, nat_tests, limits_stay, none_touched, same_tracing)
 
 no_puts : (f : Face) (cells : List (ℕ × ℕ)) → cells ≡ [] → face_after_puts f cells ≡ f

@@ -3,11 +3,12 @@ use Rattle.std.proofs.Common.{◌≡◌, ℕ, zero, suc, ◌+◌, ◌<◌, ◌�
 use Rattle.std.proofs.lemmas.Bool.{ltb-false}
 use Rattle.std.specs.Option.{is_none, option_or}
 use Rattle.std.proofs.lemmas.Bool.Decides.{nat_tests}
+use Rattle.asc_model.specs.declared.limits.TheConstants.{STEP_ROOM}
 use Rattle.asc_model.specs.declared.why.Why.{Why}
 use Rattle.asc_model.specs.State.{State}
 use Rattle.asc_model.specs.Step.{Next, Went, Call, Faulted, next}
 use Rattle.asc_model.specs.Entry.{Entry, entry_of}
-use Rattle.asc_model.specs.Reach.{Bounds, why_after, why_no_step, touched_in, step_room, reach_from, reach_of}
+use Rattle.asc_model.specs.Reach.{Bounds, why_after, why_no_step, touched_in, reach_from, reach_of}
 use Rattle.asc_model.proofs.PlainSteps.{plain-zero}
 use Rattle.asc_model.proofs.Computing.{reaches_are_computed}
 use Rattle.asc_shape.specs.Face.{room_of}
@@ -73,15 +74,15 @@ start-is {t} has = grind (arith, nat_tests, plain-zero)
 
 -- one that was stopped at its start has room for a step
 room-at_start : (bounds : Bounds) (guess : State) (t : Tracing) (why : Why) (before now : ℕ) → HasTraced bounds guess 0 why before now t → IsTracing t → is_stopped why ≡ true
-    → step_room ≤ room_of (face_of t).marks
+    → STEP_ROOM ≤ room_of (face_of t).marks
 room-at_start bounds guess t why before now has is stopped =
     let size = ap (λ (s : State). length s.bytes) (has.start ∙ sym (start-is has)) in
     let touched : length t.touched ≡ touched_in 0 guess = length-touched 0 (origin_of t) t has.stands.touched has.stands.statuses size ∙ ap (touched_in 0) has.start in
-    let some = ltb-false bounds.cap (touched_in 0 guess + step_room) (unmet _ _ _ (has.stopped stopped).unmet).1 in
+    let some = ltb-false bounds.cap (touched_in 0 guess + STEP_ROOM) (unmet _ _ _ (has.stopped stopped).unmet).1 in
     omega (arith, touched, some, has.cap, room-told t is)
 
 pub room-for_one : {bounds : Bounds} {guess : State} {n : ℕ} {why : Why} {before now : ℕ} {t : Tracing} → HasTraced bounds guess n why before now t → IsTracing t → n ≡ 0 → is_stopped why ≡ true
-    → step_room ≤ room_of (face_of t).marks
+    → STEP_ROOM ≤ room_of (face_of t).marks
 room-for_one {bounds} {guess} {n} {why} {before} {now} {t} has is none stopped =
     room-at_start bounds guess t why before now (subst (λ k. HasTraced bounds guess k why before now t) none has) is stopped
 

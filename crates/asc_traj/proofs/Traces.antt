@@ -9,6 +9,7 @@ use Rattle.std.proofs.lemmas.List.{map-id}
 use Rattle.std.proofs.lemmas.List.FromFn.{sum_by-map-range_with_len_more}
 use Rattle.std.proofs.lemmas.Option.{same_Some}
 use Rattle.std.proofs.Math.Nat.{mod-eq_of_lt}
+use Rattle.asc_model.specs.declared.limits.TheConstants.{STEP_ROOM}
 use Rattle.asc_model.specs.declared.why.Why.{Why}
 use Rattle.asc_model.specs.declared.why.Why.TheVariants as whys
 use Rattle.asc_model.specs.Shape.{length_of}
@@ -17,7 +18,7 @@ use Rattle.asc_model.specs.Machine.{view_of}
 use Rattle.asc_model.specs.Step.{Next, Went, Call, Faulted, next}
 use Rattle.asc_model.specs.Places.{places_read, writes, bytes_after}
 use Rattle.asc_model.specs.Plain.{plain}
-use Rattle.asc_model.specs.Reach.{Bounds, leads_to, laps_in, touched_in, step_room, bound_met, why_no_step, why_after, GoesOn, IsReach}
+use Rattle.asc_model.specs.Reach.{Bounds, leads_to, laps_in, touched_in, bound_met, why_no_step, why_after, GoesOn, IsReach}
 use Rattle.asc_model.proofs.LawsHold.{step_writes_bytes}
 use Rattle.asc_model.proofs.PlainSteps.{plain-zero, plain_steps_join, plain_steps_keep_states, plain-suc_next}
 use Rattle.asc_model.proofs.Touches.{state-TouchesPlaces}
@@ -81,7 +82,7 @@ room_left cap n h = grind (arith, nat_tests)
 
 -- what is left of a tracer's places is what its steps leave
 few_left : (bounds : Bounds) (start : State) (n laps : ℕ) (t : Tracing) → IsOnWay bounds start n laps t → IsTracing t
-    → FitPlaces (length t.state.bytes) (face_of t).marks → nat_lt (room_of (face_of t).marks) step_room ≡ nat_lt bounds.cap (touched_in n start + 32)
+    → FitPlaces (length t.state.bytes) (face_of t).marks → nat_lt (room_of (face_of t).marks) STEP_ROOM ≡ nat_lt bounds.cap (touched_in n start + 32)
 few_left bounds start n laps t on is fits =
     let kept = plain_steps_keep_states n start t.state on.good on.goes in
     let size : length start.bytes ≡ length t.state.bytes = on.good.length ∙ ap length_of (sym kept.1) ∙ sym kept.0.length in
@@ -107,7 +108,7 @@ turn {bounds} {start} {n} {counts} {t} way same tests few is fits =
 pub some_left : (left : ℕ) (t : Tracing) → met left t ≡ None → 0 < left
 some_left left t none = grind (arith, nat_tests)
 
-pub room_for_step : (left : ℕ) (t : Tracing) → met left t ≡ None → step_room ≤ room_of (face_of t).marks
+pub room_for_step : (left : ℕ) (t : Tracing) → met left t ≡ None → STEP_ROOM ≤ room_of (face_of t).marks
 room_for_step left t none = grind (arith, nat_tests)
 
 -- the first bound that is met is that of laps

@@ -1,11 +1,12 @@
 -- Words of private contracts.
 use Rattle.std.specs.Prelude.{◌≡◌, ℕ, ◌+◌, ◌-◌, ◌*◌, ◌%◌, ◌^◌, ◌≤◌, ◌==◌, nat_lt, if◌then◌else◌, Bool, true, false, List, ◌++◌, All, map, filter, flat_map, slice_index, vec_capacity, vec_len, Option, Some, None}
+use Rattle.asc_model.specs.declared.limits.TheConstants.{STEP_ROOM}
 use Rattle.asc_model.specs.declared.why.Why.{Why}
 use Rattle.asc_model.specs.declared.why.Why.TheVariants as whys
 use Rattle.asc_model.specs.declared.status.Status.{Status}
 use Rattle.asc_model.specs.declared.status.Status.TheVariants.{Untouched, Read, Written, ReadWritten}
 use Rattle.asc_model.specs.State.{State}
-use Rattle.asc_model.specs.Reach.{Bounds, IsReach, step_room}
+use Rattle.asc_model.specs.Reach.{Bounds, IsReach}
 use Rattle.asc_shape.specs.Face.{room_of, status_at}
 use Rattle.asc_depvec.specs.Tracer.{Tracing, face_of}
 use Rattle.asc_model.specs.Places.{places_from}
@@ -34,13 +35,13 @@ pub record HasTraced (bounds : Bounds) (guess : State) (n : ℕ) (why : Why) (be
 -- the bound of steps or places that is met first where so many steps are left
 abbrev pub met : (left : ℕ) → Tracing → Option Why
 met left t = if left == 0 then Some whys.Span
-    else (if nat_lt (room_of (face_of t).marks) step_room then Some whys.Room else None)
+    else (if nat_lt (room_of (face_of t).marks) STEP_ROOM then Some whys.Room else None)
 
 -- After so many steps of a span, so many are sure: there is room for those that are not yet taken.
 pub record AreSure (all steps sure free : ℕ) : Type 0 where
   pub least : steps ≤ sure
   pub most : sure ≤ all
-  pub room : step_room * (sure - steps) ≤ free
+  pub room : STEP_ROOM * (sure - steps) ≤ free
 
 -- a count of laps, once a state is counted that stands at the pc of laps or does not
 abbrev pub counted : (laps : ℕ) → Bool → ℕ

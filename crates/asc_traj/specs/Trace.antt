@@ -1,5 +1,6 @@
 -- What a trace leaves.
 use Rattle.std.specs.Prelude.{◌≡◌, ℕ, zero, suc, ◌+◌, Bool, true, false, length, Option, Some, None}
+use Rattle.asc_model.specs.declared.limits.TheConstants.{MOST_PLACES}
 use Rattle.asc_model.specs.declared.why.Why.{Why}
 use Rattle.asc_model.specs.declared.why.Why.TheVariants.{Lap, Span, Room, Stopped, Call, Fault}
 use Rattle.asc_model.specs.State.{State}
@@ -55,13 +56,9 @@ pub record StandsFor (n : ℕ) (t : Tracing) : Type 0 where
   pub statuses : HasStatusesOf n (origin_of t) t
   pub touched : FitPlaces (length t.state.bytes) (face_of t).marks
 
--- how many places the trace of a guess may touch
-abbrev pub trace_cap : ℕ
-trace_cap = 4096
-
 -- the bounds of the trace of a guess: it ends after so many laps at a pc, or so many steps
 abbrev pub guess_bounds : (pc laps span : ℕ) → Bounds
-guess_bounds pc laps span = record { pc = pc; laps = laps; span = span; cap = trace_cap }
+guess_bounds pc laps span = record { pc = pc; laps = laps; span = span; cap = MOST_PLACES }
 
 -- the bounds of a trace by a tracer that may touch so many places
 abbrev pub bounds_of : Stop → ℕ → Bounds

@@ -7,13 +7,8 @@ ghost use Rattle.asc_traj.specs.Joining.{HasHalves, HasTaken, Rises, byte_of, fi
 use crate::Entry;
 use crate::entry::Halves;
 use crate::part::{Part, kept, push};
+use asc_model::{MOST_ENTRY_STEPS, MOST_PLACES};
 use std::alloc::{AllocError, Global};
-
-/// How many steps a joined entry may have.
-const MOST_STEPS: u64 = 1_000_000_000;
-
-/// How many cells two entries that are joined may have together.
-const MOST_JOINED: usize = 4096;
 
 /// One past the greatest number of a word.
 const PAST: u32 = 1 << 28;
@@ -33,10 +28,10 @@ pub(crate) fn can_join(a: &Entry, b: &Entry) -> bool
     ensures { result ≡ can_join a.now b.now }
 {
     let steps = a.steps().saturating_add(b.steps());
-    if a.shape() != b.shape() || steps > MOST_STEPS || !reads_agree(a, b) {
+    if a.shape() != b.shape() || steps > MOST_ENTRY_STEPS || !reads_agree(a, b) {
         return false;
     }
-    cell_count(a) + cell_count(b) <= MOST_JOINED
+    cell_count(a) + cell_count(b) <= MOST_PLACES
 }
 
 /// Whether the second of two entries reads each byte as it is known after the first.

@@ -1,8 +1,6 @@
 //! Traces of steps, and what is kept of them: entries, which hold from every state that they match.
 #![tactic(auto)]
 
-#[cfg(test)]
-mod beside;
 mod cells;
 mod entry;
 mod halt;
@@ -10,8 +8,6 @@ mod join;
 mod longest;
 mod made;
 mod part;
-#[cfg(test)]
-mod tests;
 mod tracing;
 
 pub use cells::{Cell, cells_of, next_cell};
@@ -20,4 +16,4 @@ pub use halt::{Halt, Never};
 pub use longest::{is_longer, jump_by, jump_longest, longest_match};
 pub use made::Made;
 pub use part::{Part, has_parts};
-pub use tracing::{Stop, TRACE_CAP, Traced, trace};
+pub use tracing::{Stop, Traced, trace};

@@ -1,6 +1,6 @@
 ghost use Rattle.std.specs.Prelude.{◌≡◌, ◌≤◌, ◌&&◌, true, if◌then◌else◌};
 ghost use Rattle.std.specs.Option.{is_none};
-ghost use Rattle.asc_model.specs.Reach.{reach_of, step_room, why_no_step};
+ghost use Rattle.asc_model.specs.Reach.{reach_of, why_no_step};
 ghost use Rattle.asc_model.specs.Step.{next};
 ghost use Rattle.asc_shape.specs.Face.{room_of};
 ghost use Rattle.asc_depvec.specs.Tracer.{IsTracing, face_of};
@@ -12,7 +12,7 @@ ghost use Rattle.asc_traj.specs.Trace.{bounds_of, is_stopped};
 use crate::tracing::{attempt_anew, known};
 use crate::{Entry, Halt, Stop, Traced, trace};
 use asc_depvec::Tracer;
-use asc_model::Why;
+use asc_model::{STEP_ROOM, Why};
 use asc_shape::Guess;
 use std::alloc::Global;
 use std::sync::Arc;
@@ -85,7 +85,7 @@ fn trace_guess<H: Halt>(tracer: &mut Tracer, guess: Guess, stop: &Stop, halt: &m
 /// What becomes of a guess of which no step was traced. Where its halt said to stop, one step is tried, which tells whether
 /// there is a next one.
 fn unstarted(tracer: &mut Tracer, why: Why) -> Made
-    requires { is_stopped why ≡ true → step_room ≤ room_of (face_of tracer.old).marks }
+    requires { is_stopped why ≡ true → STEP_ROOM ≤ room_of (face_of tracer.old).marks }
     ensures made { result ≡ (if is_stopped why && is_none (why_no_step (next tracer.old.state)) then made.Stopped else made.Empty) }
     ensures tracer { IsTracing tracer.new }
     ensures shape { tracer.new.shape ≡ tracer.old.shape }
@@ -104,7 +104,7 @@ fn unstarted(tracer: &mut Tracer, why: Why) -> Made
 
 /// Whether a tracer's state has a next step. It tries one.
 fn goes_on(tracer: &mut Tracer) -> bool
-    requires { step_room ≤ room_of (face_of tracer.old).marks }
+    requires { STEP_ROOM ≤ room_of (face_of tracer.old).marks }
     ensures goes { result ≡ is_none (why_no_step (next tracer.old.state)) }
     ensures tracer { IsTracing tracer.new }
     ensures shape { tracer.new.shape ≡ tracer.old.shape }

@@ -1,7 +1,7 @@
 ghost use Rattle.std.specs.Prelude.{◌≡◌, ℕ, ◌≤◌, ◌+◌, ◌-◌, ◌^◌, ◌<◌, true, false, [], length, Some, None, ◌==◌, if◌then◌else◌};
 ghost use Rattle.asc_model.specs.Machine.{view_of};
 ghost use Rattle.asc_model.specs.Step.{next};
-ghost use Rattle.asc_model.specs.Reach.{IsReach, step_room, why_no_step};
+ghost use Rattle.asc_model.specs.Reach.{IsReach, why_no_step};
 ghost use Rattle.asc_step.specs.Step.{face_after};
 ghost use Rattle.asc_depvec.specs.Tracer.{IsTracing, face_of};
 ghost use Rattle.asc_model.specs.State.{IsState};
@@ -10,13 +10,10 @@ ghost use Rattle.asc_traj.specs.Trace.{Asked, CountsAnswer, MayStop, StandsFor, 
 ghost use Rattle.asc_traj.specs.Inside.{AreSure, counted, met, why_of};
 
 use crate::Halt;
-use asc_depvec::{LEAST_CAP, Tracer};
-use asc_model::Why;
+use asc_depvec::Tracer;
+use asc_model::{STEP_ROOM, Why};
 use asc_shape::{Bytes, Shape};
 use asc_step::{Stepped, step_anew, step_settled};
-
-/// How many places the trace of a guess may touch.
-pub const TRACE_CAP: usize = 4096;
 
 /// Where a trace is to end.
 #[derive(Clone, Copy, Debug, PartialEq, Eq)]
@@ -165,7 +162,7 @@ fn look_ahead(tracer: &Tracer, stop: &Stop, steps: u64, sure: &mut u64, why: &mu
             false
         }
         None => {
-            *sure = steps + left.min((tracer.room() / LEAST_CAP) as u64);
+            *sure = steps + left.min((tracer.room() / STEP_ROOM) as u64);
             true
         }
     }
@@ -179,7 +176,7 @@ fn bound_met(tracer: &Tracer, left: u64) -> Option<Why>
 {
     if left == 0 {
         Some(Why::Span)
-    } else if tracer.room() < LEAST_CAP {
+    } else if tracer.room() < STEP_ROOM {
         Some(Why::Room)
     } else {
         None
@@ -192,7 +189,7 @@ fn bound_met(tracer: &Tracer, left: u64) -> Option<Why>
 #[inline]
 fn attempt<H: Halt>(tracer: &mut Tracer, shape: Shape, rare: &mut Stepped, why: &mut Why) -> bool
     requires own { shape ≡ tracer.old.state.shape }
-    requires room { step_room ≤ room_of (face_of tracer.old).marks }
+    requires room { STEP_ROOM ≤ room_of (face_of tracer.old).marks }
     ensures ends { (if result then None else Some why.new) ≡ why_no_step (next tracer.old.state) }
     ensures goes { result ≡ true → face_of tracer.new ≡ face_after (face_of tracer.old) }
     ensures back { result ≡ false → tracer.new ≡ tracer.old }
@@ -207,7 +204,7 @@ fn attempt<H: Halt>(tracer: &mut Tracer, shape: Shape, rare: &mut Stepped, why: 
 #[cold]
 #[inline(never)]
 pub(crate) fn attempt_anew(tracer: &mut Tracer, why: &mut Why) -> bool
-    requires room { step_room ≤ room_of (face_of tracer.old).marks }
+    requires room { STEP_ROOM ≤ room_of (face_of tracer.old).marks }
     ensures ends { (if result then None else Some why.new) ≡ why_no_step (next tracer.old.state) }
     ensures goes { result ≡ true → face_of tracer.new ≡ face_after (face_of tracer.old) }
     ensures back { result ≡ false → tracer.new ≡ tracer.old }

@@ -1,14 +1,14 @@
 ghost use Rattle.std.specs.Prelude.{◌≡◌, ◌+◌, ◌<◌, ◌≤◌};
 
-use asc_calls::Devices;
+use asc_calls::no_devices;
 use asc_depvec::Tracer;
 use asc_elf::{Image, read};
 use asc_find::Guessing;
 use asc_live::{Crew, OpenCrew, Worked, go_beside};
-use asc_model::{RunCounts, Version};
-use asc_outside::{CountSink, Gate, Hold, HoldGate, Memory, Open, Point, SureSource};
-use asc_run::{Ended, MOST_STEPS, Recognised, Settings, Walk};
-use asc_shape::{Guess, Snapshot, State, Steps};
+use asc_model::{MOST_STEPS, RunCounts, Version};
+use asc_outside::{Gate, Hold, HoldGate, Memory, Open, Point, Steps};
+use asc_run::{Ended, Recognised, Settings, Walk};
+use asc_shape::{Guess, Snapshot, State};
 use asc_traj::{Entry, Made, Never, Stop};
 use std::alloc::Global;
 use std::marker::Brand;
@@ -57,12 +57,6 @@ fn lap_from(alloc: Global, image: &Image<'_>, x5: u32) -> Result<Arc<Entry>, Mem
         Made::One(entry) => Ok(entry),
         Made::Empty | Made::Stopped | Made::Refused => Err(Memory),
     }
-}
-
-/// Devices with no input.
-fn no_devices(alloc: Global) -> Devices<SureSource, CountSink, CountSink> {
-    let input = SureSource::new(Vec::new(alloc));
-    Devices::new(input, CountSink::new(), CountSink::new())
 }
 
 /// How that program goes beside so many workers, where the laps from these x5 are known, and its numbers.

@@ -359,18 +359,23 @@ fn words_of(alloc: Global, text: &str) -> Result<Vec<String>, AllocError> {
     Ok(words)
 }
 
+// Which guesses a run makes, as a text.
+fn guesses_text(last: bool, stride: bool) -> &'static str {
+    match (last, stride) {
+        (false, false) => " none",
+        (true, false) => " last",
+        (false, true) => "",
+        (true, true) => " both",
+    }
+}
+
 // What a run is asked for, as a text.
 fn run_text(alloc: Global, line: &RunLine) -> Result<String, AllocError> {
     let image = line.image.as_str();
     let version = if line.version == Version::One { 1 } else { 2 };
     let (memory, limit) = (line.memory, line.limit);
     let mut meaning = format!(in alloc; "{image} {memory} {limit} {version}")?;
-    meaning.push_str(match (line.last, line.stride) {
-        (false, false) => " none",
-        (true, false) => " last",
-        (false, true) => "",
-        (true, true) => " both",
-    })?;
+    meaning.push_str(guesses_text(line.last, line.stride))?;
     if let Some(pc) = line.pc {
         meaning.push_str(format!(in alloc; " pc {pc}")?.as_str())?;
     }

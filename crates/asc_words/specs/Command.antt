@@ -4,6 +4,7 @@ use Rattle.clap.specs.Walk.{Rule, Text}
 use Rattle.clap.specs.Simple.{App, Shape, new_rule, new_shape}
 use Rattle.clap.specs.declared.builder.action.ArgAction.TheVariants.{Append, SetTrue}
 use Rattle.clap.specs.declared.builder.value_parser.ValueParser.TheVariants as parsers
+use Rattle.asc_model.specs.declared.limits.TheConstants.{MOST_AHEAD, MOST_ENTRY_STEPS, MOST_WAITING, MOST_WORKERS}
 
 -- an argument without a name, which must be there
 abbrev pub required : Text → Rule
@@ -35,7 +36,7 @@ flag name = record (new_rule name) { long = Some name; action = Some SetTrue }
 
 -- how many workers a run has
 abbrev pub workers_option : Rule
-workers_option = number_option (codes "workers") 0 64 (codes "0")
+workers_option = number_option (codes "workers") 0 MOST_WORKERS (codes "0")
 
 -- whether they run the guesses of each visit in rounds
 abbrev pub rounds_flag : Rule
@@ -53,9 +54,9 @@ shared_arguments =
     ∷ number_option (codes "profile") 2 65536 (codes "4096")
     ∷ number_option (codes "min") 2 65536 (codes "4")
     ∷ number_option (codes "laps") 1 1000000 (codes "1")
-    ∷ number_option (codes "span") 1 1000000000 (codes "1000000")
-    ∷ number_option (codes "ahead") 1 64 (codes "4")
-    ∷ number_option (codes "queue") 1 1024 (codes "256")
+    ∷ number_option (codes "span") 1 MOST_ENTRY_STEPS (codes "1000000")
+    ∷ number_option (codes "ahead") 1 MOST_AHEAD (codes "4")
+    ∷ number_option (codes "queue") 1 MOST_WAITING (codes "256")
     ∷ flag (codes "join")
     ∷ flag (codes "seek")
     ∷ []

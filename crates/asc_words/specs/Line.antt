@@ -8,6 +8,8 @@ use Rattle.std.specs.Str.Parse.{digits_value, without_leading_plus}
 use Rattle.clap.specs.Walk.{Row, Text, all_of, first_of, one_of, is_empty}
 use Rattle.clap.specs.Simple.{subcommand_of}
 use Rattle.clap.specs.Faults.{fault_of}
+use Rattle.asc_words.specs.declared.line.TheConstants.{FILE_LIMIT}
+use Rattle.asc_model.specs.declared.limits.TheConstants.{MOST_AHEAD, MOST_ENTRY_STEPS, MOST_WAITING, MOST_WORKERS}
 use Rattle.asc_model.specs.declared.version.Version.{Version}
 use Rattle.asc_model.specs.declared.version.Version.TheVariants.{One, Two}
 use Rattle.asc_seek.specs.declared.seeker.Seeking.{Seeking}
@@ -22,7 +24,7 @@ use Rattle.asc_words.specs.Command.{asc_command}
 
 -- a file that is read has at most 64 MiB
 abbrev pub file_limit : ℕ
-file_limit = 67108864
+file_limit = FILE_LIMIT
 
 -- a batch has at most 64 inputs
 abbrev pub most_inputs : ℕ
@@ -193,12 +195,12 @@ pub record IsRunWithin (line : RunLine) : Type 0 where
   pub profile : IsBetween 2 65536 line.profile
   pub least : IsBetween 2 65536 line.least
   pub laps : IsBetween 1 1000000 line.laps
-  pub span : IsBetween 1 1000000000 line.span
-  pub ahead : IsBetween 1 64 line.ahead
-  pub workers : line.workers ≤ 64
-  pub lanes : line.lanes ≤ 64
+  pub span : IsBetween 1 MOST_ENTRY_STEPS line.span
+  pub ahead : IsBetween 1 MOST_AHEAD line.ahead
+  pub workers : line.workers ≤ MOST_WORKERS
+  pub lanes : line.lanes ≤ MOST_WORKERS
   pub rounds : 0 < line.lanes → line.workers ≡ 0
-  pub queue : IsBetween 1 1024 line.queue
+  pub queue : IsBetween 1 MOST_WAITING line.queue
 
 -- so are those of `asc save`, which has no workers, no lanes, no report and no saved entries
 pub record IsSaveWithin (line : RunLine) : Type 0 where
@@ -221,5 +223,5 @@ abbrev pub IsWithin : Line → Type 0
 IsWithin (Run line) = IsRunWithin line
 IsWithin (Save line) = IsSaveWithin line
 IsWithin (Make n) = n < 2 ^ 64
-IsWithin (Trial n workers lanes) = (n < 2 ^ 64) × (workers ≤ 64) × (lanes ≤ 64) × (0 < lanes → workers ≡ 0)
+IsWithin (Trial n workers lanes) = (n < 2 ^ 64) × (workers ≤ MOST_WORKERS) × (lanes ≤ MOST_WORKERS) × (0 < lanes → workers ≡ 0)
 IsWithin (Batch line) = IsBatchWithin line

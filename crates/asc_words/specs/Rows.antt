@@ -5,6 +5,7 @@ use Rattle.clap.specs.Values.{IsUnsignedIn}
 use Rattle.clap.specs.Walk.{Row, Text, first_of, one_of}
 use Rattle.clap.specs.declared.error.kind.ErrorKind.{ErrorKind}
 use Rattle.clap.specs.declared.error.kind.ErrorKind.TheVariants as kinds
+use Rattle.asc_model.specs.declared.limits.TheConstants.{MOST_AHEAD, MOST_ENTRY_STEPS, MOST_WAITING, MOST_WORKERS}
 use Rattle.asc_words.specs.declared.answer.Bad.TheVariants.{Words}
 use Rattle.asc_words.specs.declared.line.LineFault.{LineFault}
 use Rattle.asc_words.specs.declared.line.LineFault.TheVariants as faults
@@ -40,16 +41,16 @@ pub record HasShared (rows : List Row) : Type 0 where
   pub profile : HasNumber (codes "profile") 2 65536 rows
   pub least : HasNumber (codes "min") 2 65536 rows
   pub laps : HasNumber (codes "laps") 1 1000000 rows
-  pub span : HasNumber (codes "span") 1 1000000000 rows
-  pub ahead : HasNumber (codes "ahead") 1 64 rows
-  pub queue : HasNumber (codes "queue") 1 1024 rows
+  pub span : HasNumber (codes "span") 1 MOST_ENTRY_STEPS rows
+  pub ahead : HasNumber (codes "ahead") 1 MOST_AHEAD rows
+  pub queue : HasNumber (codes "queue") 1 MOST_WAITING rows
   pub join : HasFlag (codes "join") rows
   pub seek : HasFlag (codes "seek") rows
 
 -- what `asc run` takes has its values
 pub record IsRun (rows : List Row) : Type 0 where
   pub shared : HasShared rows
-  pub workers : HasNumber (codes "workers") 0 64 rows
+  pub workers : HasNumber (codes "workers") 0 MOST_WORKERS rows
   pub rounds : HasFlag (codes "rounds") rows
   pub report : HasFlag (codes "report") rows
 
@@ -64,12 +65,12 @@ pub record IsMake (rows : List Row) : Type 0 where
 -- what `asc trial` takes has its values
 pub record IsTrial (rows : List Row) : Type 0 where
   pub number : HasNumber (codes "number") 0 (2 ^ 64 - 1) rows
-  pub workers : HasNumber (codes "workers") 0 64 rows
+  pub workers : HasNumber (codes "workers") 0 MOST_WORKERS rows
   pub rounds : HasFlag (codes "rounds") rows
 
 -- what `asc batch` takes has its values
 pub record IsBatch (rows : List Row) : Type 0 where
   pub shared : HasShared rows
-  pub workers : HasNumber (codes "workers") 0 64 rows
+  pub workers : HasNumber (codes "workers") 0 MOST_WORKERS rows
   pub report : HasFlag (codes "report") rows
   pub inputs : HasText (codes "inputs") rows

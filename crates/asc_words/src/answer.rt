@@ -87,6 +87,7 @@ pub struct WorkerCounts {
 /// What the words of a command line come to: an answer, and the numbers of its run where they are reported.
 #[derive(Clone, Copy, Debug, PartialEq, Eq)]
 pub struct Conclusion {
+    /// How the program ends.
     pub answer: Answer,
     /// The numbers of the run.
     pub counts: Option<Counts>,

@@ -4,6 +4,7 @@ ghost use Rattle.clap.specs.Words.{app_of, rule_of};
 ghost use Rattle.asc_words.specs.Command.{asc_command, batch_command, flag, inputs_argument, number_argument, make_command, number_option, required, rounds_flag, run_command, save_command, shared_arguments, subcommand_with, text_option, text_with_default, trial_command, workers_option};
 ghost use Rattle.asc_words.specs.Subcommands.{IsSubcommand};
 
+use asc_model::{MOST_AHEAD, MOST_ENTRY_STEPS, MOST_WAITING, MOST_WORKERS};
 use clap::builder::ValueParser;
 use clap::{Arg, ArgAction, Command};
 use std::alloc::{AllocError, Global};
@@ -55,9 +56,9 @@ fn shared_command<'a>(alloc: Global, name: &'a str) -> Result<Command<'a>, Alloc
         .arg(number(alloc, "profile", 2, 65_536, "4096"))?
         .arg(number(alloc, "min", 2, 65_536, "4"))?
         .arg(number(alloc, "laps", 1, 1_000_000, "1"))?
-        .arg(number(alloc, "span", 1, 1_000_000_000, "1000000"))?
-        .arg(number(alloc, "ahead", 1, 64, "4"))?
-        .arg(number(alloc, "queue", 1, 1024, "256"))?
+        .arg(number(alloc, "span", 1, MOST_ENTRY_STEPS, "1000000"))?
+        .arg(number(alloc, "ahead", 1, MOST_AHEAD as u64, "4"))?
+        .arg(number(alloc, "queue", 1, MOST_WAITING as u64, "256"))?
         .arg(flag(alloc, "join"))?
         .arg(flag(alloc, "seek"))
 }
@@ -94,7 +95,7 @@ fn workers<'a>(alloc: Global) -> Arg<'a>
     ensures rule { rule_of result ≡ workers_option }
     ensures local { result.global ≡ false }
 {
-    number(alloc, "workers", 0, 64, "0")
+    number(alloc, "workers", 0, MOST_WORKERS as u64, "0")
 }
 
 /// Whether they run the guesses of each visit in rounds.

@@ -7,7 +7,7 @@ ghost use Rattle.asc_words.specs.Line.{IsRunWithin, IsWithin, address_of, batch_
 
 use crate::answer::Bad;
 use crate::command::asc_command;
-use asc_model::Version;
+use asc_model::{MOST_WORKERS, Version};
 use asc_seek::Seeking;
 use clap::ArgMatches;
 use clap::error::ErrorKind;
@@ -139,13 +139,16 @@ pub enum Line {
     Save(RunLine),
     /// `asc make`: the generated image of this number.
     Make {
+        /// The number.
         n: u64,
     },
-    /// `asc trial`: a run of the generated image of this number, with at most 64 workers beside it, or at most 64 in
-    /// rounds (`lanes`).
+    /// `asc trial`: a run of the generated image of this number.
     Trial {
+        /// The number.
         n: u64,
+        /// How many workers go beside the run, at most 64.
         workers: usize,
+        /// How many follow its guesses in rounds, at most 64: 0 where any go beside it.
         lanes: usize,
     },
     /// `asc batch`.
@@ -355,7 +358,7 @@ fn number(found: &ArgMatches<'_>, id: &str) -> u64
 
 /// How many workers go beside a run, and how many lanes run the guesses of each visit in rounds.
 fn workers_of(found: &ArgMatches<'_>) -> (usize, usize)
-    requires workers { HasNumber (codes "workers") 0 64 (rows_of (found_of found.now)) }
+    requires workers { HasNumber (codes "workers") 0 MOST_WORKERS (rows_of (found_of found.now)) }
     requires rounds { HasFlag (codes "rounds") (rows_of (found_of found.now)) }
     ensures { result ≡ (beside_in (rows_of (found_of found.now)), lanes_in (rows_of (found_of found.now))) }
 {

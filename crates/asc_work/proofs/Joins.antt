@@ -8,7 +8,7 @@ use Rattle.asc_outside.specs.Outside.{one_more}
 use Rattle.asc_shard.specs.Shard.{Shard}
 use Rattle.asc_shard.specs.declared.shard.Inserted.{Inserted}
 use Rattle.asc_shard.specs.declared.shard.Inserted.TheVariants as answers
-use Rattle.asc_shard.specs.Content.{outcome_of}
+use Rattle.asc_shard.specs.Content.{inserted_in}
 use Rattle.asc_cache.specs.Insert.{shard_after}
 use Rattle.asc_jobs.specs.declared.job.Job.{Job}
 use Rattle.asc_model.specs.declared.tally.Column.{Column}
@@ -51,7 +51,7 @@ as_before w x v e old new kept left_out h = record {
 
 -- an entry was stored, and then joined
 pub was_stored : {W H : Type 0} (w x v : Worker W H) (e : Entry) (answer : Inserted) (old between new : Shard)
-    → (answer ≡ outcome_of old.held e) × (between ≡ shard_after old e) → answer ≡ answers.Stored → w.join ≡ true → x.kept ≡ w.kept → x.left_out ≡ w.left_out
+    → (answer ≡ inserted_in old.held e) × (between ≡ shard_after old e) → answer ≡ answers.Stored → w.join ≡ true → x.kept ≡ w.kept → x.left_out ≡ w.left_out
     → HasJoined x v e between new → HasStored w v (Some e) old new
 was_stored w x v e answer old between new inserted stored joins kept left_out h = record {
   e = e;

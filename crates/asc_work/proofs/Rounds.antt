@@ -9,12 +9,14 @@ use Rattle.std.proofs.lemmas.List.{ext_get_or, get_or-append-add, get_or_append_
 use Rattle.std.proofs.lemmas.List.Elements.{All-push}
 use Rattle.std.proofs.lemmas.List.FromFn.{get_or-map-range_with_len, length-map-range_with_len}
 use Rattle.std.proofs.lemmas.Bool.{cases_lt, false≢true, le-ltb}
+use Rattle.asc_model.specs.declared.limits.TheConstants.{MOST_GUESSES}
 use Rattle.asc_model.specs.Shape.{Shape}
 use Rattle.asc_traj.specs.declared.made.Made.{Made}
+use Rattle.asc_guess.specs.Guess.{Task}
 use Rattle.asc_work.specs.declared.lane.Lane.{Lane}
 use Rattle.asc_work.specs.declared.lane.Round.{Round}
 use Rattle.asc_work.specs.Inside.{HasOwn}
-use Rattle.asc_work.specs.Lanes.{Lanes, AreShared, AreJobs, HasRunAll, HasRunFirst, HasRunOnly, IsDone, IsDoneAt, IsLane, Task, counts_of, dealt, lists_of, most_jobs}
+use Rattle.asc_work.specs.Lanes.{Lanes, AreShared, AreJobs, HasRunAll, HasRunFirst, HasRunOnly, IsDone, IsDoneAt, IsLane, ran_by, dealt, lists_of}
 use Rattle.asc_work.proofs.Posts.{written}
 
 -- ---- one lane
@@ -95,17 +97,17 @@ ceil_enough x n some = ⊎_elim
     (cases_lt (x % n) 1)
 
 -- a further lane
-pub lane_put : (shape : Shape) (lanes room counter : ℕ) (made more : List Lane) (lane : Lane) → 1 ≤ lanes → room ≡ div_ceil most_jobs lanes → more ≡ made ++ lane ∷ []
+pub lane_put : (shape : Shape) (lanes room counter : ℕ) (made more : List Lane) (lane : Lane) → 1 ≤ lanes → room ≡ div_ceil MOST_GUESSES lanes → more ≡ made ++ lane ∷ []
     → HasOwn shape lane.unfilled lane.tracer → room ≤ vec_capacity lane.results → lane.results.items ≡ []
-    → (length made ≡ counter) × All (IsLane shape lanes) made × (counts_of made ≡ replicate counter 0)
-    → (length more ≡ counter + 1) × All (IsLane shape lanes) more × (counts_of more ≡ replicate (counter + 1) 0)
+    → (length made ≡ counter) × All (IsLane shape lanes) made × (ran_by made ≡ replicate counter 0)
+    → (length more ≡ counter + 1) × All (IsLane shape lanes) more × (ran_by more ≡ replicate (counter + 1) 0)
 lane_put shape lanes room counter made more lane some is put own enough empty before =
     let all = mul-le-mul_right lanes enough in
-    let most : most_jobs ≤ room * lanes = subst (λ (n : ℕ). most_jobs ≤ n * lanes) (sym is) (ceil_enough most_jobs lanes some) in
+    let most : MOST_GUESSES ≤ room * lanes = subst (λ (n : ℕ). MOST_GUESSES ≤ n * lanes) (sym is) (ceil_enough MOST_GUESSES lanes some) in
     let fit : IsLane shape lanes lane = record { own = own; room = omega (arith, all, most) } in (
       ap (λ (l : List Lane). length l) put ∙ size_of_last made lane ∙ ap (λ (n : ℕ). n + 1) before.0,
       subst (All (IsLane shape lanes)) (sym put) (All-push (IsLane shape lanes) made lane before.1 fit),
-      ap (λ (l : List Lane). counts_of l) put ∙ map-append (λ (l : Lane). length l.results.items) made (lane ∷ [])
+      ap (λ (l : List Lane). ran_by l) put ∙ map-append (λ (l : Lane). length l.results.items) made (lane ∷ [])
           ∙ ap (λ (counts : List ℕ). counts ++ length lane.results.items ∷ []) before.2
           ∙ ap (λ (l : List (Option Made)). replicate counter 0 ++ length l ∷ []) empty ∙ replicate-append-replicate counter 1 0,
     )
@@ -228,14 +230,14 @@ round_run round n laps span now old new laps_is span_is same size count some lan
 -- the jobs were shared, told of the fields that were written as a slice
 pub round_shared : (round : Round) (n lanes : ℕ) (now old new : List Lane) → length old ≡ lanes → now ≡ old → length now ≡ n → length new ≡ length now
     → 1 ≤ length old → round.lanes ≡ n → ((k : ℕ) (d : Lane) → k < length now → HasRunOnly round k (get_or new k d))
-    → AreShared (counts_of (take n (new ++ drop (length new) old))) lanes (length round.jobs.now)
+    → AreShared (ran_by (take n (new ++ drop (length new) old))) lanes (length round.jobs.now)
 round_shared round n lanes now old new lanes_is same size count some round_lanes each k j within =
     let old_size : length now ≡ length old = ap (λ (l : List Lane). length l) same in
     let d = some_lane old some in
     let here : k < length new = omega (arith, within, lanes_is, old_size, count) in
-    let ran : get_or (counts_of new) k 0 ≡ length (get_or new k d).results.items = get_or-map (λ (lane : Lane). length lane.results.items) new k d 0 here in
-    let ran_is : get_or (counts_of (take n (new ++ drop (length new) old))) k 0 ≡ length (get_or new k d).results.items =
-    ap (λ (l : List Lane). get_or (counts_of l) k 0) (written n now old new same size count) ∙ ran in
+    let ran : get_or (ran_by new) k 0 ≡ length (get_or new k d).results.items = get_or-map (λ (lane : Lane). length lane.results.items) new k d 0 here in
+    let ran_is : get_or (ran_by (take n (new ++ drop (length new) old))) k 0 ≡ length (get_or new k d).results.items =
+    ap (λ (l : List Lane). get_or (ran_by l) k 0) (written n now old new same size count) ∙ ran in
     let number : round.lanes ≡ lanes = omega (arith, round_lanes, size, old_size, lanes_is) in
     let only = each k d (omega (arith, here, count)) j in
     subst (λ (r : ℕ). (j < r) ↔ (k + j * lanes < length round.jobs.now)) (sym ran_is)
@@ -272,15 +274,15 @@ abbrev fields : Shape → (laps span lanes : ℕ) → List (Option Made) → (ra
 fields shape laps span lanes results ran = record { shape = shape; laps = laps; span = span; lanes = lanes; results = results; ran = ran }
 
 -- how many jobs each lane ran stays where a result is taken
-counts_stay : (lanes : List Lane) (k : ℕ) (lane next : Lane) → lane ≡ get_or lanes k lane → length next.results.items ≡ length lane.results.items → counts_of (set lanes k next) ≡ counts_of lanes
+counts_stay : (lanes : List Lane) (k : ℕ) (lane next : Lane) → lane ≡ get_or lanes k lane → length next.results.items ≡ length lane.results.items → ran_by (set lanes k next) ≡ ran_by lanes
 counts_stay lanes k lane next is left =
     map-set_same (λ (l : Lane). length l.results.items) lanes k next lane (left ∙ ap (λ (l : Lane). length l.results.items) is)
 
 -- lanes after a result was taken
 pub taken : (t : Lanes) (shape : Shape) (laps span jobs i n : ℕ) (lanes : List Lane) (lane next : Lane)
-    → fields shape laps span (length lanes) (dealt (lists_of lanes) jobs) (counts_of lanes) ≡ t → 1 ≤ length lanes → n ≡ length lanes
+    → fields shape laps span (length lanes) (dealt (lists_of lanes) jobs) (ran_by lanes) ≡ t → 1 ≤ length lanes → n ≡ length lanes
     → lane ≡ get_or lanes (i % n) lane → next.results.items ≡ set lane.results.items (i / n) None
-    → fields shape laps span (length (set lanes (i % n) next)) (dealt (lists_of (set lanes (i % n) next)) jobs) (counts_of (set lanes (i % n) next))
+    → fields shape laps span (length (set lanes (i % n) next)) (dealt (lists_of (set lanes (i % n) next)) jobs) (ran_by (set lanes (i % n) next))
     ≡ fields t.shape t.laps t.span t.lanes (set t.results i None) t.ran
 taken t shape laps span jobs i n lanes lane next view some size is left =
     let all = size_of lanes ∙ sym size in
@@ -293,6 +295,6 @@ taken t shape laps span jobs i n lanes lane next view some size is left =
     ∙ dealt_set (lists_of lanes) jobs i next.results.items (omega (arith, some, size_of lanes))
     (put ∙ ap (λ (m : ℕ). set (get_or (lists_of lanes) (i % m) []) (i / m) None) (sym all)) in
     let counts = counts_stay lanes (i % n) lane next is (ap (λ (l : List (Option Made)). length l) left ∙ length-set lane.results.items (i / n) None) in
-    ap (λ (m : ℕ). fields shape laps span m (dealt (lists_of (set lanes (i % n) next)) jobs) (counts_of (set lanes (i % n) next))) (length-set lanes (i % n) next)
-    ∙ ap (λ (l : List (Option Made)). fields shape laps span (length lanes) l (counts_of (set lanes (i % n) next))) results
+    ap (λ (m : ℕ). fields shape laps span m (dealt (lists_of (set lanes (i % n) next)) jobs) (ran_by (set lanes (i % n) next))) (length-set lanes (i % n) next)
+    ∙ ap (λ (l : List (Option Made)). fields shape laps span (length lanes) l (ran_by (set lanes (i % n) next))) results
     ∙ ap (fields shape laps span (length lanes) (set (dealt (lists_of lanes) jobs) i None)) counts ∙ ap (λ (v : Lanes). fields v.shape v.laps v.span v.lanes (set v.results i None) v.ran) view

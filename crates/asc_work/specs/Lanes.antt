@@ -1,11 +1,12 @@
 -- Lanes, and what they make of the jobs of a visit.
 use Rattle.std.specs.Prelude.{◌≡◌, ◌≢◌, ◌↔◌, ℕ, ◌+◌, ◌*◌, ◌/◌, ◌%◌, ◌^◌, ◌<◌, ◌≤◌, List, [], Option, Some, None, map, length, slice_index_or, vec_capacity, All}
 use Rattle.std.specs.List.{range_with_len}
+use Rattle.asc_model.specs.declared.limits.TheConstants.{MOST_GUESSES, MOST_WORKERS}
 use Rattle.asc_model.specs.Shape.{Shape}
 use Rattle.asc_model.specs.State.{State}
 use Rattle.asc_model.specs.Machine.{view_of}
 use Rattle.asc_guess.specs.declared.kind.Kind.{Kind}
-use Rattle.asc_guess.specs.Guess.{guess_of}
+use Rattle.asc_guess.specs.Guess.{guess_of, Task}
 use Rattle.asc_traj.specs.declared.made.Made.{Made}
 use Rattle.asc_traj.specs.declared.made.Made.TheVariants.{Refused}
 use Rattle.asc_traj.specs.Made.{IsMade}
@@ -24,14 +25,6 @@ pub record Lanes : Type 0 where
   pub lanes : ℕ
   pub results : List (Option Made)
   pub ran : List ℕ
-
--- a guess of a visit: its kind, and how many visits after the last one
-abbrev pub Task : Type 0
-Task = Kind × ℕ
-
--- at most how many jobs a round has
-abbrev pub most_jobs : ℕ
-most_jobs = 128
 
 -- The result of a job is there. It is what becomes of its guess, traced up to the pc of the last state, or memory was
 -- wanting.
@@ -57,24 +50,24 @@ abbrev pub lists_of : List Lane → List (List (Option Made))
 lists_of lanes = map (λ lane. lane.results.items) lanes
 
 -- how many jobs each lane ran: it has a result of each, or none where that was taken
-abbrev pub counts_of : List Lane → List ℕ
-counts_of lanes = map (λ lane. length lane.results.items) lanes
+abbrev pub ran_by : List Lane → List ℕ
+ran_by lanes = map (λ lane. length lane.results.items) lanes
 
 -- one of so many lanes for states of a shape: it has a tracer or its memory, and room for its part of a round
 pub record IsLane (shape : Shape) (lanes : ℕ) (lane : Lane) : Type 0 where
   pub own : HasOwn shape lane.unfilled lane.tracer
-  pub room : most_jobs ≤ vec_capacity lane.results * lanes
+  pub room : MOST_GUESSES ≤ vec_capacity lane.results * lanes
 
 -- a round that lanes for states of a shape can run
 pub record IsRound (shape : Shape) (round : Round) : Type 0 where
   pub prev : round.prev.now.value.shape ≡ shape
   pub last : round.last.now.value.shape ≡ shape
-  pub few : length round.jobs.now ≤ most_jobs
+  pub few : length round.jobs.now ≤ MOST_GUESSES
   pub first : round.first < 2 ^ 62
   pub laps : 1 ≤ round.laps
   pub span : 1 ≤ round.span
   pub some : 1 ≤ round.lanes
-  pub most : round.lanes ≤ 64
+  pub most : round.lanes ≤ MOST_WORKERS
 
 -- what became of job i of a round
 abbrev pub IsDoneAt : Round → (i : ℕ) → Option Made → Type 0
@@ -102,5 +95,5 @@ HasRunOnly round at lane = (j : ℕ) → (j < length lane.results.items) ↔ (at
 -- 1 to 64 lanes for states of a shape
 pub record AreLanes (shape : Shape) (lanes : List Lane) : Type 0 where
   pub some : 1 ≤ length lanes
-  pub most : length lanes ≤ 64
+  pub most : length lanes ≤ MOST_WORKERS
   pub each : All (IsLane shape (length lanes)) lanes

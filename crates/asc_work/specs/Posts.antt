@@ -2,6 +2,7 @@
 use Rattle.std.specs.Prelude.{◌≡◌, ℕ, ◌+◌, ◌^◌, ◌<◌, ◌≤◌, Option, Some, None, List, [], ◌∷◌, ◌++◌, false, true, All, length}
 use Rattle.std.specs.Option.{is_some, option_map}
 use Rattle.atomic_table.specs.Seated.{TableId}
+use Rattle.asc_model.specs.declared.limits.TheConstants.{MOST_WORKERS}
 use Rattle.asc_outside.specs.Outside.{one_more}
 use Rattle.asc_cache.specs.Insert.{ShardId}
 use Rattle.asc_jobs.specs.Hands.{hand}
@@ -86,7 +87,7 @@ queue_of (p ∷ posts) = option_map (λ (t : Taker). t.queue) p.taker
 -- 1 to 64 workers of one queue, in whose tallies are the jobs that they took; or of no queue
 pub record IsTeam {W H : Type 0} (posts : List (Post W H)) : Type 0 where
   pub some : 0 < length posts
-  pub few : length posts ≤ 64
+  pub few : length posts ≤ MOST_WORKERS
   pub manned : (queue : TableId) → queue_of posts ≡ Some queue → All (IsManned queue) posts
   pub idle : queue_of posts ≡ None → All (λ p. IsIdle p) posts
 

@@ -14,7 +14,7 @@ use Rattle.asc_traj.specs.Trace.{guess_bounds}
 use Rattle.asc_shard.specs.Shard.{Shard}
 use Rattle.asc_shard.specs.declared.shard.Inserted.{Inserted}
 use Rattle.asc_shard.specs.declared.shard.Inserted.TheVariants as answers
-use Rattle.asc_shard.specs.Content.{outcome_of}
+use Rattle.asc_shard.specs.Content.{inserted_in}
 use Rattle.asc_cache.specs.Insert.{shard_after}
 use Rattle.asc_model.specs.Tally.{JobCounts, noted}
 use Rattle.asc_jobs.specs.declared.job.Job.{Job}
@@ -57,7 +57,7 @@ IsEmpty w job = IsOfShape w.shape job → steps_for w.laps w.span job ≡ 0
 
 -- an entry was inserted, with this answer
 abbrev pub Inserts : Inserted → Option Entry → (old new : Shard) → Type 0
-Inserts answer entry old new = (e : Entry) × (entry ≡ Some e) × (answer ≡ outcome_of old.held e) × (new ≡ shard_after old e)
+Inserts answer entry old new = (e : Entry) × (entry ≡ Some e) × (answer ≡ inserted_in old.held e) × (new ≡ shard_after old e)
 
 -- the entry of its guess
 abbrev pub entry_for : (laps span : ℕ) → Job → Option Entry
@@ -91,7 +91,7 @@ KeepsJoin w v = (v.kept ≡ w.kept) × (v.left_out ≡ w.left_out)
 pub record HasStored {W H : Type 0} (w v : Worker W H) (entry : Option Entry) (old new : Shard) : Type 0 where
   pub e : Entry
   pub is : entry ≡ Some e
-  pub stored : outcome_of old.held e ≡ answers.Stored
+  pub stored : inserted_in old.held e ≡ answers.Stored
   pub alone : w.join ≡ false → KeepsJoin w v × (new ≡ shard_after old e)
   pub joined : w.join ≡ true → HasJoined w v e (shard_after old e) new
 

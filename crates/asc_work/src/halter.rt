@@ -2,6 +2,7 @@ ghost use Rattle.std.specs.Prelude.{◌≡◌, ◌<◌, ◌≤◌, true, Some, N
 ghost use Rattle.asc_traj.specs.Trace.{CountsAnswer, CountsAsk, LosesPatience};
 ghost use Rattle.asc_work.specs.Halting.{AreOpened, flag_after};
 
+use asc_model::MOST_WORKERS;
 use asc_outside::Memory;
 use asc_traj::Halt;
 use atomic_table::{Play, Seat, Split, Table, TableRule};
@@ -91,7 +92,7 @@ impl Model for Halter {
 impl Halter {
     /// A halter that has not asked to stop, and its flags.
     pub fn open(alloc: Global, flags: usize) -> Result<(Halter, Vec<Flag>), Memory>
-        requires { (0 < flags) × (flags ≤ 64) }
+        requires { (0 < flags) × (flags ≤ MOST_WORKERS) }
         ensures { IfOk result (λ r. AreOpened flags r.0 r.1.items) }
     {
         let (table, seat) = Word::of_words(alloc, &[0], &())?;

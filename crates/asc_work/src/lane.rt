@@ -7,15 +7,16 @@ ghost use Rattle.asc_traj.specs.declared.made.Made.TheVariants as made;
 ghost use Rattle.asc_traj.specs.Made.{IsMade};
 ghost use Rattle.asc_traj.specs.Trace.{guess_bounds};
 ghost use Rattle.asc_work.specs.Inside.{HasOwn, IsOwn};
-ghost use Rattle.asc_work.specs.Lanes.{HasRunAll, HasRunOnly, IsDoneAt, IsLane, IsRound, most_jobs};
+ghost use Rattle.asc_work.specs.Lanes.{HasRunAll, HasRunOnly, IsDoneAt, IsLane, IsRound};
 
 use crate::worker::make_tracer;
 use asc_depvec::{Tracer, Unfilled};
-use asc_guess::{Kind, guess};
+use asc_guess::{Kind, guess_from};
+use asc_model::MOST_PLACES;
 use asc_outside::{Gate, Memory, Point};
-use asc_shape::{Guess, Shape, Snapshot};
-use asc_traj::{Entry, Made, Never, Stop, TRACE_CAP};
-use std::alloc::{AllocError, Global};
+use asc_shape::{Shape, Snapshot};
+use asc_traj::{Entry, Made, Never, Stop};
+use std::alloc::Global;
 use std::sync::Arc;
 
 /// The jobs of a round, and what they have in common.
@@ -56,7 +57,7 @@ impl Lane {
     {
         Ok(Lane {
             alloc,
-            unfilled: Some(Unfilled::new(alloc, shape, TRACE_CAP)?),
+            unfilled: Some(Unfilled::new(alloc, shape, MOST_PLACES)?),
             tracer: None,
             results: Vec::with_capacity(alloc, room)?,
         })
@@ -151,19 +152,4 @@ fn trace_job(alloc: Global, tracer: &mut Tracer, round: &Round<'_>, kind: Kind, 
         Ok(guess) => Entry::traced(alloc, tracer, guess, &stop, &mut Never),
         Err(_) => Made::Refused,
     }
-}
-
-// A guess that shares both snapshots.
-fn guess_from(
-    kind: Kind,
-    prev: &Arc<Snapshot>,
-    last: &Arc<Snapshot>,
-    ahead: u32,
-) -> Result<Guess, AllocError>
-    requires { prev.now.value.shape ≡ last.now.value.shape }
-    ensures { IfOk result (λ guess. guess ≡ guess_of kind ahead prev.now.value last.now.value) }
-{
-    let prev = Arc::try_clone(prev)?;
-    let last = Arc::try_clone(last)?;
-    Ok(guess(kind, prev, last, ahead))
 }

@@ -1,11 +1,13 @@
 ghost use Rattle.std.specs.Prelude.{◌≡◌, ℕ, ◌+◌, ◌^◌, ◌<◌, ◌≤◌, [], Some, None, true, All, IfOk, length, replicate, set, slice_index_or};
 ghost use Rattle.std.specs.Option.{is_some};
 ghost use Rattle.asc_model.specs.Shape.{Shape};
+ghost use Rattle.asc_guess.specs.Guess.{Task};
 ghost use Rattle.asc_work.specs.declared.lane.Lane.{Lane};
-ghost use Rattle.asc_work.specs.Lanes.{AreShared, HasRunAll, HasRunOnly, IsDone, IsLane, IsRound, Task, counts_of, most_jobs};
+ghost use Rattle.asc_work.specs.Lanes.{AreShared, HasRunAll, HasRunOnly, IsDone, IsLane, IsRound, ran_by};
 
 use crate::lane::{Lane, Round};
 use asc_guess::Kind;
+use asc_model::{MOST_GUESSES, MOST_WORKERS};
 use asc_outside::{Gate, Memory};
 use asc_shape::{Shape, Snapshot};
 use asc_traj::Made;
@@ -14,12 +16,9 @@ use std::marker::Model;
 use std::sync::Arc;
 use std::thread::{Threads, for_each_mut};
 
-/// At most how many jobs a round has.
-pub const MOST_JOBS: usize = 128;
-
 /// They run the jobs of a visit beside one another. A lane that has a job runs in a thread of its own, where one can be made,
-/// but for one, which the caller runs. A lane without a job starts none. A round's threads end with it. The results are those of one lane that runs all jobs, but for want
-/// of memory, and are taken in any order.
+/// but for one, which the caller runs. A lane without a job starts none. A round's threads end with it. The results are those
+/// of one lane that runs all jobs, but for want of memory, and are taken in any order.
 ///
 /// Contracts see it as the `Lanes` of `specs/`.
 #[derive(Drop)]
@@ -45,7 +44,7 @@ impl Model for Lanes {
       span = l.span;
       lanes = length l.lanes.items;
       results = model.dealt (model.lists_of l.lanes.items) l.jobs;
-      ran = model.counts_of l.lanes.items;
+      ran = model.ran_by l.lanes.items;
     } };
 
     ghost invariant = { λ l. model.AreLanes l.shape l.lanes.items × (1 ≤ l.laps) × (1 ≤ l.span) };
@@ -64,7 +63,7 @@ impl Lanes {
         requires laps { 1 ≤ laps }
         requires span { 1 ≤ span }
         requires some { 1 ≤ lanes }
-        requires most { lanes ≤ 64 }
+        requires most { lanes ≤ MOST_WORKERS }
         ensures { IfOk result (λ l. l ≡ record { shape = shape; laps = laps; span = span; lanes = lanes; results = []; ran = replicate lanes 0 }) }
     {
         Ok(Lanes {
@@ -96,7 +95,7 @@ impl Lanes {
     )
         requires prev { prev.now.value.shape ≡ self.old.shape }
         requires last { last.now.value.shape ≡ self.old.shape }
-        requires jobs { length jobs.now ≤ most_jobs }
+        requires jobs { length jobs.now ≤ MOST_GUESSES }
         requires first { first < 2 ^ 62 }
         ensures count { length self.new.results ≡ length jobs.now }
         ensures done { (i : ℕ) (d : Task) → i < length jobs.now
@@ -140,12 +139,12 @@ impl Lanes {
 // So many lanes, that have run no job.
 fn new_lanes(alloc: Global, shape: Shape, lanes: usize) -> Result<Vec<Lane>, Memory>
     requires some { 1 ≤ lanes }
-    requires most { lanes ≤ 64 }
+    requires most { lanes ≤ MOST_WORKERS }
     ensures count { IfOk result (λ made. length made.items ≡ lanes) }
     ensures each { IfOk result (λ made. All (IsLane shape lanes) made.items) }
-    ensures empty { IfOk result (λ made. counts_of made.items ≡ replicate lanes 0) }
+    ensures empty { IfOk result (λ made. ran_by made.items ≡ replicate lanes 0) }
 {
-    let room = MOST_JOBS.div_ceil(lanes);
+    let room = MOST_GUESSES.div_ceil(lanes);
     let mut made = Vec::with_capacity(alloc, lanes)?;
     for _ in 0..lanes {
         made.push(Lane::new(alloc, shape, room)?)?;
@@ -204,7 +203,7 @@ fn run_from<R: Threads + Sync, G: Gate + Sync>(
     ensures count { length lanes.new ≡ length lanes.old }
 {
     let run = |at: usize, lane: &mut Lane|
-        requires { (start + at < 64) × IsRound round.now.last.now.value.shape round.now
+        requires { (start + at < MOST_WORKERS) × IsRound round.now.last.now.value.shape round.now
             × IsLane round.now.last.now.value.shape round.now.lanes lane.now }
         ensures { IsLane round.entry.now.last.now.value.shape round.entry.now.lanes lane.exit.now
             × HasRunAll round.entry.now (start + at) lane.exit.now × HasRunOnly round.entry.now (start + at) lane.exit.now }

@@ -12,7 +12,7 @@ mod work;
 mod worker;
 
 pub use halter::{Flag, Halter};
-pub use lanes::{Lanes, MOST_JOBS};
+pub use lanes::Lanes;
 pub use post::TakenIn;
 pub use team::Team;
 pub use work::work_loop;

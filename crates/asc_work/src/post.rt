@@ -1,7 +1,7 @@
 ghost use Rattle.std.specs.Prelude.{◌≡◌, ℕ, ◌+◌, ◌<◌, ◌≤◌, Some, true, length, map, slice_index_or, All, IfOk};
 ghost use Rattle.std.specs.Option.{is_some};
 ghost use Rattle.asc_jobs.specs.Jobs.{HasAllParts, new_taker};
-ghost use Rattle.asc_model.specs.Tally.{counts_of, no_jobs};
+ghost use Rattle.asc_model.specs.Tally.{job_counts, no_jobs};
 ghost use Rattle.atomic_table.specs.Seated.{TableId};
 ghost use Rattle.asc_work.specs.Posts.{HasServed, IsIdle, IsManned, IsReady, IsRehalted, all_tallies, halts_at, manned_with, relieved, workers_at};
 ghost use Rattle.asc_work.specs.declared.post.Post.{Post};
@@ -9,7 +9,7 @@ ghost use Rattle.asc_work.specs.declared.post.Post.{Post};
 use crate::{Worker, work_loop};
 use asc_cache::Insert;
 use asc_jobs::{Giver, Taker};
-use asc_model::Tally;
+use asc_model::{MOST_WORKERS, Tally};
 use asc_outside::{Gate, Memory};
 use asc_traj::Halt;
 use crossbeam_utils::sync::{Parker, Unparker};
@@ -57,7 +57,7 @@ impl<W: Insert + Drop, H: Halt + Drop> Post<W, H> {
     fn relieve(&mut self) -> (Taker, Tally)
         requires { is_some self.old.taker ≡ true }
         ensures taker { self.old.taker ≡ Some result.0 }
-        ensures tally { counts_of result.1 ≡ self.old.worker.tally }
+        ensures tally { job_counts result.1 ≡ self.old.worker.tally }
         ensures post { self.new ≡ relieved self.old }
     {
         let tally = self.worker.take_tally();
@@ -126,11 +126,11 @@ pub(crate) fn take_in<R: Wait, W: Insert + Drop, H: Halt + Drop>(
     posts: &mut [Post<W, H>],
 ) -> TakenIn
     requires some { 0 < length posts.old }
-    requires few { length posts.old ≤ 64 }
+    requires few { length posts.old ≤ MOST_WORKERS }
     requires manned { All (IsManned giver.queue) posts.old }
     requires parts { giver.opened ≡ length posts.old + 1 }
     ensures jobs { length giver.pushed ≡ result.tally.ran + result.left }
-    ensures tally { counts_of result.tally ≡ all_tallies posts.old }
+    ensures tally { job_counts result.tally ≡ all_tallies posts.old }
     ensures posts { posts.new ≡ map (λ p. relieved p) posts.old }
 {
     let (mut all, mut tally) = posts[0].relieve();

@@ -1,7 +1,7 @@
 ghost use Rattle.std.specs.Prelude.{◌≡◌, ℕ, ◌+◌, ◌<◌, ◌≤◌, Some, None, All, IfOk, length, slice_index_or};
 ghost use Rattle.atomic_table.specs.Seated.{TableId};
 ghost use Rattle.asc_jobs.specs.Jobs.{new_taker};
-ghost use Rattle.asc_model.specs.Tally.{counts_of, no_jobs};
+ghost use Rattle.asc_model.specs.Tally.{job_counts, no_jobs};
 ghost use Rattle.asc_work.specs.Posts.{HasServed, IsRehalted, IsTakenIn, all_tallies, halts_at, workers_at};
 ghost use Rattle.asc_work.specs.declared.post.Post.{Post};
 
@@ -10,6 +10,7 @@ use crate::post::{Post, TakenIn, man, new_posts, take_in};
 use crate::scope::beside;
 use asc_cache::Insert;
 use asc_jobs::{Giver, Taker};
+use asc_model::MOST_WORKERS;
 use asc_outside::{Gate, Memory};
 use asc_traj::Halt;
 use crossbeam_utils::sync::Unparker;
@@ -44,7 +45,7 @@ impl<W: Insert + Drop, H: Halt + Drop> Team<W, H> {
         workers: Vec<Worker<W, H>>,
     ) -> Result<(Team<W, H>, Vec<Unparker>), Memory>
         requires some { 0 < length workers.items }
-        requires few { length workers.items ≤ 64 }
+        requires few { length workers.items ≤ MOST_WORKERS }
         requires workers { All (λ w. w.tally ≡ no_jobs) workers.items }
         ensures queue { IfOk result (λ r. r.0.queue ≡ None) }
         ensures posts { IfOk result (λ r. length r.0.posts ≡ length workers.items) }
@@ -112,7 +113,7 @@ impl<W: Insert + Drop, H: Halt + Drop> Team<W, H> {
         requires queue { self.old.queue ≡ Some giver.queue }
         requires parts { giver.opened ≡ length self.old.posts + 1 }
         ensures jobs { length giver.pushed ≡ result.tally.ran + result.left }
-        ensures tally { counts_of result.tally ≡ all_tallies self.old.posts }
+        ensures tally { job_counts result.tally ≡ all_tallies self.old.posts }
         ensures queue { self.new.queue ≡ None }
         ensures count { length self.new.posts ≡ length self.old.posts }
         ensures workers { (i : ℕ) (d : Post W H) → i < length self.old.posts

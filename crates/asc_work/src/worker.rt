@@ -4,8 +4,8 @@ ghost use Rattle.asc_model.specs.Shape.{Shape};
 ghost use Rattle.asc_model.specs.declared.tally.Column.TheVariants as ran;
 ghost use Rattle.asc_traj.specs.declared.made.Made.TheVariants as made;
 ghost use Rattle.asc_traj.specs.Made.{IsMade};
-ghost use Rattle.asc_traj.specs.Trace.{CountsAnswer, trace_cap};
-ghost use Rattle.asc_model.specs.Tally.{no_jobs, noted, counts_of};
+ghost use Rattle.asc_traj.specs.Trace.{CountsAnswer};
+ghost use Rattle.asc_model.specs.Tally.{no_jobs, noted, job_counts};
 ghost use Rattle.asc_work.specs.Inside.{HasOwn, HasTracer};
 ghost use Rattle.asc_work.specs.Worker.{IsOfShape, IsEmpty, HasInserted, HasJoined, HasAsked, Ends, bounds_for, guess_for, steps_for};
 
@@ -14,11 +14,11 @@ use asc_cache::Insert;
 use asc_depvec::{Tracer, Unfilled};
 use asc_guess::guess;
 use asc_jobs::Job;
-use asc_model::{Column, Tally};
+use asc_model::{Column, MOST_PLACES, Tally};
 use asc_outside::{Gate, Memory, Point};
 use asc_shape::Shape;
 use asc_shard::Inserted;
-use asc_traj::{Entry, Halt, Made, Stop, TRACE_CAP};
+use asc_traj::{Entry, Halt, Made, Stop};
 use std::alloc::Global;
 use std::marker::Model;
 use std::mem;
@@ -44,7 +44,7 @@ pub struct Worker<W: Insert + Drop, H: Halt + Drop> {
 }
 
 impl<W: Insert + Drop, H: Halt + Drop> Model for Worker<W, H> {
-    ghost use Rattle.asc_model.specs.Tally.{counts_of};
+    ghost use Rattle.asc_model.specs.Tally.{job_counts};
     ghost use Rattle.asc_work.specs.Worker as model;
     ghost use Rattle.asc_work.specs.Inside.{HasOwn};
     ghost use Rattle.std.specs.Arc.{arc_value};
@@ -59,7 +59,7 @@ impl<W: Insert + Drop, H: Halt + Drop> Model for Worker<W, H> {
       span = w.span;
       writer = w.writer;
       halt = w.halt;
-      tally = counts_of w.tally;
+      tally = job_counts w.tally;
       join = w.joining.join;
       kept = option_map arc_value w.joining.kept;
       left_out = w.joining.left_out;
@@ -97,7 +97,7 @@ impl<W: Insert + Drop, H: Halt + Drop> Worker<W, H> {
         }) }
         ensures memory { IfErr result (λ back. (back.1 ≡ writer) × (back.2 ≡ halt)) }
     {
-        match Unfilled::new(alloc, shape, TRACE_CAP) {
+        match Unfilled::new(alloc, shape, MOST_PLACES) {
             Ok(unfilled) => Ok(Worker {
                 alloc,
                 shape,
@@ -135,21 +135,21 @@ impl<W: Insert + Drop, H: Halt + Drop> Worker<W, H> {
         ensures join { self.new.join ≡ self.old.join }
         ensures identity { W.identity self.new.writer ≡ W.identity self.old.writer }
     {
-        let ran = self.outcome(job, gate);
+        let ran = self.run_untallied(job, gate);
         self.tally.note(ran);
         ran
     }
 
     /// What became of the jobs that it has run.
     pub fn tally(&self) -> Tally
-        ensures { counts_of result ≡ self.now.tally }
+        ensures { job_counts result ≡ self.now.tally }
     {
         self.tally
     }
 
     /// What became of the jobs that it has run. It then counts from 0 on.
     pub fn take_tally(&mut self) -> Tally
-        ensures tally { counts_of result ≡ self.old.tally }
+        ensures tally { job_counts result ≡ self.old.tally }
         ensures worker { self.new ≡ record self.old { tally = no_jobs } }
     {
         let tally = self.tally;
@@ -218,7 +218,7 @@ impl<W: Insert + Drop, H: Halt + Drop> Worker<W, H> {
     }
 
     // Runs a job, but for its tally.
-    fn outcome<G: Gate>(&mut self, job: Job, gate: &G) -> Column
+    fn run_untallied<G: Gate>(&mut self, job: Job, gate: &G) -> Column
         ensures empty { result ≡ ran.Empty → IsEmpty self.old job }
         ensures other { (IsOfShape self.old.shape job → ⊥) → result ≡ ran.Empty }
         ensures steps { IsEmpty self.old job → result ≡ ran.Empty }
@@ -313,7 +313,7 @@ fn make_entry<H: Halt>(
     span: u64,
 ) -> Made
     requires shapes { IsOfShape tracer.old.shape job }
-    requires cap { tracer.old.cap ≡ trace_cap }
+    requires cap { tracer.old.cap ≡ MOST_PLACES }
     requires laps { 1 ≤ laps }
     requires span { 1 ≤ span }
     ensures made { IsMade (bounds_for laps span job) (guess_for job) (H.count halt.old) (H.count halt.new) result }

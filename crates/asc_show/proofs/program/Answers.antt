@@ -2,7 +2,7 @@
 use Rattle.std.proofs.Common.{ap, inr, subst}
 use Rattle.std.specs.Process.{exit_status}
 use Rattle.asc_words.proofs.Handed.{of-given}
-use Rattle.asc_show.specs.Shown.{refusal_of}
+use Rattle.asc_inspect.specs.Shown.{refusal_of}
 use Rattle.asc_show.specs.Status.{IsStatusOver, IsToldOver}
 use Rattle.asc_show.proofs.Handed.{told-over-system}
 use Rattle.asc_show.proofs.program.Goals as goal

@@ -18,7 +18,7 @@ loop-entry-preserved g c =
     let after = c.in_ok-insert.ensures.stored in record {
       held =
           ap (λ (w : ShardWriter). content_of w.capacity w.stored) after
-          ∙ one_added w.capacity w.stored e c.in_ok-insert.field-0 c.in_ok-insert.ensures.outcome
+          ∙ one_added w.capacity w.stored e c.in_ok-insert.field-0 c.in_ok-insert.ensures.answer
           ∙ ap (λ l. add w.capacity l e) inv.held ∙ ap (λ n. add n before e) (ap (λ (w : ShardWriter). w.capacity) inv.rest)
           ∙ ap (add was.capacity before) same ∙ sym (fold_more (add was.capacity) (shard_of was).held xs i x c.loop-entry-test.true);
       rest =

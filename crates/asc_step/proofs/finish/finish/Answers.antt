@@ -4,8 +4,8 @@ use Rattle.asc_step.proofs.finish.finish.Goals as goal
 pub returns-in-Store : goal.returns-in-Store
 returns-in-Store g c = rw c.in-Store.is (c.store.ensures c.args.rd)
 
-pub returns-in-Call : goal.returns-in-Call
-returns-in-Call g c = rw c.in-Call.is (finishes_calls _ c.args.rd)
+pub returns-in-GuestCall : goal.returns-in-GuestCall
+returns-in-GuestCall g c = rw c.in-GuestCall.is (finishes_calls _ c.args.rd)
 
-pub returns-in-Break : goal.returns-in-Break
-returns-in-Break g c = rw c.in-Break.is (finishes_break _ c.args.pc c.args.rd _ c.requires.at c.fault.ensures)
+pub returns-in-Breakpoint : goal.returns-in-Breakpoint
+returns-in-Breakpoint g c = rw c.in-Breakpoint.is (finishes_break _ c.args.pc c.args.rd _ c.requires.at c.fault.ensures)

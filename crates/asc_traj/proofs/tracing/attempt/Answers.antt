@@ -1,8 +1,9 @@
 -- A step of a settled word goes on, or changes nothing, and is then tried anew.
 use Rattle.std.proofs.Common.{◌≡◌, ◌≤◌, Bool, Some, None, if◌then◌else◌, sym, ap, subst, ◌∙◌}
 use Rattle.std.proofs.lemmas.Bool.{false≢true}
+use Rattle.asc_model.specs.declared.limits.TheConstants.{STEP_ROOM}
 use Rattle.asc_model.specs.Step.{next}
-use Rattle.asc_model.specs.Reach.{step_room, why_no_step}
+use Rattle.asc_model.specs.Reach.{why_no_step}
 use Rattle.asc_shape.specs.Face.{room_of}
 use Rattle.asc_step.specs.Step.{face_after}
 use Rattle.asc_depvec.specs.Tracer.{Tracing, face_of}
@@ -28,7 +29,7 @@ same : (g : _) (c : Else-step_settled g) → c.step_settled.new.bytes ≡ c.args
 same g c = unchanged c.args.tracer.now c.step_settled.new.bytes c.requires.room (c.step_settled.ensures.stays c.if-step_settled.false)
 
 pub attempt_anew-requires : goal.attempt_anew-requires
-attempt_anew-requires g c = record { room = subst (λ (t : Tracing). step_room ≤ room_of (face_of t).marks) (sym (same g (goal.at.attempt_anew-requires g c).Else-step_settled)) c.requires.room }
+attempt_anew-requires g c = record { room = subst (λ (t : Tracing). STEP_ROOM ≤ room_of (face_of t).marks) (sym (same g (goal.at.attempt_anew-requires g c).Else-step_settled)) c.requires.room }
 
 pub returns-else-step_settled : goal.returns-else-step_settled
 returns-else-step_settled g c =

@@ -2,7 +2,7 @@ use Rattle.std.proofs.Common.{◌≡◌, ◌+◌, ◌<◌, ◌∙◌, Some, leng
 use Rattle.std.proofs.lemmas.List.{length-set, take_more}
 use Rattle.std.proofs.lemmas.List.Edits.{map_over_more}
 use Rattle.asc_jobs.specs.Jobs.{Taker}
-use Rattle.asc_model.specs.Tally.{added, counts_of}
+use Rattle.asc_model.specs.Tally.{added, job_counts}
 use Rattle.asc_work.specs.Posts.{relieved}
 use Rattle.asc_work.specs.declared.post.Post.{Post}
 use Rattle.asc_work.proofs.Posts.{next_is, next_taken}
@@ -21,7 +21,7 @@ loop-i-preserved g c =
     let joined = c.join.ensures in record {
       queue = ap (λ (t : Taker). t.queue) joined ∙ c.loop-i.invariant.queue;
       posts = ap (λ p. set posts i p) now ∙ map_over_more (λ p. relieved p) old posts i x low c.loop-i.invariant.posts c.index-posts-i.is;
-      taken = next_taken c.args.giver.queue (take i old) (take (i + 1) old) (get_or old i x) c.relieve-taker.result.0 c.loop-i.all.hand c.join.new.self.hand (counts_of c.loop-i.tally)
-          (counts_of c.add.new.self) (take_more old i x low) c.loop-i.invariant.taken (c.requires.manned i x low) there (ap (λ (t : Taker). t.hand) joined)
-          (c.add.ensures ∙ ap (added (counts_of c.loop-i.tally)) tally);
+      taken = next_taken c.args.giver.queue (take i old) (take (i + 1) old) (get_or old i x) c.relieve-taker.result.0 c.loop-i.all.hand c.join.new.self.hand (job_counts c.loop-i.tally)
+          (job_counts c.add.new.self) (take_more old i x low) c.loop-i.invariant.taken (c.requires.manned i x low) there (ap (λ (t : Taker). t.hand) joined)
+          (c.add.ensures ∙ ap (added (job_counts c.loop-i.tally)) tally);
     }

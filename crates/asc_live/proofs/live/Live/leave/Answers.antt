@@ -1,8 +1,8 @@
 -- The guesses that are due are counted, and all else stays.
 use Rattle.std.proofs.Common.{◌≡◌, ◌+◌, ◌^◌, true, Some, None, length, nat_lt, [], refl, sym, ap, ◌∙◌, subst, if◌then◌else◌}
-use Rattle.asc_run.specs.LastVisits.{LastVisits, listed}
+use Rattle.asc_run.specs.LastVisits.{LastVisits, listed, issued_after}
 use Rattle.asc_live.specs.Due.{jobs_of}
-use Rattle.asc_live.specs.Live.{IsLive, live, is_guessing, is_needless, due_by, issued_by, seen_after}
+use Rattle.asc_live.specs.Live.{IsLive, live, is_guessing, is_needless, due_by, seen_after}
 use Rattle.asc_live.proofs.Seeing.{IsLive-asked, left-alone, left-live, needless-is}
 use Rattle.asc_live.proofs.live.Live.leave.Goals as goal
 
@@ -17,9 +17,9 @@ invariant_of-self g c =
     let last = kept.0 in
     let none : i.seen ≡ None = ap (λ l. l.seen) c.self.view_is ∙ c.requires.seen in
     let untold : seen_after number i.pusher.refused i.seen ≡ i.seen = ap (seen_after number i.pusher.refused) none ∙ sym none in
-    let issued : issued_by number old.last (Some last) old ≡ number + i.visits.guessing.ahead =
-    ap (λ l. issued_by number l (Some last) old) kept.1 in
-    let visits : record (listed number i.visits) { issued = issued_by number old.last (Some last) old } ≡ c.list.new.self =
+    let issued : issued_after old.guessing old.issued number old.last ≡ number + i.visits.guessing.ahead =
+    ap (λ l. issued_after old.guessing old.issued number l) kept.1 in
+    let visits : record (listed number i.visits) { issued = issued_after old.guessing old.issued number old.last } ≡ c.list.new.self =
     ap (λ n. record (listed number i.visits) { issued = n }) issued ∙ sym c.list.ensures in
     let pusher : record i.pusher { left = i.pusher.left + length (due_by number old.last (Some last) old) } ≡ c.leave.new.self =
     ap (λ l. record i.pusher { left = i.pusher.left + length (due_by number l (Some last) old) }) kept.1

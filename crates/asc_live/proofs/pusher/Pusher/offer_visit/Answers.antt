@@ -4,8 +4,8 @@ use Rattle.std.proofs.lemmas.Bool.{le-ltb, lt-ltb}
 use Rattle.std.proofs.lemmas.List.{take_all}
 use Rattle.std.specs.Arc.{arc_value}
 use Rattle.asc_guess.specs.declared.kind.Kind.TheVariants.{Last}
+use Rattle.asc_guess.specs.Guess.{Task}
 use Rattle.asc_jobs.specs.Jobs.{Giver}
-use Rattle.asc_find.specs.Serial.{Task}
 use Rattle.asc_live.specs.Due.{Due, Pusher, Pushes, is_offered, is_for_workers, jobs_of}
 use Rattle.asc_live.proofs.Pushing.{Pushes-none, Pushes-more, Pushes-few, Pushes-one-offered, Pushes-one-left, filled-is, jobs-more}
 use Rattle.asc_live.proofs.pusher.Pusher.offer_visit.Goals as goal

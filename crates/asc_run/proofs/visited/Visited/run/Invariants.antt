@@ -3,7 +3,7 @@ use Rattle.std.proofs.Common.{◌≡◌, ◌+◌, ◌-◌, ◌≤◌, IsNone}
 use Rattle.asc_calls.specs.World.{World, faults, outside_of, world_in}
 use Rattle.asc_run.specs.Visits.{Course, VisitRule}
 use Rattle.asc_find.specs.Helper.{Plans}
-use Rattle.asc_run.specs.Seen.{SeesAll}
+use Rattle.asc_run.specs.Guessed.{SeesAll}
 use Rattle.asc_run.specs.Way.{ComesUnvisited}
 use Rattle.asc_run.proofs.Walking.{WalksOn}
 use Rattle.asc_run.proofs.visited.Visited.run.Given as goal

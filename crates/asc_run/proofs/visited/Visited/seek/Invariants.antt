@@ -3,7 +3,7 @@ use Rattle.std.proofs.Common.{◌≡◌, ◌+◌, ◌-◌, ◌≤◌}
 use Rattle.asc_calls.specs.World.{faults, outside_of, world_in}
 use Rattle.asc_seek.specs.Seek.{IsBehind}
 use Rattle.asc_find.specs.Helper.{Plans}
-use Rattle.asc_run.specs.Seen.{SeesAll}
+use Rattle.asc_run.specs.Guessed.{SeesAll}
 use Rattle.asc_run.proofs.Seeking.{IsEarly}
 use Rattle.asc_run.proofs.SeekingWalk.{SeeksOn}
 use Rattle.asc_run.proofs.visited.Visited.seek.Given as goal

@@ -1,0 +1,13 @@
+pub mod Visits
+pub mod Counts
+pub mod Cells
+pub mod Texts
+pub mod Laps
+pub mod MissTexts
+pub mod Missing
+pub mod Noted
+pub mod Profiling
+pub mod Profiles
+pub mod Seekings
+pub mod Questions
+pub mod Answered

@@ -1,0 +1,10 @@
+pub mod Visited
+pub mod Standing
+pub mod Text
+pub mod Entered
+pub mod Missed
+pub mod Registers
+pub mod Profile
+pub mod Sought
+pub mod Asked
+pub mod Shown

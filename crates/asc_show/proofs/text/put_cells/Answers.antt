@@ -1,6 +1,0 @@
--- No cell is left.
-use Rattle.asc_show.proofs.Texts.{all-put}
-use Rattle.asc_show.proofs.text.put_cells.Goals as goal
-
-pub returns : goal.returns
-returns c = all-put c.args.shape c.args.cells.now c.loop-from.from _ _ c.loop-from-test.false c.loop-from.invariant.whole
