@@ -155,7 +155,7 @@ def meaning(command, behind, values, known):
 
 def check_words(why, known):
     """asc-why finds what is wrong in just the command lines that asc refuses, as its own tests list them."""
-    text = (ROOT / "crates/asc_upper_tests/src/words.rt").read_text()
+    text = (ROOT / "crates/asc_run_tests/src/words.rt").read_text()
     tables = re.findall(r"static \w*LINES: .*?; (\d+)\] = \[\n(.*?)\n\];", text, re.S)
     lines = [re.findall(r"\(\s*\"(.*?)\",\s*(?:(\d+),\s*)?\"(.*?)\",?\s*\)", table) for _, table in tables]
     same("rows of command lines", [len(rows) for rows in lines], [int(count) for count, _ in tables])

@@ -240,7 +240,7 @@ def content_in(file):
     return content
 
 
-# ---- the machine of a run without workers (asc_run/specs/Serial, asc_guess/specs/Guess, asc_shape/specs/Stride)
+# ---- the machine of a run without workers (asc_find/specs/Serial, asc_guess/specs/Guess, asc_shape/specs/Stride)
 
 class Serial:
     def __init__(self, line, size, content):

@@ -16,7 +16,7 @@ use Rattle.asc_run.proofs.Seeings.{newly-later, guesses_until-more}
 use Rattle.asc_run.specs.LastVisits.{issued_after}
 use Rattle.asc_live.specs.Budget.{Budget, pays}
 use Rattle.asc_live.specs.Due.{Due, Pusher, Pushes, full_of, is_filled, jobs_of, raised}
-use Rattle.asc_live.specs.Live.{Live, IsLive, HasSeen, Visits, plan_of, charged, due_by, given_up, is_guessing, is_needless, is_passed_over, offers_at, seen_after}
+use Rattle.asc_live.specs.Live.{Live, IsLive, HasSeen, LearnsOf, plan_of, charged, due_by, given_up, is_guessing, is_needless, is_passed_over, offers_at, seen_after}
 use Rattle.asc_live.proofs.Pushing.{nothing, Pushes-few, Pushes-none-offered, both-true, filled-is, full-is, pushed-length, room-more}
 use Rattle.asc_live.proofs.Tasks.{kinds-few, twice, visit-length}
 
@@ -398,7 +398,7 @@ left-told number now old q on e before told next same =
 -- ---- any visit
 
 -- what a visit leaves is such a helper
-pub visit-live : {F : Type 0} (number pages : ℕ) (now : State) (old new : Live F) → number ≤ 2 ^ 40 → IsLive old → Visits number pages now old new → IsLive new
+pub visit-live : {F : Type 0} (number pages : ℕ) (now : State) (old new : Live F) → number ≤ 2 ^ 40 → IsLive old → LearnsOf number pages now old new → IsLive new
 visit-live number pages now old new most q (inl v) = subst IsLive (sym v.rest) (given_up-live number None (charged pages old) most (charged-live pages old q) (passed-filled old v.passed))
 visit-live number pages now old new most q (inr (inl v)) = subst IsLive (sym v.rest) (given_up-live number None (charged 0 old) most (charged-live 0 old q) (λ on. absurd (on-and-off (is_guessing old.guessing) v.off on)))
 visit-live number pages now old new most q (inr (inr (inl v))) = subst IsLive (sym v.rest) (left-live number now old most q v.on v.needless)
@@ -407,7 +407,7 @@ visit-live number pages now old new most q (inr (inr (inr (inr (inl v))))) = sub
 visit-live number pages now old new most q (inr (inr (inr (inr (inr v))))) = subst IsLive (sym v.rest) (record { least = q.least; most = q.most; issued = q.issued; price = q.price; room = q.room; seen = λ n e. absurd (cc) })
 
 -- it makes at most 128 guesses
-pub visit-plans : {F : Type 0} (number pages : ℕ) (now : State) (old new : Live F) → IsLive old → Visits number pages now old new → Plans 1 (plan_of old) (plan_of new)
+pub visit-plans : {F : Type 0} (number pages : ℕ) (now : State) (old new : Live F) → IsLive old → LearnsOf number pages now old new → Plans 1 (plan_of old) (plan_of new)
 visit-plans number pages now old new q (inl v) = subst (λ l. Plans 1 (plan_of old) (plan_of l)) (sym v.rest) (given_up-plans number pages None old)
 visit-plans number pages now old new q (inr (inl v)) = subst (λ l. Plans 1 (plan_of old) (plan_of l)) (sym v.rest) (given_up-plans number 0 None old)
 visit-plans number pages now old new q (inr (inr (inl v))) = subst (λ l. Plans 1 (plan_of old) (plan_of l)) (sym v.rest) (left-plans number now old q v.needless)
@@ -425,7 +425,7 @@ visit-plans number pages now old new q (inr (inr (inr (inr (inl v))))) =
 visit-plans number pages now old new q (inr (inr (inr (inr (inr v))))) = subst (λ l. Plans 1 (plan_of old) (plan_of l)) (sym v.rest) (record { made = omega arith; full = omega arith; few = omega arith; refused = omega arith; queue = refl })
 
 -- it is told of, where the one before was
-pub visit-sees : {F : Type 0} (number pages : ℕ) (now : State) (old new : Live F) → IsLive old → Visits number pages now old new → Sees number (plan_of old) (plan_of new)
+pub visit-sees : {F : Type 0} (number pages : ℕ) (now : State) (old new : Live F) → IsLive old → LearnsOf number pages now old new → Sees number (plan_of old) (plan_of new)
 visit-sees {F} number pages now old new q (inl v) before told next same = subst (λ l. Sees number (plan_of old) (plan_of l)) (sym v.rest) (given_up-told number pages None old q (passed-filled old v.passed)) before told next same
 visit-sees {F} number pages now old new q (inr (inl v)) before told next same = subst (λ l. Sees number (plan_of old) (plan_of l)) (sym v.rest) (given_up-told number 0 None old q (λ on. absurd (on-and-off (is_guessing old.guessing) v.off on))) before told next same
 visit-sees {F} number pages now old new q (inr (inr (inl v))) before told next same = subst (λ l. Sees number (plan_of old) (plan_of l)) (sym v.rest) (left-told number now old q v.on v.needless) before told next same

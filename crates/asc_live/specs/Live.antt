@@ -185,15 +185,15 @@ pub record Refuses {F : Type 0} (number pages : ℕ) (old new : Live F) : Type 0
   pub rest : new ≡ refused_visit (charged pages old)
 
 -- what a visit does, where so many pages of its state were written since the last one was kept
-abbrev pub Visits : {F : Type 0} → (number pages : ℕ) → State → (old new : Live F) → Type 0
-Visits number pages now old new = PassesOver number pages old new
+abbrev pub LearnsOf : {F : Type 0} → (number pages : ℕ) → State → (old new : Live F) → Type 0
+LearnsOf number pages now old new = PassesOver number pages old new
     ⊎ (LooksAlone number old new ⊎ (KeepsNone number now old new
     ⊎ (BeginsRow number pages now old new ⊎ (Keeps number pages now old new ⊎ Refuses number pages old new))))
 
 -- and where these are some of the pages of its shape
-abbrev pub VisitsWritten : {F : Type 0} → (number : ℕ) → State → (old new : Live F) → Type 0
-VisitsWritten number now old new =
-    (pages : ℕ) × (pages ≤ length_of now.shape / 1024 + 1) × Visits number pages now old new
+abbrev pub LearnsOfWritten : {F : Type 0} → (number : ℕ) → State → (old new : Live F) → Type 0
+LearnsOfWritten number now old new =
+    (pages : ℕ) × (pages ≤ length_of now.shape / 1024 + 1) × LearnsOf number pages now old new
 
 -- what holds where all visits up to one were guessed
 pub record HasSeen {F : Type 0} (number : ℕ) (l : Live F) : Type 0 where

@@ -7,7 +7,7 @@ ghost use Rattle.asc_find.specs.Serial.{Serial, serial_reply};
 ghost use Rattle.asc_find.specs.Helper.{Plans, VisitsMachine, Sees};
 ghost use Rattle.asc_run.specs.LastVisits.{no_visits, issued_after};
 ghost use Rattle.asc_live.specs.Laws.{new_plan};
-ghost use Rattle.asc_live.specs.Live.{IsLive, new_live, plan_of, told_over, given_up, refused_visit, due_by, is_needless, is_passed_over, is_guessing, offers_at, seen_after as seen_by, Visits, VisitsWritten};
+ghost use Rattle.asc_live.specs.Live.{IsLive, new_live, plan_of, told_over, given_up, refused_visit, due_by, is_needless, is_passed_over, is_guessing, offers_at, seen_after as seen_by, LearnsOf, LearnsOfWritten};
 ghost use Rattle.asc_jobs.specs.Jobs.{queue_of};
 ghost use Rattle.asc_live.specs.Due.{Pushes, full_of, is_filled};
 ghost use Rattle.asc_live.specs.Budget.{after_look_up};
@@ -250,7 +250,7 @@ impl<'a, F, G, R: Wait> Live<'a, F, G, R> {
         requires pages { pages < 2 ^ 23 }
         requires number { number ≤ 2 ^ 40 }
         requires full { full_of self.old.pusher < 2 ^ 62 }
-        ensures visits { Visits number pages state.old self.old self.new }
+        ensures visits { LearnsOf number pages state.old self.old self.new }
         ensures stays { state.new ≡ state.old }
     {
         if passes {
@@ -372,7 +372,7 @@ impl<'a, F: Finder, G: Gate, R: Wait> Helper for Live<'a, F, G, R> {
         requires number { number ≤ 2 ^ 40 }
         requires made { (plan_of self.old).made < 2 ^ 62 }
         requires full { (plan_of self.old).full < 2 ^ 62 }
-        ensures visits { VisitsWritten number state.old self.old self.new }
+        ensures visits { LearnsOfWritten number state.old self.old self.new }
         ensures stays { state.new ≡ state.old }
         ensures jumps { (F.aid self.new.finder).jumps ≡ (F.aid self.old.finder).jumps }
         ensures replies { (F.aid self.new.finder).replies ≡ (F.aid self.old.finder).replies }

@@ -53,8 +53,8 @@ machine_after zero g =
     record { shape = small; guessing = g; prev = None; last = None; issued = 0; content = [] }
 machine_after (suc n) g = visited (n + 1) (at_loop n) (machine_after n g)
 
-abbrev pub steps_of : List Entry → List ℕ
-steps_of l = map (λ e. e.steps) l
+abbrev pub entry_steps : List Entry → List ℕ
+entry_steps l = map (λ e. e.steps) l
 
 -- two steps lead to the loop, and two more to the next lap; a stride goes on by as much as from the lap before
 pub record Laps : Type 0 where
@@ -73,10 +73,10 @@ pub record Targets : Type 0 where
 pub record Strides : Type 0 where
   pub made2 : made_at 2 (machine_after 1 stride_two) ≡ 2
   pub made3 : made_at 3 (machine_after 2 stride_two) ≡ 1
-  pub content2 : steps_of (machine_after 2 stride_two).content ≡ 2 ∷ 4 ∷ []
+  pub content2 : entry_steps (machine_after 2 stride_two).content ≡ 2 ∷ 4 ∷ []
   pub reply2 : serial_reply (machine_after 2 stride_two) (at_loop 1) 100 ≡ None
   pub reply3 : serial_reply (machine_after 3 stride_two) (at_loop 2) 100 ≡ Some 2
-  pub content4 : steps_of (machine_after 4 stride_two).content ≡ 2 ∷ 4 ∷ 2 ∷ 2 ∷ []
+  pub content4 : entry_steps (machine_after 4 stride_two).content ≡ 2 ∷ 4 ∷ 2 ∷ 2 ∷ []
   pub made4 : made_at 4 (machine_after 3 stride_two) ≡ 1
   pub reply4 : serial_reply (machine_after 4 stride_two) (at_loop 3) 100 ≡ Some 4
   pub reply4_of_3 : serial_reply (machine_after 4 stride_two) (at_loop 3) 3 ≡ None
@@ -92,16 +92,16 @@ pub record Both : Type 0 where
 -- before it. At visit 5 the entry for x5 = 6 follows two others: of these the newest, which is a join itself, goes with it.
 pub record Joins : Type 0 where
   pub made2 : made_at 2 (machine_after 1 joined_two) ≡ 2
-  pub content2 : steps_of (machine_after 2 joined_two).content ≡ 2 ∷ 4 ∷ 6 ∷ []
+  pub content2 : entry_steps (machine_after 2 joined_two).content ≡ 2 ∷ 4 ∷ 6 ∷ []
   pub reply2 : serial_reply (machine_after 2 joined_two) (at_loop 1) 100 ≡ None
   pub made3 : made_at 3 (machine_after 2 joined_two) ≡ 1
-  pub content3 : steps_of (machine_after 3 joined_two).content ≡ 2 ∷ 4 ∷ 6 ∷ 2 ∷ []
+  pub content3 : entry_steps (machine_after 3 joined_two).content ≡ 2 ∷ 4 ∷ 6 ∷ 2 ∷ []
   pub reply3 : serial_reply (machine_after 3 joined_two) (at_loop 2) 100 ≡ Some 6
   pub reply3_of_5 : serial_reply (machine_after 3 joined_two) (at_loop 2) 5 ≡ Some 2
   pub made4 : made_at 4 (machine_after 3 joined_two) ≡ 1
-  pub content4 : steps_of (machine_after 4 joined_two).content ≡ 2 ∷ 4 ∷ 6 ∷ 2 ∷ 2 ∷ 4 ∷ []
+  pub content4 : entry_steps (machine_after 4 joined_two).content ≡ 2 ∷ 4 ∷ 6 ∷ 2 ∷ 2 ∷ 4 ∷ []
   pub reply4 : serial_reply (machine_after 4 joined_two) (at_loop 3) 100 ≡ Some 4
-  pub content5 : steps_of (machine_after 5 joined_two).content ≡ 2 ∷ 4 ∷ 6 ∷ 2 ∷ 2 ∷ 4 ∷ 2 ∷ 6 ∷ []
+  pub content5 : entry_steps (machine_after 5 joined_two).content ≡ 2 ∷ 4 ∷ 6 ∷ 2 ∷ 2 ∷ 4 ∷ 2 ∷ 6 ∷ []
   pub reply5 : serial_reply (machine_after 5 joined_two) (at_loop 4) 100 ≡ Some 6
 
 -- ---- visits
@@ -124,7 +124,7 @@ limited_visits = visit 8 None ∷ visit 6 (Some 2) ∷ visit 4 None ∷ visit 2 
 abbrev pub joined_visits : List Visit
 joined_visits = visit 6 (Some 6) ∷ visit 4 None ∷ visit 2 None ∷ []
 
-pub record Visits : Type 0 where
+pub record FourVisits : Type 0 where
   pub four : AreVisits 20 loop_run (visit_rule (recognised.At 0x10008) loop_run) four_visits 20
   pub limited : AreVisits 11 loop_run (visit_rule (recognised.At 0x10008) loop_run) limited_visits 11
   pub replies : replies_of four_visits ≡ None ∷ None ∷ Some 2 ∷ Some 4 ∷ []

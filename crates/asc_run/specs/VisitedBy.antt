@@ -24,7 +24,7 @@ pub record IsVisit (number : ℕ) (now left : State) (old new : Aid) : Type 0 wh
 -- Each call of a function with a helper, a state and a number is a visit of that number. What a helper tells is told by
 -- `aid_of`.
 module _ {H F : Type 0} (aid_of : H → Aid) (g : Shared F (MutBor H × (MutBor State × (ℕ × Unit {0}))) (Unit {0} × (MutBor H × (MutBor State × Unit {0})))) where
-  pub record Visits (f : F) : Type 0 where
+  pub record MakesVisits (f : F) : Type 0 where
     pub accepts : (h : MutBor H) (s : MutBor State) (number : ℕ) → MayVisit number (aid_of h.now)
         → g.pre f (h, (s, (number, tt)))
     pub visits : (h after : MutBor H) (s left : MutBor State) (number : ℕ) → MayVisit number (aid_of h.now)

@@ -7,10 +7,10 @@ ghost use Rattle.asc_calls.specs.GuestCall.{Device};
 ghost use Rattle.asc_calls.specs.World.{BlamesOnly, outside_of, world_in};
 ghost use Rattle.asc_run.specs.Sought.{NotesAlong, learning, noting, pc_in};
 ghost use Rattle.asc_run.specs.Turn.{Turns, TurnFails, device_of_turn};
-ghost use Rattle.asc_run.specs.VisitedBy.{Visits};
+ghost use Rattle.asc_run.specs.VisitedBy.{MakesVisits};
 ghost use Rattle.asc_run.specs.Visits.{Passes};
 ghost use Rattle.asc_seek.specs.Heads.{AreEarlier, led_back};
-ghost use Rattle.asc_seek.specs.Seek.{IsBehind, end_in, is_over, new_seek, steps_of};
+ghost use Rattle.asc_seek.specs.Seek.{IsBehind, end_in, is_over, new_seek, reply_steps};
 ghost use Rattle.asc_seek.specs.declared.seeker.Phase.TheVariants.{Profile};
 
 use crate::process::Process;
@@ -51,7 +51,7 @@ impl Visited {
         devices: &mut Devices<I, O, E>,
         steps: &mut Steps<L>,
     ) -> Ended
-        requires visit { Visits H.aid V.Fn visit.now }
+        requires visit { MakesVisits H.aid V.Fn visit.now }
         requires limit { limit ≤ 2 ^ 40 }
         requires start { HasNotBegun self.old.process.count self.old.process.calls }
         requires new { seeker.old ≡ new_seek seeker.old.seeking }
@@ -100,7 +100,7 @@ impl Visited {
 fn learn(seeker: &mut Seeker, is_visit: bool, at: u64, reply: Option<u64>, limit: u64) -> u64
     requires going { is_over at seeker.old ≡ false }
     requires behind { IsBehind at seeker.old }
-    requires reply { steps_of reply ≤ 2 ^ 40 }
+    requires reply { reply_steps reply ≤ 2 ^ 40 }
     requires limit { at < limit }
     requires most { limit ≤ 2 ^ 40 }
     ensures seek { seeker.new ≡ learning is_visit at reply seeker.old }
@@ -108,7 +108,7 @@ fn learn(seeker: &mut Seeker, is_visit: bool, at: u64, reply: Option<u64>, limit
     ensures limit { at + result ≤ limit }
     ensures visit { is_visit ≡ true → result ≡ 1 }
     ensures phase { is_visit ≡ false → at + result ≤ end_in seeker.old seeker.old.phase }
-    ensures behind { (count : ℕ) → at + steps_of reply ≤ count → IsBehind count seeker.new }
+    ensures behind { (count : ℕ) → at + reply_steps reply ≤ count → IsBehind count seeker.new }
 {
     if is_visit {
         seeker.visit(at, reply);

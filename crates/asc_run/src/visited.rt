@@ -1,7 +1,7 @@
 //! A program that is visited where it stands at an address.
 ghost use Rattle.std.specs.Prelude.{◌≡◌, ◌≤◌, ◌<◌, ◌+◌, ◌^◌, ℕ, Bool, length, [], None, IsNone, true, false};
 ghost use Rattle.asc_find.specs.Helper.{Plans, VisitsMachine, Sees};
-ghost use Rattle.asc_run.specs.VisitedBy.{Visits};
+ghost use Rattle.asc_run.specs.VisitedBy.{MakesVisits};
 
 use crate::process::Process;
 use crate::walk::Ended;
@@ -52,7 +52,7 @@ impl Visited {
         devices: &mut Devices<I, O, E>,
         steps: &mut Steps<L>,
     ) -> Ended
-        requires visit { Visits H.aid V.Fn visit.now }
+        requires visit { MakesVisits H.aid V.Fn visit.now }
         requires limit { limit ≤ 2 ^ 40 }
         requires count { self.old.process.count ≤ limit }
         requires none_told { jumps self.old.asked self.old.skipped self.old.hits ≡ jumps 0 0 0 }
@@ -99,7 +99,7 @@ impl Visited {
         visit: &V,
         left: u64,
     ) -> Option<u64>
-        requires visit { Visits H.aid V.Fn visit.now }
+        requires visit { MakesVisits H.aid V.Fn visit.now }
         requires left { left ≤ 2 ^ 40 }
         requires number { self.old.asked < 2 ^ 40 }
         requires room { HasRoom (2 ^ 62) (H.aid helper.old) }
@@ -138,7 +138,7 @@ fn visit_by<H: Finder, V: Fn(&mut H, &mut State, u64)>(
     state: &mut State,
     number: u64,
 )
-    requires visit { Visits H.aid V.Fn visit.now }
+    requires visit { MakesVisits H.aid V.Fn visit.now }
     requires number { number ≤ 2 ^ 40 }
     requires made { (H.aid helper.old).plan.made < 2 ^ 62 }
     requires full { (H.aid helper.old).plan.full < 2 ^ 62 }

@@ -97,7 +97,7 @@ impl Walk {
     ghost use Rattle.asc_calls.specs.World.{faults, BlamesOnly, outside_of};
     ghost use Rattle.asc_run.specs.Execution.{device_of};
     ghost use Rattle.asc_run.specs.Helped.{HasRoom};
-    ghost use Rattle.asc_run.specs.VisitedBy.{IsVisit, MayVisit, Visits};
+    ghost use Rattle.asc_run.specs.VisitedBy.{IsVisit, MayVisit, MakesVisits};
     ghost use Rattle.asc_run.specs.Visits.{HasBounds};
     ghost use Rattle.asc_model.specs.State.{IsState};
     ghost use Rattle.asc_run.specs.Walk.{new_walk, device_in, GoesFirst, HelpsFirst};
@@ -198,7 +198,7 @@ impl Walk {
         devices: &mut Devices<I, O, E>,
         steps: &mut Steps<L>,
     ) -> Ended
-        requires visit { Visits H.aid V.Fn visit.now }
+        requires visit { MakesVisits H.aid V.Fn visit.now }
         requires room { IsNone self.old.ended → HasRoom (2 ^ 61) (H.aid helper.old) }
 
         // The first call goes as plain execution does, or stops where a device failed. The helper's visits are those

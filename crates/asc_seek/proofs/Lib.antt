@@ -1,4 +1,3 @@
 pub mod Along
 mod Candidates
-mod Searched
 mod Tables

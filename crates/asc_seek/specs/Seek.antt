@@ -97,13 +97,13 @@ watched_in (phase.Rest until) = None
 -- ---- visits
 
 -- the steps that a visit jumped over
-abbrev pub steps_of : (reply : Option ℕ) → ℕ
-steps_of None = 0
-steps_of (Some n) = n
+abbrev pub reply_steps : (reply : Option ℕ) → ℕ
+reply_steps None = 0
+reply_steps (Some n) = n
 
 -- what counts of a visit: the steps that it jumped over from that count on
 abbrev pub given_at : (reached at : ℕ) → (reply : Option ℕ) → ℕ
-given_at reached at reply = at + steps_of reply - max at reached
+given_at reached at reply = at + reply_steps reply - max at reached
 
 -- a trial at a visit: its first one begins it
 abbrev pub begun_at : (at : ℕ) → Trial → Trial

@@ -2,7 +2,7 @@
 ghost use Rattle.std.specs.Prelude.{◌≡◌, ◌+◌, ◌*◌, ◌<◌, ◌≤◌, ◌^◌, max, ℕ, None, Some, true, false, IfOk};
 ghost use Rattle.asc_seek.specs.Heads.{AreEarlier, no_heads, note};
 ghost use Rattle.asc_seek.specs.Inside.{HasLaps, HasShortLap, MayFollow, first_candidate};
-ghost use Rattle.asc_seek.specs.Seek.{IsBehind, IsSeeking, candidate_behind, end_in, first_stretch, given_at, hopeless_steps, is_best_yet, is_candidate, begun_at, is_over, looked_steps, new_seek, next_candidate, pays, reached_from, rest_ratio, score_at, scored_steps, advanced, seek_visit, serving, settled, steps_of, trial_end, tried_at, waited_steps, advanced_from, try_next, watched_in};
+ghost use Rattle.asc_seek.specs.Seek.{IsBehind, IsSeeking, candidate_behind, end_in, first_stretch, given_at, hopeless_steps, is_best_yet, is_candidate, begun_at, is_over, looked_steps, new_seek, next_candidate, pays, reached_from, rest_ratio, score_at, scored_steps, advanced, seek_visit, serving, settled, reply_steps, trial_end, tried_at, waited_steps, advanced_from, try_next, watched_in};
 
 use crate::heads::{Head, clear, no_heads, note};
 use std::alloc::{AllocError, Global};
@@ -224,9 +224,9 @@ impl Seeker {
     #[tactic(auto, unfolding(crate::specs::Seek::seek_visit))]
     pub fn visit(&mut self, at: u64, reply: Option<u64>)
         requires behind { IsBehind at self.old }
-        requires most { at + steps_of reply ≤ 2 ^ 41 }
+        requires most { at + reply_steps reply ≤ 2 ^ 41 }
         ensures seek { self.new ≡ seek_visit at reply self.old }
-        ensures behind { (count : ℕ) → at + steps_of reply ≤ count → IsBehind count self.new }
+        ensures behind { (count : ℕ) → at + reply_steps reply ≤ count → IsBehind count self.new }
     {
         let seeking = self.seeking;
         match &mut self.phase {
@@ -476,9 +476,9 @@ impl Trial {
         requires times { 2 ≤ self.old.head.times }
         requires last { self.old.head.last ≤ 2 ^ 41 }
         requires behind { self.old.from + self.old.given ≤ at }
-        requires most { at + steps_of reply ≤ 2 ^ 41 }
+        requires most { at + reply_steps reply ≤ 2 ^ 41 }
         ensures trial { self.new ≡ tried_at seeking at reply (begun_at at self.old) }
-        ensures behind { self.new.from + self.new.given ≤ at + steps_of reply }
+        ensures behind { self.new.from + self.new.given ≤ at + reply_steps reply }
         ensures later { self.old.from ≤ self.new.from }
     {
         self.begin(at);
@@ -559,9 +559,9 @@ fn looked_steps(lap: u64) -> u64
 
 // What counts of a visit: the steps that it jumped over from a count on.
 fn given_at(reached: u64, at: u64, reply: Option<u64>) -> u64
-    requires most { at + steps_of reply ≤ 2 ^ 41 }
+    requires most { at + reply_steps reply ≤ 2 ^ 41 }
     ensures given { result ≡ given_at reached at reply }
-    ensures most { result ≤ steps_of reply }
+    ensures most { result ≤ reply_steps reply }
 {
     (at + reply.unwrap_or(0)).saturating_sub(at.max(reached))
 }

@@ -15,7 +15,7 @@ use Rattle.asc_words.specs.declared.answer.BatchRun.{BatchRun}
 use Rattle.asc_words.specs.declared.answer.Counts.{Counts}
 use Rattle.asc_top.specs.Program.{run_of_image}
 use Rattle.asc_top.specs.Numbers.{course_of_image, guessing_of, numbers_of, recognised_by}
-use Rattle.asc_top.specs.Batch.{AreRunsTold, AreSerialRuns, IsRunTold, MakesRuns, outputs_of, put_by, steps_of}
+use Rattle.asc_top.specs.Batch.{AreRunsTold, AreSerialRuns, IsRunTold, MakesRuns, outputs_of, put_by, batch_steps}
 use Rattle.asc_top.specs.BatchAnswer.{batch_texts}
 use Rattle.asc_top.specs.Runner.{IsSerialFrom, Keeps, MakesRun}
 use Rattle.asc_top.specs.declared.runner.Runner.{Runner}
@@ -60,7 +60,7 @@ module _ (line : RunLine) (image : loader.Image) where
   told-more number (first ∷ inputs) [] executed input run here never is = absurd never
 
   -- no more steps were executed than they have
-  pub executed-most : (number : ℕ) (inputs : List (List ℕ)) (told : List BatchRun) (executed : ℕ) → AreRunsTold line image number inputs told executed → executed ≤ steps_of line image inputs
+  pub executed-most : (number : ℕ) (inputs : List (List ℕ)) (told : List BatchRun) (executed : ℕ) → AreRunsTold line image number inputs told executed → executed ≤ batch_steps line image inputs
   executed-most number [] [] executed none = omega (arith, none)
   executed-most number (first ∷ inputs) (one ∷ told) executed (now, rest, sum, is_first, are) =
       let most = is_first.most in

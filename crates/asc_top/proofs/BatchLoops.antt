@@ -13,7 +13,7 @@ use Rattle.asc_words.specs.declared.answer.BatchRun.{BatchRun}
 use Rattle.asc_top.specs.Numbers.{settings_of}
 use Rattle.asc_top.specs.BatchAnswer.{batch_texts}
 use Rattle.asc_top.specs.Reported.{Report}
-use Rattle.asc_top.specs.Runner.{BreaksOff, BreaksRuns, EndsRuns, Keeps, MakesRun, ReportsAll, ReportsRun, Serves}
+use Rattle.asc_top.specs.Runner.{BreaksOff, BreaksRuns, EndsRuns, Keeps, MakesRun, ReportsAll, ReportsRun, IsRunnerFor}
 use Rattle.asc_top.specs.declared.runner.Runner.{Runner}
 use Rattle.asc_top.proofs.BatchLists.{SoFar, none-so-far, one-more, texts-more}
 
@@ -26,7 +26,7 @@ module _ (R : Type 0) (line : RunLine) (image : loader.Image) (inputs : List (Li
     pub settings : walk.settings ≡ settings_of line
     pub runs : ℕ
     pub to_come : runs + number ≡ length inputs
-    pub serves : Serves line runs runner
+    pub serves : IsRunnerFor line runs runner
     pub told : List BatchRun
     pub far : SoFar line image (take number inputs) told runner old now
     pub reports : ReportsAll told report reported
@@ -34,7 +34,7 @@ module _ (R : Type 0) (line : RunLine) (image : loader.Image) (inputs : List (Li
   none_told : report ≡ record report { given = given_after report.given [] }
   none_told = λ i. record report { given = sym (given_after-nil report.given) i }
 
-  pub at_first : (walk : Walk) (runner : Runner R) → walk.state.shape ≡ image.start.shape → walk.settings ≡ settings_of line → Serves line (length inputs) runner → Keeps line image.start.shape [] runner
+  pub at_first : (walk : Walk) (runner : Runner R) → walk.state.shape ≡ image.start.shape → walk.settings ≡ settings_of line → IsRunnerFor line (length inputs) runner → Keeps line image.start.shape [] runner
       → At 0 inputs walk runner old report
   at_first walk runner shape settings serves empty = record {
     count = refl;
@@ -61,7 +61,7 @@ module _ (R : Type 0) (line : RunLine) (image : loader.Image) (inputs : List (Li
   pub at_next : (number : ℕ) (left after : List (List ℕ)) (input : List ℕ) (walk now_walk : Walk) (runner new_runner : Runner R) (between now : Outside) (middle reported : Report)
       → At number left walk runner between middle → number < length inputs → get_or left number input ≡ input
       → length after ≡ length left → ((k : ℕ) (d : List ℕ) → number + 1 ≤ k → get_or after k d ≡ get_or left k d)
-      → now_walk.state.shape ≡ image.start.shape → now_walk.settings ≡ settings_of line → ((runs : ℕ) → Serves line (runs + 1) runner → Serves line runs new_runner)
+      → now_walk.state.shape ≡ image.start.shape → now_walk.settings ≡ settings_of line → ((runs : ℕ) → IsRunnerFor line (runs + 1) runner → IsRunnerFor line runs new_runner)
       → ReportsRun line image number input runner new_runner between now middle reported
       → At (number + 1) after now_walk new_runner now reported
   at_next number left after input walk now_walk runner new_runner between now middle reported at below is same_count others shape settings serves run =
@@ -77,7 +77,7 @@ module _ (R : Type 0) (line : RunLine) (image : loader.Image) (inputs : List (Li
         settings = settings;
         runs = at.runs - 1;
         to_come = let to_come = at.to_come in omega (arith, to_come, below);
-        serves = serves (at.runs - 1) (subst (λ n. Serves line n runner) (let to_come = at.to_come in let same : at.runs ≡ at.runs - 1 + 1 = omega (arith, to_come, below) in same) at.serves);
+        serves = serves (at.runs - 1) (subst (λ n. IsRunnerFor line n runner) (let to_come = at.to_come in let same : at.runs ≡ at.runs - 1 + 1 = omega (arith, to_come, below) in same) at.serves);
         told = at.told ++ run.run ∷ [];
         far = subst (λ (l : List (List ℕ)). SoFar line image l (at.told ++ run.run ∷ []) new_runner old now) (sym taken) far;
         reports = more_lines at.told run.run middle reported at.reports run.lines;
@@ -85,9 +85,9 @@ module _ (R : Type 0) (line : RunLine) (image : loader.Image) (inputs : List (Li
 
   -- one more is still to come
   pub serves_one : (number : ℕ) (left : List (List ℕ)) (walk : Walk) (runner : Runner R) (now : Outside) (reported : Report) → At number left walk runner now reported → number < length inputs
-      → (runs : ℕ) × Serves line (runs + 1) runner
+      → (runs : ℕ) × IsRunnerFor line (runs + 1) runner
   serves_one number left walk runner now reported at below =
-      (at.runs - 1, subst (λ n. Serves line n runner) (let to_come = at.to_come in let same : at.runs ≡ at.runs - 1 + 1 = omega (arith, to_come, below) in same) at.serves)
+      (at.runs - 1, subst (λ n. IsRunnerFor line n runner) (let to_come = at.to_come in let same : at.runs ≡ at.runs - 1 + 1 = omega (arith, to_come, below) in same) at.serves)
 
   -- all were run
   pub at_end : (number : ℕ) (left : List (List ℕ)) (walk : Walk) (runner : Runner R) (now : Outside) (reported : Report) → At number left walk runner now reported → length inputs ≤ number

@@ -29,9 +29,9 @@ use Rattle.asc_words.specs.declared.answer.RunEnd.TheVariants as run_ends
 use Rattle.asc_top.specs.Program.{IsStopped, answer_at, image_alone, load_of, run_of_image}
 use Rattle.asc_top.specs.Numbers.{AreCountsOf, WorkersAreTold, counts_of, course_of_image, guessing_of, has_workers, keeps_entries, numbers_of, recognised_by, settings_of}
 use Rattle.asc_top.specs.Endings.{device_of_answer}
-use Rattle.asc_top.specs.Ran.{IsNew, Walked}
+use Rattle.asc_top.specs.Ran.{HasNoCounts, Walked}
 use Rattle.asc_top.specs.Batch.{AreBatchCounts, IsRunTold, answer_of}
-use Rattle.asc_top.specs.Runner.{IsHelpOf, IsSerialFrom, Keeps, MakesRun, Serves, StopsRun}
+use Rattle.asc_top.specs.Runner.{IsHelpOf, IsSerialFrom, Keeps, MakesRun, IsRunnerFor, StopsRun}
 use Rattle.asc_top.specs.declared.runner.Runner.{Runner}
 use Rattle.asc_top.specs.declared.runner.Runner.TheVariants.{Plain, Alone, Beside}
 use Rattle.asc_top.proofs.Alone.{keeps_none}
@@ -69,7 +69,7 @@ serial-same limit run first (v ∷ before) now made serial =
 
 -- the run of an image over an input, of which this was told
 module _ (line : RunLine) (image : loader.Image) (input : List ℕ) (was now : Walk) (is : was ≡ new_walk image (settings_of line)) (old new : Outside) (told_input : old.left ≡ Some input)
-    (first last : Aid) (conclusion : Conclusion) (w : Walked line.report was now old new first last conclusion.workers conclusion) (fresh : IsNew first) where
+    (first last : Aid) (conclusion : Conclusion) (w : Walked line.report was now old new first last conclusion.workers conclusion) (fresh : HasNoCounts first) where
   abbrev recognised : Recognised
   recognised = (settings_of line).recognised
 
@@ -208,12 +208,12 @@ module _ (line : RunLine) (image : loader.Image) (input : List ℕ) (was now : W
       (by.run, by.empty)
 
   -- by what serves it
-  pub plain_by : {R : Type 0} (before after : Runner R) (runs : ℕ) → Serves line runs before → IsHelpOf before after first last → IsPlain
+  pub plain_by : {R : Type 0} (before after : Runner R) (runs : ℕ) → IsRunnerFor line runs before → IsHelpOf before after first last → IsPlain
   plain_by Plain after runs serves help = λ _ _. plain_of_none line image recognised line.report was now is old new first last conclusion.workers conclusion w fresh help.1
   plain_by (Alone helper) after runs serves help = λ _ unasked. let none = keeps_none line serves.0 unasked in let keeps = serves.2 in absurd (cc (none, keeps))
   plain_by (Beside crew) after runs serves help = λ alone _. let some = serves.0 in absurd (let no : ⊥ = omega (arith, alone, some) in no)
 
-  serial_by : {R : Type 0} (before after : Runner R) (runs : ℕ) (content : List Entry) → Serves line runs before → IsHelpOf before after first last → Keeps line image.start.shape content before → line.workers ≡ 0
+  serial_by : {R : Type 0} (before after : Runner R) (runs : ℕ) (content : List Entry) → IsRunnerFor line runs before → IsHelpOf before after first last → Keeps line image.start.shape content before → line.workers ≡ 0
       → SerialFrom content (λ c. Keeps line image.start.shape c after)
   serial_by {R = R} Plain after runs content serves help keeps alone =
       subst (λ (r : Runner R). SerialFrom content (λ c. Keeps line image.start.shape c r)) (sym help.3)
@@ -224,7 +224,7 @@ module _ (line : RunLine) (image : loader.Image) (input : List ℕ) (was now : W
   serial_by (Alone helper) (Beside crew) runs content serves help keeps alone = absurd help
   serial_by (Beside crew) after runs content serves help keeps alone = let some = serves.0 in absurd (let no : ⊥ = omega (arith, alone, some) in no)
 
-  pub serial_from : {R : Type 0} (before after : Runner R) (runs : ℕ) (run : BatchRun) → Serves line runs before → IsHelpOf before after first last → run.counts ≡ conclusion.counts → device_of w.ended ≡ None
+  pub serial_from : {R : Type 0} (before after : Runner R) (runs : ℕ) (run : BatchRun) → IsRunnerFor line runs before → IsHelpOf before after first last → run.counts ≡ conclusion.counts → device_of w.ended ≡ None
       → IsSerialFrom line image input run before after
   serial_from before after runs run serves help counts_is going = λ content keeps alone.
       subst (λ (c : Option Counts). ToldFrom content (λ x. Keeps line image.start.shape x after) c) (sym (counts_is ∙ counts_are going))
@@ -283,7 +283,7 @@ module _ (line : RunLine) (image : loader.Image) (input : List ℕ) (was now : W
       no_device (run_ends.Fault fault) = refl
 
   -- a run that is served so, and of which this is told
-  module _ (R : Type 0) (before after : Runner R) (runs : ℕ) (serves : Serves line runs before) (help : IsHelpOf before after first last) (workers : WorkersAreTold line conclusion.counts conclusion.workers)
+  module _ (R : Type 0) (before after : Runner R) (runs : ℕ) (serves : IsRunnerFor line runs before) (help : IsHelpOf before after first last) (workers : WorkersAreTold line conclusion.counts conclusion.workers)
       (number steps : ℕ) (run : BatchRun) (run_is : run ≡ record { number = number; end = run.end; steps = steps; counts = conclusion.counts; workers = conclusion.workers })
       (answers_so : answer_of run.end steps ≡ conclusion.answer) (steps_are : steps ≡ now.count) where
     going : device_of w.ended ≡ None

@@ -64,9 +64,9 @@ outputs_of line image (input ∷ inputs) =
     then_io (put_by (run_of_image line image input)) (outputs_of line image inputs)
 
 -- how many steps they have in all
-abbrev pub steps_of : RunLine → loader.Image → (inputs : List (List ℕ)) → ℕ
-steps_of line image [] = 0
-steps_of line image (input ∷ inputs) = (run_of_image line image input).count + steps_of line image inputs
+abbrev pub batch_steps : RunLine → loader.Image → (inputs : List (List ℕ)) → ℕ
+batch_steps line image [] = 0
+batch_steps line image (input ∷ inputs) = (run_of_image line image input).count + batch_steps line image inputs
 
 -- what runs over inputs come to, of which this one is the first that is too long
 abbrev pub result_of_inputs : RunLine → loader.Image → (inputs : List (List ℕ)) → (long : Option ℕ) → ProgramResult
@@ -74,7 +74,7 @@ result_of_inputs line image inputs (Some number) = refusal (answers.InputTooLong
 result_of_inputs line image inputs None = record {
   answer = answers.Done 0;
   io = outputs_of line image inputs;
-  count = steps_of line image inputs;
+  count = batch_steps line image inputs;
 }
 
 -- what a batch of a loaded file comes to

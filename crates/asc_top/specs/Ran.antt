@@ -127,7 +127,7 @@ loaded_helper shape guessing entries =
     record (first_helper shape guessing) { machine = serial_of shape guessing (content_of MOST_ENTRIES entries) }
 
 -- a helper that has done nothing
-pub record IsNew (first : Aid) : Type 0 where
+pub record HasNoCounts (first : Aid) : Type 0 where
   pub jumps : first.jumps ≡ jumps 0 0 0
   pub made : first.plan.made ≡ 0
   pub refused : first.plan.refused ≡ 0

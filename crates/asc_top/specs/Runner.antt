@@ -21,7 +21,7 @@ use Rattle.asc_words.specs.Line.{file_limit}
 use Rattle.asc_top.specs.Program.{IsStopped, image_alone, load_of, run_of_image}
 use Rattle.asc_top.specs.Numbers.{WorkersAreTold, course_of_image, guessing_of, keeps_entries, numbers_of, recognised_by}
 use Rattle.asc_top.specs.Endings.{device_of_answer}
-use Rattle.asc_top.specs.Ran.{IsNew, Walked}
+use Rattle.asc_top.specs.Ran.{HasNoCounts, Walked}
 use Rattle.asc_top.specs.Reported.{Report}
 use Rattle.asc_top.specs.Batch.{IsRunTold, MakesRuns, put_by}
 use Rattle.asc_top.specs.BatchAnswer.{CutsRun, StopsBehind, batch_texts}
@@ -30,10 +30,10 @@ use Rattle.asc_top.specs.declared.runner.Runner.{Runner}
 use Rattle.asc_top.specs.declared.runner.Runner.TheVariants.{Plain, Alone, Beside}
 
 -- it serves a line's runs, so many of which are still to come
-abbrev pub Serves : {R : Type 0} → RunLine → (runs : ℕ) → Runner R → Type 0
-Serves line runs Plain = (line.load ≡ None) × (line.workers ≡ 0) × (keeps_entries line ≡ false)
-Serves line runs (Alone helper) = (line.load ≡ None) × (line.workers ≡ 0) × (keeps_entries line ≡ true)
-Serves line runs (Beside crew) = (0 < line.workers) × (crew.guessing ≡ guessing_of line) × (crew.crew ≡ crew_of line)
+abbrev pub IsRunnerFor : {R : Type 0} → RunLine → (runs : ℕ) → Runner R → Type 0
+IsRunnerFor line runs Plain = (line.load ≡ None) × (line.workers ≡ 0) × (keeps_entries line ≡ false)
+IsRunnerFor line runs (Alone helper) = (line.load ≡ None) × (line.workers ≡ 0) × (keeps_entries line ≡ true)
+IsRunnerFor line runs (Beside crew) = (0 < line.workers) × (crew.guessing ≡ guessing_of line) × (crew.crew ≡ crew_of line)
     × (runs ≤ crew.runs)
 
 -- the serial runs before, of images of this shape, have left this content
@@ -59,7 +59,7 @@ pub record RunsOnce {R : Type 0} (line : RunLine) (was now : Walk) (before after
     (conclusion : Conclusion) : Type 0 where
   pub first : Aid
   pub last : Aid
-  pub fresh : IsNew first
+  pub fresh : HasNoCounts first
   pub walked : Walked line.report was now old new first last conclusion.workers conclusion
   pub workers : WorkersAreTold line conclusion.counts conclusion.workers
   pub help : IsHelpOf before after first last

@@ -15,7 +15,7 @@ ghost use Rattle.asc_top.specs.Endings.{device_of_answer};
 ghost use Rattle.asc_top.specs.Numbers.{settings_of};
 ghost use Rattle.asc_top.specs.Program.{answer_at, load_of};
 ghost use Rattle.asc_top.specs.Reported.{report_with};
-ghost use Rattle.asc_top.specs.Runner.{BreaksOff, BreaksRuns, EndsRuns, Keeps, ReportsRun, Serves, guest_of, outputs};
+ghost use Rattle.asc_top.specs.Runner.{BreaksOff, BreaksRuns, EndsRuns, Keeps, ReportsRun, IsRunnerFor, guest_of, outputs};
 
 use crate::batch_files::{BatchFiles, read_batch};
 use crate::program::reported;
@@ -274,7 +274,7 @@ fn run_inputs<
     requires line { IsRunWithin line.now }
     requires shape { walk.old.state.shape ≡ image.now.start.shape }
     requires settings { walk.old.settings ≡ settings_of line.now }
-    requires serves { Serves line.now (length inputs.old) runner.old }
+    requires serves { IsRunnerFor line.now (length inputs.old) runner.old }
     requires empty { Keeps line.now image.now.start.shape [] runner.old }
     ensures ended { IfOk result (λ _. EndsRuns line.now image.now inputs.old (outputs devices.old steps.old)
         (outputs devices.new steps.new)
@@ -327,10 +327,10 @@ fn run_input<
     requires line { IsRunWithin line.now }
     requires shape { walk.old.state.shape ≡ image.now.start.shape }
     requires settings { walk.old.settings ≡ settings_of line.now }
-    requires serves { (runs : ℕ) × Serves line.now (runs + 1) runner.old }
+    requires serves { (runs : ℕ) × IsRunnerFor line.now (runs + 1) runner.old }
     ensures shape { OnOk result (walk.new.state.shape ≡ image.now.start.shape) }
     ensures settings { walk.new.settings ≡ settings_of line.now }
-    ensures serves { (runs : ℕ) → Serves line.now (runs + 1) runner.old → Serves line.now runs runner.new }
+    ensures serves { (runs : ℕ) → IsRunnerFor line.now (runs + 1) runner.old → IsRunnerFor line.now runs runner.new }
     ensures ended { IfOk result (λ _. ReportsRun line.now image.now number input.old
         runner.old runner.new (outputs devices.old steps.old) (outputs devices.new steps.new)
         (report_with (R.given report.old) (R.faults report.old)) (report_with (R.given report.new) (R.faults report.new))) }

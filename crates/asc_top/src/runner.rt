@@ -2,7 +2,7 @@
 ghost use Rattle.std.specs.Prelude.{◌≡◌, ◌+◌, ◌≤◌, ℕ, [], IfOk, IsNone, None};
 ghost use Rattle.asc_calls.specs.World.{outside_of};
 ghost use Rattle.asc_words.specs.Line.{IsRunWithin};
-ghost use Rattle.asc_top.specs.Runner.{Keeps, RunsOnce, Serves};
+ghost use Rattle.asc_top.specs.Runner.{Keeps, RunsOnce, IsRunnerFor};
 
 use crate::run::{run_with, worked_conclusion};
 use crate::settings::{crew_of, guessing_of, keeps_entries};
@@ -42,7 +42,7 @@ impl<T: Threads + Wait + Sync + Copy + Drop + Send> Runner<T> {
         requires line { IsRunWithin line.now }
         requires unloaded { line.now.load ≡ None }
         requires runs { (1 ≤ runs) × (runs ≤ 64) }
-        ensures serves { IfOk result (λ runner. Serves line.now runs runner) }
+        ensures serves { IfOk result (λ runner. IsRunnerFor line.now runs runner) }
         ensures empty { IfOk result (λ runner. Keeps line.now shape [] runner) }
     {
         if line.workers > 0 {
@@ -70,8 +70,8 @@ impl<T: Threads + Wait + Sync + Copy + Drop + Send> Runner<T> {
     ) -> Conclusion
         requires new { IsNone walk.old.ended }
         requires line { IsRunWithin line.now }
-        requires serves { (runs : ℕ) × Serves line.now (runs + 1) self.old }
-        ensures serves { (runs : ℕ) → Serves line.now (runs + 1) self.old → Serves line.now runs self.new }
+        requires serves { (runs : ℕ) × IsRunnerFor line.now (runs + 1) self.old }
+        ensures serves { (runs : ℕ) → IsRunnerFor line.now (runs + 1) self.old → IsRunnerFor line.now runs self.new }
         ensures runs { RunsOnce line.now walk.old walk.new self.old self.new (outside_of devices.old steps.old)
             (outside_of devices.new steps.new) result }
     {

@@ -17,8 +17,8 @@ own_steps n s e (Went after) goes is =
 own_steps n s e Call goes is = let none : None ≡ Some e = sym (entry_of-is n s Call goes) ∙ is in absurd (cc)
 own_steps n s e (Faulted fault) goes is = let none : None ≡ Some e = sym (entry_of-is n s (Faulted fault) goes) ∙ is in absurd (cc)
 
-pub returns-in-One : goal.returns-in-One
-returns-in-One c =
+pub returns-in-One-clause-some : goal.returns-in-One-clause-some
+returns-in-One-clause-some c =
     let entry = arc_value c.in-One.entry in
     let began = c.last-guess.ensures ∙ c.in_ok-of.ensures in
     subst (λ (s : State). entry_of entry.steps s ≡ Some entry) began (own_steps _ _ entry _ refl c.in-One.ensures.made.1)

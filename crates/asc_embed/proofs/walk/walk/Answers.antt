@@ -1,5 +1,5 @@
 -- Steps that lead on behind others.
-use Rattle.std.proofs.Common.{◌≡◌, ℕ, ◌+◌, ◌<◌, refl, ◌∙◌, subst, lit≤, arith}
+use Rattle.std.proofs.Common.{◌≡◌, ℕ, ◌+◌, refl, ◌∙◌, subst, lit≤, arith}
 use Rattle.asc_model.specs.State.{State}
 use Rattle.asc_model.specs.Step.{Went}
 use Rattle.asc_model.specs.Plain.{plain}

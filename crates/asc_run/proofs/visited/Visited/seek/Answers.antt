@@ -1,6 +1,6 @@
 -- The program comes as far as plain execution, landing by landing and turn by turn, and its search goes along.
 use Rattle.std.proofs.Common.{Some, None, refl, sym, ap, ◌∙◌, arith, ◌+◌}
-use Rattle.asc_seek.specs.Seek.{steps_of}
+use Rattle.asc_seek.specs.Seek.{reply_steps}
 use Rattle.asc_run.specs.Visits.{is_at}
 use Rattle.asc_run.proofs.Shapes.{jump-shape, plain-shape}
 use Rattle.asc_run.proofs.Landings.{asked-more, given-more, hits-more, landing-small}
@@ -57,7 +57,7 @@ loop-limit-preserved-in-Some g c =
     record {
       walk = seeks-jump c.args.limit c.args.seeker.now.seeking _ _ _ _ _ _ _ _ _ _ _ _ _ _ _ _ c.loop-limit.seeker c.advance.new.self c.learn-most.new.seeker c.watched-pc.result _ _ _ (ap (λ p. p.process.calls) e.kept) count skipped u.seek u.going c.watched-pc.ensures (omega (arith, within, not_limit)) n
           (learnt-is _ b at _ (Some n) _ _ l.seek is c.in-Some.is) e.jump e.passed v.walk e.number e.helped e.machine;
-      behind = (let told = ap steps_of c.in-Some.is in l.behind _ (omega (arith, count, least, told)));
+      behind = (let told = ap reply_steps c.in-Some.is in l.behind _ (omega (arith, count, least, told)));
       early = IsEarly-later (c.land-reply.new.self.process.count + 1) _ c.learn-most.new.seeker (omega arith) (IsEarly-learnt _ at c.land-reply.new.self.process.count _ c.loop-limit.seeker c.advance.new.self c.learn-most.new.seeker u.seek l.seek count v.early);
       seeking = learnt-seeking _ at _ c.loop-limit.seeker c.advance.new.self c.learn-most.new.seeker u.seek l.seek ∙ v.seeking;
       shape = jump-shape (Some n) _ _ _ e.jump ∙ v.shape;
@@ -128,7 +128,7 @@ loop-limit-preserved-in_default-stop_noting g c =
           (learnt-is _ b at _ None _ _ l.seek is c.in_default.is) e.jump v.walk e.number e.helped e.machine in
           let mid = seeks-still c.args.limit c.args.seeker.now.seeking _ b _ _ _ _ _ _ _ _ _ _ _ _ _ _ c.learn-most.result c.learn-most.new.seeker c.go_noting-stopped.new.seeker c.watched-pc.result _ _ may (ap (λ p. p.calls) p.kept) p.counter p.goes p.noted p.other (still ∙ sym count) step in
           seeks-turn c.args.limit c.args.seeker.now.seeking _ b _ _ _ _ _ _ c.learn-most.result c.go_noting-stopped.new.seeker c.stop_noting.new.seeker c.watched-pc.result _ _ mid.1 mid.0 turn (t.noted refl) t.other;
-      behind = (let told = ap steps_of c.in_default.is in t.behind _ (p.behind _ (l.behind _ (omega (arith, one, still, told)))));
+      behind = (let told = ap reply_steps c.in_default.is in t.behind _ (p.behind _ (l.behind _ (omega (arith, one, still, told)))));
       early = t.earlier refl;
       seeking = t.seeking ∙ p.seeking ∙ learnt-seeking _ at _ c.loop-limit.seeker c.advance.new.self c.learn-most.new.seeker u.seek l.seek ∙ v.seeking;
       shape = turn.shape ∙ plain-shape _ _ _ p.goes ∙ jump-shape None 0 _ _ e.jump ∙ v.shape;
@@ -164,7 +164,7 @@ loop-limit-preserved g c =
           let step = seeks-step c.args.limit c.args.seeker.now.seeking _ _ _ _ _ _ _ _ _ _ _ _ _ _ _ _ c.loop-limit.seeker c.advance.new.self c.learn-most.new.seeker c.watched-pc.result _ _ _ (ap (λ p. p.process.calls) e.kept) count same_given u.seek u.going c.watched-pc.ensures (omega (arith, within, not_limit))
           (learnt-is _ b at _ None _ _ l.seek is c.in_default.is) e.jump v.walk e.number e.helped e.machine in
           seeks-plain c.args.limit c.args.seeker.now.seeking _ b _ _ _ _ _ _ _ _ _ _ _ _ _ _ c.learn-most.result c.learn-most.new.seeker c.go_noting-stopped.new.seeker c.watched-pc.result _ _ may (ap (λ p. p.calls) p.kept) p.counter p.goes p.noted p.other (omega (arith, more, moved, count)) most p.passes step;
-      behind = (let told = ap steps_of c.in_default.is in p.behind _ (l.behind _ (omega (arith, more, moved, count, told))));
+      behind = (let told = ap reply_steps c.in_default.is in p.behind _ (l.behind _ (omega (arith, more, moved, count, told))));
       early = p.earlier;
       seeking = p.seeking ∙ learnt-seeking _ at _ c.loop-limit.seeker c.advance.new.self c.learn-most.new.seeker u.seek l.seek ∙ v.seeking;
       shape = plain-shape _ _ _ p.goes ∙ jump-shape None 0 _ _ e.jump ∙ v.shape;

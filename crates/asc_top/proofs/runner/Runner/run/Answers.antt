@@ -8,7 +8,7 @@ use Rattle.asc_words.specs.declared.answer.Conclusion.{Conclusion}
 use Rattle.asc_top.specs.Numbers.{guessing_of}
 use Rattle.asc_top.specs.Workers.{crew_of}
 use Rattle.asc_top.specs.Ran.{WalkedBeside}
-use Rattle.asc_top.specs.Runner.{IsHelpOf, Serves}
+use Rattle.asc_top.specs.Runner.{IsHelpOf, IsRunnerFor}
 use Rattle.asc_top.specs.declared.runner.Runner.{Runner}
 use Rattle.asc_top.specs.declared.runner.Runner.TheVariants.{Beside}
 use Rattle.asc_top.proofs.Beside.{walked_beside}
@@ -19,7 +19,7 @@ returns-in-Beside-clause-runs g c =
     let line = c.args.line.now in
     let worked = c.go-worked.result in
     let told = c.counts.ensures in
-    let serves = subst (λ (r : Runner g.row.T.Denot). Serves line (c.requires.serves.0 + 1) r) c.in-Beside.is c.requires.serves.1 in
+    let serves = subst (λ (r : Runner g.row.T.Denot). IsRunnerFor line (c.requires.serves.0 + 1) r) c.in-Beside.is c.requires.serves.1 in
     let old = outside_of c.args.devices.now c.args.steps.now in
     let new = outside_of c.go-worked.new.devices c.go-worked.new.steps in
     let went : WentBeside (guessing_of line) (crew_of line) c.args.walk.now c.go-worked.new.walk old new worked =

@@ -1,5 +1,0 @@
--- The ledger of the steps is the one that is passed.
-use Rattle.asc_upper_tests.proofs.run.runs.Given as goal
-
-abbrev pub ghosts-run : goal.ghosts-run
-ghosts-run g a = record { name = a.blank.name; parts = a.blank.parts }

@@ -1,0 +1,8 @@
+use Rattle.std.proofs.Common.{rules}
+use Rattle.asc_cache.proofs.Opened.{own-of-split}
+use Rattle.asc_worker_tests.proofs.cache.play.Goals as goal
+
+pub play_rows-requires : goal.play_rows-requires
+play_rows-requires g c =
+    own-of-split c.args.shards 2 c.in_ok-open.field-0 c.split-writers.result.0.items c.split-writers.result.1 c.in_ok-open.ensures.opened c.split-writers.ensures.writers c.split-writers.ensures.readers
+    c.args.at (search rules) c.index_mut.result.now (search rules)

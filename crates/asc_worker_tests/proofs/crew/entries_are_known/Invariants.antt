@@ -1,0 +1,5 @@
+-- The ledger of the steps is the one that is passed.
+use Rattle.asc_worker_tests.proofs.crew.entries_are_known.Given as goal
+
+abbrev pub ghosts-count_beside : goal.ghosts-count_beside
+ghosts-count_beside g a = record { name = a.blank.name; parts = a.blank.parts }
