@@ -1,13 +1,17 @@
 #!/usr/bin/env python3
-"""Times runs that workers may burden beside plain ones, outside the gate.
+"""Times runs that workers may burden beside plain ones, outside the gate, or counts what they take.
 
     python3 bench/burdens.py [--program PROGRAM] [--rounds N] [--workers W..] [--kinds KIND..] [--only NAME..] [--all]
+    python3 bench/burdens.py --count STEPS [--program PROGRAM] [--workers W..] [--kinds KIND..] [--only NAME..] [--all]
 
 PROGRAM is the built asc, crates/asc_cli/out/asc_cli where it is not given. Each case is a program with an address for
 --pc. It runs plainly N times (3), and N times with each kind of guess (none, stride, both) and each number of workers
 (1, 3, 64). What is written and the status have to be the same. The least time by the clock with workers is divided by the
 plain run's least. A case may take twice a plain run's time, and four times where a lap has fewer than 20 steps. For each
 case, the steps of a lap and the greatest ratio are printed, and with --all each. The status is 1 where a case takes more.
+
+With --count each run goes over so many steps at most, and once. In place of times stand the instructions that callgrind
+counts of the run's own thread, in millions those of the plain run. It wants no idle processors.
 
     spin     an endless loop of one instruction, up to a limit, visited at each step
     spread   a loop that puts a word into each page of 16 MiB in a lap
@@ -68,16 +72,32 @@ def cases(folder):
         yield short, [path, *options], text, [f"{head.pc:x}" for head in heads]
 
 
+class Counted:
+    """What a run gave: its output and status, and in place of seconds the instructions of its own thread, in thousands of
+    millions."""
+
+    def __init__(self, words, given):
+        with open(given, "rb") as file:
+            run = harness.first_thread(words, stdin=file)
+        self.words, self.seconds, self.gave = run.line, run.instructions / 1e9, (run.stdout, run.returncode)
+
+
 class Case:
     """A program that is run again and again."""
 
     def __init__(self, asked, words, given):
         self.asked, self.words, self.given = asked, words, given
+        if asked.count and "--steps" in words:
+            self.words = words[:words.index("--steps")]
+        if asked.count:
+            self.words = [*self.words, "--steps", str(asked.count)]
         self.plain = self.best([])
 
     def best(self, options):
-        runs = [Run([self.asked.program, "run", *self.words, *options], self.given) for _ in range(self.asked.rounds)]
-        return min(runs, key=lambda run: run.seconds)
+        words = [self.asked.program, "run", *self.words, *options]
+        if self.asked.count:
+            return Counted(words, self.given)
+        return min((Run(words, self.given) for _ in range(self.asked.rounds)), key=lambda run: run.seconds)
 
     def ratio(self, options):
         run = self.best(options)
@@ -116,9 +136,10 @@ def main():
     parser.add_argument("--kinds", nargs="+", default=["none", "stride", "both"], help="kinds of guesses")
     parser.add_argument("--only", nargs="+", metavar="NAME", help="the programs to run (all)")
     parser.add_argument("--all", action="store_true", help="print each ratio")
+    parser.add_argument("--count", type=int, metavar="STEPS", help="count instructions, over so many steps")
     asked = parser.parse_args()
     harness.asc(asked.program)
-    print("program              pc         lap plain ms    most  with")
+    print(f"program              pc         lap{' millions' if asked.count else ' plain ms'}    most  with")
     within = True
     with tempfile.TemporaryDirectory() as folder:
         for name, words, text, addresses in cases(folder):

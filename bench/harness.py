@@ -12,6 +12,7 @@ import resource
 import shutil
 import subprocess
 import sys
+import tempfile
 import time
 from pathlib import Path
 
@@ -156,6 +157,17 @@ def callgrind(words, **given):
 def instructions(words, **given):
     """The processor's instructions of a run."""
     return callgrind(words, **given).instructions
+
+
+def first_thread(words, **given):
+    """A run, with the instructions that callgrind counts of its first thread. Its threads take turns."""
+    with tempfile.TemporaryDirectory() as folder:
+        counts = Path(folder, "counts")
+        run = measured(["valgrind", "--tool=callgrind", "--fair-sched=yes", "--separate-threads=yes",
+                        f"--callgrind-out-file={counts}", *words], env={**os.environ, **WIDE}, **given)
+        text = Path(f"{counts}-01").read_text() if run.returncode != 1 else end(f"{run.line}: {run.stderr!r}")
+        run.instructions = int(re.search(r"^totals: (\d+)", text, re.MULTILINE)[1])
+    return run
 
 
 def print_load(when):

@@ -42,7 +42,9 @@ impl<R: Wait + Drop> Model for ShardReaders<R> {
     ghost invariant = { λ r. r.hits ≤ r.asked };
 }
 
-/// Asks shard after shard, each once, up to the first that finds a jump.
+/// Asks shard after shard, each once, up to the first that finds a jump. It stands out of line, so that a look-up within no
+/// steps saves no registers for it.
+#[inline(never)]
 fn jump_all<R: Wait>(
     rt: &R,
     readers: &mut [ShardReader],

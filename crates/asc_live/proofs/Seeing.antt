@@ -13,10 +13,10 @@ use Rattle.asc_find.specs.Finder.{Seen}
 use Rattle.asc_find.specs.Helper.{Plans, Sees, seen, newly_guessed, guesses_at}
 use Rattle.asc_find.specs.Serial.{kinds_of, tasks_of}
 use Rattle.asc_run.proofs.Seeings.{newly-later, guesses_until-more}
-use Rattle.asc_run.specs.LastVisits.{issued_after}
-use Rattle.asc_live.specs.Budget.{Budget, pays}
+use Rattle.asc_run.specs.LastVisits.{LastVisits, forgotten, issued_after, skipped}
+use Rattle.asc_live.specs.Budget.{Budget, after_visit, pays}
 use Rattle.asc_live.specs.Due.{Due, Pusher, Pushes, full_of, is_filled, jobs_of, raised}
-use Rattle.asc_live.specs.Live.{Live, IsLive, HasSeen, LearnsOf, plan_of, charged, due_by, given_up, is_guessing, is_needless, is_passed_over, offers_at, seen_after}
+use Rattle.asc_live.specs.Live.{Live, IsLive, HasSeen, LearnsOf, live, plan_of, charged, due_by, given_up, is_guessing, is_needless, is_passed_over, offers_at, seen_after}
 use Rattle.asc_live.proofs.Pushing.{nothing, Pushes-few, Pushes-none-offered, both-true, filled-is, full-is, pushed-length, room-more}
 use Rattle.asc_live.proofs.Tasks.{kinds-few, twice, visit-length}
 
@@ -244,7 +244,7 @@ on-and-off : (guesses : Bool) → guesses ≡ false → guesses ≡ true → ⊥
 on-and-off true off on = cc
 on-and-off false off on = cc
 
-pub passed-filled : {F : Type 0} (l : Live F) → is_passed_over l ≡ true → is_guessing l.guessing ≡ true → is_filled l.pusher.giver ≡ true
+passed-filled : {F : Type 0} (l : Live F) → is_passed_over l ≡ true → is_guessing l.guessing ≡ true → is_filled l.pusher.giver ≡ true
 passed-filled l passed on = passes-filled (is_guessing l.guessing) (is_filled l.pusher.giver) (pays l.budget) l.budget.knows on passed
 
 -- two visits were seen before, since jobs were pushed
@@ -325,6 +325,25 @@ given_up-told number pages last old q room before told next same =
           ∙ (λ i. length old.pusher.giver.pushed + full_of old.pusher + guesses_at (is.1 i) (sym next i)),
     )
 
+-- where all visits before were seen, memory never was wanting
+seen-without : (number refused : ℕ) (before : Option ℕ) → ((n : ℕ) → before ≡ Some n → refused ≡ 0) → seen_after number refused before ≡ seen_after number 0 before
+seen-without number refused None none = refl
+seen-without number refused (Some n) none = ap (λ r. seen_after number r (Some n)) (none n refl)
+
+-- what is left of the fields where one is passed over
+pub passed-is : {F : Type 0} (number : ℕ) (finder : F) (visits : LastVisits) (pusher : Pusher) (before : Option ℕ) (workers : ℕ) (budget : Budget)
+    (visits' : LastVisits) (pusher' : Pusher) (after : Option ℕ) (budget' : Budget) → IsLive (live finder visits pusher before workers budget)
+    → visits' ≡ skipped number (forgotten visits) → pusher' ≡ record pusher { passed = pusher.passed + length (kinds_of visits.guessing) }
+    → after ≡ seen_after number 0 before → budget' ≡ after_visit (is_guessing visits.guessing) (is_filled pusher.giver) 0 budget
+    → live finder visits' pusher' after workers budget' ≡ given_up number None (charged 0 (live finder visits pusher before workers budget))
+passed-is number finder visits pusher before workers budget visits' pusher' after budget' q v p s b =
+    let seen = s ∙ sym (seen-without number pusher.refused before (λ n e. (q.seen n e).refused)) in
+    λ j. live finder (v j) (p j) (seen j) workers (b j)
+
+-- one that is passed over
+pub passed-live : {F : Type 0} (number pages : ℕ) (old : Live F) → number ≤ 2 ^ 40 → IsLive old → is_passed_over old ≡ true → IsLive (given_up number None (charged pages old))
+passed-live number pages old most q passed = given_up-live number None (charged pages old) most (charged-live pages old q) (passed-filled old passed)
+
 -- ---- a visit that nobody needs
 
 -- what it leaves
@@ -399,7 +418,7 @@ left-told number now old q on e before told next same =
 
 -- what a visit leaves is such a helper
 pub visit-live : {F : Type 0} (number pages : ℕ) (now : State) (old new : Live F) → number ≤ 2 ^ 40 → IsLive old → LearnsOf number pages now old new → IsLive new
-visit-live number pages now old new most q (inl v) = subst IsLive (sym v.rest) (given_up-live number None (charged pages old) most (charged-live pages old q) (passed-filled old v.passed))
+visit-live number pages now old new most q (inl v) = subst IsLive (sym v.rest) (passed-live number pages old most q v.passed)
 visit-live number pages now old new most q (inr (inl v)) = subst IsLive (sym v.rest) (given_up-live number None (charged 0 old) most (charged-live 0 old q) (λ on. absurd (on-and-off (is_guessing old.guessing) v.off on)))
 visit-live number pages now old new most q (inr (inr (inl v))) = subst IsLive (sym v.rest) (left-live number now old most q v.on v.needless)
 visit-live number pages now old new most q (inr (inr (inr (inl v)))) = subst IsLive (sym v.rest) (given_up-live number (Some now) (charged pages old) most (charged-live pages old q) (λ on. v.filled))

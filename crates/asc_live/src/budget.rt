@@ -1,4 +1,4 @@
-ghost use Rattle.std.specs.Prelude.{◌≡◌, ◌<◌, ◌≤◌, ◌^◌, ℕ, Bool, true, false, IfSome};
+ghost use Rattle.std.specs.Prelude.{◌≡◌, ◌+◌, ◌-◌, ◌<◌, ◌≤◌, ◌^◌, ℕ, Bool, min, true, false, IfSome};
 ghost use Rattle.asc_live.specs.Budget.{new_budget, passes, pays, after_visit, after_look_up};
 
 use asc_model::MOST_WORKERS;
@@ -23,10 +23,13 @@ const ROW: u64 = 32;
 /// What the visits of a walk may cost. It changes no answer of a run.
 #[derive(Drop)]
 pub struct Budget {
-    // What a visit costs beside its pages, what is left for visits, and what they took beyond that, in steps of the guest.
+    // What a visit costs beside its pages, in steps of the guest.
     cost: u64,
+    // What was left for visits, what they took beyond that, and how many steps were left to do, when it was last reckoned.
+    // Look-ups of visits that are passed over only note how many are left: what they gain is reckoned later, at once.
     steps: u64,
     owed: u64,
+    reckoned: u64,
     // How many steps were left to do at the last look-up.
     left: u64,
     // Whether the last visit was passed over.
@@ -36,13 +39,16 @@ pub struct Budget {
 }
 
 impl Model for Budget {
+    ghost use Rattle.std.specs.Prelude.{◌≡◌, ◌≤◌, false, None};
     ghost use Rattle.asc_live.specs.Budget as model;
 
     ghost Value = { model.Budget };
 
-    ghost view = { λ b. model.budget b.cost b.steps b.owed b.left b.passing b.knows };
+    ghost view = { λ b. model.after_look_up b.left None
+        (model.budget b.cost b.steps b.owed b.reckoned b.passing b.knows) };
 
-    ghost invariant = { λ b. model.IsBudget (model.budget b.cost b.steps b.owed b.left b.passing b.knows) };
+    ghost invariant = { λ b. model.IsBudget (model.budget b.cost b.steps b.owed b.reckoned b.passing b.knows)
+        × (b.left ≤ b.reckoned) × (b.passing ≡ false → b.left ≡ b.reckoned) };
 }
 
 impl Budget {
@@ -55,6 +61,7 @@ impl Budget {
             cost,
             steps: ROW * cost,
             owed: 0,
+            reckoned: 0,
             left: 0,
             passing: false,
             knows,
@@ -77,12 +84,11 @@ impl Budget {
     fn pays(&self) -> bool
         ensures { result ≡ pays self.now }
     {
-        let wanted = if self.passing {
-            ROW * self.cost
+        if self.passing {
+            ROW * self.cost + self.owed <= self.steps + (self.reckoned - self.left)
         } else {
-            self.cost
-        };
-        wanted <= self.steps
+            self.cost <= self.steps
+        }
     }
 
     /// Notes that a visit is passed over.
@@ -101,20 +107,23 @@ impl Budget {
         ensures { (guesses filled : Bool) → passes guesses filled self.old ≡ false
             → self.new ≡ after_visit guesses filled pages self.old }
     {
-        if self.pays() {
-            let charge = self.cost + PAGE_STEPS * pages as u64;
-            self.owed += charge.saturating_sub(self.steps);
-            self.steps = self.steps.saturating_sub(charge);
-        }
+        let charge = if self.pays() {
+            self.cost + PAGE_STEPS * pages as u64
+        } else {
+            0
+        };
+        let (steps, owed) = self.reckon();
+        self.steps = steps.saturating_sub(charge);
+        self.owed = owed + charge.saturating_sub(steps);
+        self.reckoned = self.left;
         self.passing = false;
     }
 
-    /// How many steps a look-up may jump over, where so many are left: none at a visit that was passed over.
-    pub fn reach(&self, left: u64) -> u64
-        ensures made { self.now.passing ≡ false → result ≡ left }
-        ensures passed { self.now.passing ≡ true → result ≡ 0 }
+    /// Whether the last visit was passed over.
+    pub fn is_passing(&self) -> bool
+        ensures { result ≡ self.now.passing }
     {
-        if self.passing { 0 } else { left }
+        self.passing
     }
 
     /// The steps since the last look-up, and what this one saved, pay what is owed. By the rest it grows, up to what a row
@@ -124,10 +133,39 @@ impl Budget {
         requires jumped { IfSome jumped (λ steps. steps ≤ 2 ^ 40) }
         ensures { self.new ≡ after_look_up left jumped self.old }
     {
-        let gone = self.left.saturating_sub(left);
-        let gained = gone + SAVED * jumped.unwrap_or(0);
-        self.steps = (self.steps + gained.saturating_sub(self.owed)).min(ROW * self.cost);
-        self.owed = self.owed.saturating_sub(gained);
+        if self.passing && jumped.is_none() && left <= self.left {
+            self.left = left;
+            return;
+        }
+        let (steps, owed) = self.reckon();
+        let gained = self.left.saturating_sub(left) + SAVED * jumped.unwrap_or(0);
+        (self.steps, self.owed) = gain(steps, owed, gained, ROW * self.cost);
+        self.reckoned = left;
         self.left = left;
     }
+
+    // What is left for visits, and what is owed.
+    fn reckon(&self) -> (u64, u64)
+        ensures steps { result.0 ≡ self.now.steps }
+        ensures owed { result.1 ≡ self.now.owed }
+    {
+        gain(
+            self.steps,
+            self.owed,
+            self.reckoned - self.left,
+            ROW * self.cost,
+        )
+    }
+}
+
+// What is left for visits, and what is owed, once so much was gained.
+fn gain(steps: u64, owed: u64, gained: u64, most: u64) -> (u64, u64)
+    requires { steps + gained < 2 ^ 64 }
+    ensures steps { result.0 ≡ min (steps + (gained - owed)) most }
+    ensures owed { result.1 ≡ owed - gained }
+{
+    (
+        (steps + gained.saturating_sub(owed)).min(most),
+        owed.saturating_sub(gained),
+    )
 }

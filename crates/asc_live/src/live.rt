@@ -1,13 +1,13 @@
 ghost use Rattle.std.specs.Prelude.{◌≡◌, ◌⊎◌, ◌+◌, ◌/◌, ◌<◌, ◌≤◌, ◌^◌, ◌||◌, not, [], ◌∷◌, length, true, false, None, Some};
 ghost use Rattle.asc_model.specs.Shape.{length_of};
-ghost use Rattle.asc_model.specs.State.{State as state};
+ghost use Rattle.asc_model.specs.State.{IsState, State as state};
 ghost use Rattle.asc_traj.specs.Jump.{IsJump};
 ghost use Rattle.asc_find.specs.Finder.{Tells, jumps_after};
 ghost use Rattle.asc_find.specs.Serial.{Serial, serial_reply};
 ghost use Rattle.asc_find.specs.Helper.{Plans, VisitsMachine, Sees};
 ghost use Rattle.asc_run.specs.LastVisits.{no_visits, issued_after};
 ghost use Rattle.asc_live.specs.Laws.{new_plan};
-ghost use Rattle.asc_live.specs.Live.{IsLive, new_live, plan_of, told_over, given_up, refused_visit, due_by, is_needless, is_passed_over, is_guessing, offers_at, seen_after as seen_by, LearnsOf, LearnsOfWritten};
+ghost use Rattle.asc_live.specs.Live.{IsLive, PassesOver, new_live, plan_of, told_over, given_up, refused_visit, due_by, is_needless, is_passed_over, is_guessing, offers_at, seen_after as seen_by, LearnsOf, LearnsOfWritten};
 ghost use Rattle.asc_jobs.specs.Jobs.{queue_of};
 ghost use Rattle.asc_live.specs.Due.{Pushes, full_of, is_filled};
 ghost use Rattle.asc_live.specs.Budget.{after_look_up};
@@ -220,6 +220,20 @@ impl<'a, F, G, R> Live<'a, F, G, R> {
         self.pusher.leave(self.visits.jobs());
     }
 
+    // Passes a visit over: no state is kept, and no job is pushed, nor offered.
+    fn pass(&mut self, number: u64)
+        requires passed { is_passed_over self.old ≡ true }
+        requires number { number ≤ 2 ^ 40 }
+        requires full { full_of self.old.pusher < 2 ^ 62 }
+        ensures { PassesOver number 0 self.old self.new }
+    {
+        self.budget.pass();
+        self.visits.pass_over(number);
+        self.pusher.pass_over(self.visits.guessing());
+        // Memory never was wanting, where all before it were seen.
+        self.seen = seen_after(self.seen, number, 0);
+    }
+
     // No job of a visit is pushed, nor offered.
     fn give_up(&mut self, number: u64)
         requires seen { self.old.seen ≡ None }
@@ -234,18 +248,43 @@ impl<'a, F, G, R> Live<'a, F, G, R> {
 }
 
 impl<'a, F, G, R: Wait> Live<'a, F, G, R> {
-    // Makes a visit of a state of which so many pages are to be copied, or passes it over.
-    fn make_or_pass(
-        &mut self,
-        state: &mut State,
-        number: u64,
-        passes: bool,
-        keeps_none: bool,
-        pages: usize,
-    )
+    // Makes a visit, or passes it over.
+    fn learn_of(&mut self, state: &mut State, number: u64)
+        requires state { IsState state.old }
+        requires number { number ≤ 2 ^ 40 }
+        requires full { full_of self.old.pusher < 2 ^ 62 }
+        ensures visits { LearnsOfWritten number state.old self.old self.new }
+        ensures stays { state.new ≡ state.old }
+    {
+        if self.is_passed_over() {
+            self.pass(number);
+        } else {
+            self.make(state, number);
+        }
+    }
+
+    // Makes a visit. It stands out of the walk's loop, so that a visit that is passed over saves few registers.
+    #[inline(never)]
+    fn make(&mut self, state: &mut State, number: u64)
+        requires made { is_passed_over self.old ≡ false }
+        requires state { IsState state.old }
+        requires number { number ≤ 2 ^ 40 }
+        requires full { full_of self.old.pusher < 2 ^ 62 }
+        ensures visits { LearnsOfWritten number state.old self.old self.new }
+        ensures stays { state.new ≡ state.old }
+    {
+        let before = self.seen.take();
+        let keeps_none = !self.guesses() || self.is_needless(number);
+        let pages = copied(state, keeps_none);
+        self.make_unseen(state, number, keeps_none, pages);
+        self.seen = seen_after(before, number, self.pusher.refused());
+    }
+
+    // Makes a visit of a state of which so many pages are to be copied, but for what is told of those that were seen.
+    fn make_unseen(&mut self, state: &mut State, number: u64, keeps_none: bool, pages: usize)
         requires seen { self.old.seen ≡ None }
-        requires passes { passes ≡ is_passed_over self.old }
-        requires keeps { passes ≡ false → keeps_none ≡ (not (is_guessing self.old.guessing) || is_needless number self.old) }
+        requires made { is_passed_over self.old ≡ false }
+        requires keeps { keeps_none ≡ (not (is_guessing self.old.guessing) || is_needless number self.old) }
         requires none { keeps_none ≡ true → pages ≡ 0 }
         requires pages { pages < 2 ^ 23 }
         requires number { number ≤ 2 ^ 40 }
@@ -253,12 +292,6 @@ impl<'a, F, G, R: Wait> Live<'a, F, G, R> {
         ensures visits { LearnsOf number pages state.old self.old self.new }
         ensures stays { state.new ≡ state.old }
     {
-        if passes {
-            self.budget.pass();
-            self.visits.forget();
-            self.give_up(number);
-            return;
-        }
         self.budget.charge(pages);
         let filled = self.pusher.has_filled();
         if !self.guesses() {
@@ -312,7 +345,7 @@ fn seen_after(before: Option<u64>, number: u64, refused: u64) -> Option<u64>
     ensures { result ≡ seen_by number refused before }
 {
     match before {
-        Some(before) if before < number && number - before == 1 && refused == 0 => Some(number),
+        Some(before) if refused == 0 && 0 < number && number - 1 == before => Some(number),
         _ => None,
     }
 }
@@ -321,6 +354,7 @@ fn seen_after(before: Option<u64>, number: u64, refused: u64) -> Option<u64>
 impl<'a, F: Finder, G, R> Finder for Live<'a, F, G, R> {
     ghost aid = { λ l. told_over (F.aid l.finder) l };
 
+    #[inline(always)]
     fn jump(&mut self, state: &mut State, left: u64) -> Option<u64>
         requires left { left ≤ 2 ^ 40 }
         requires asked { (F.aid self.old.finder).jumps.asked < 2 ^ 62 }
@@ -339,8 +373,12 @@ impl<'a, F: Finder, G, R> Finder for Live<'a, F, G, R> {
         ensures machine { Unit {0} }
         ensures longest { (m : Serial) → None ≡ Some m → result ≡ serial_reply m state.old left }
     {
-        let most = self.budget.reach(left);
-        let found = self.finder.jump(state, most);
+        if self.budget.is_passing() {
+            let none = self.finder.jump(state, 0);
+            self.budget.look_up(left, none);
+            return none;
+        }
+        let found = self.finder.jump(state, left);
         self.budget.look_up(left, found);
         found
     }
@@ -383,13 +421,9 @@ impl<'a, F: Finder, G: Gate, R: Wait> Helper for Live<'a, F, G, R> {
     {
         // That it is a state bounds how many pages there are.
         let _ = state.shape();
-        let before = self.seen.take();
-        let passes = self.is_passed_over();
-        let keeps_none = passes || !self.guesses() || self.is_needless(number);
-        let pages = copied(state, keeps_none);
-        self.make_or_pass(state, number, passes, keeps_none, pages);
-        self.seen = seen_after(before, number, self.pusher.refused());
-        self.gate.pass(Point::Visit, number);
+        let gate = self.gate;
+        self.learn_of(state, number);
+        gate.pass(Point::Visit, number);
     }
 
     fn made(&self) -> u64 {

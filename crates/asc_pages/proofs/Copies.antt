@@ -71,7 +71,7 @@ group_high groups low gap g inside above =
 -- ---- pages
 
 -- one that stands in the place of another
-pub page_patched : (top : Top) (p : ℕ) → place_of top.patched p < length top.patched → page_of top p ≡ page_in top.patches.items (place_of top.patched p)
+pub page_patched : (top : Top) (p : ℕ) → place_of top.patched p < length top.patched → page_of top p ≡ page_in top.patches (place_of top.patched p)
 unfolding page_of
 page_patched top p found = rw lt-ltb
 
@@ -139,7 +139,7 @@ told_whole bytes top each none = told bytes top
 pub told_patched : (dirty : List Bool) (bytes : List ℕ) (base top : Top) → length dirty ≡ length bytes / 1024 + 1 → Keeps dirty (bytes_in base) bytes
     → groups_in top.groups ≡ groups_in base.groups
     → ((p : ℕ) → IsUnlisted top.patched p → IsUnlisted base.patched p × (p < length dirty → slice_index_or dirty p true ≡ false))
-    → ((k : ℕ) → k < length top.patched → IsPage bytes (slice_index top.patched k) (page_in top.patches.items k)) → Tells (bytes_in top) bytes
+    → ((k : ℕ) → k < length top.patched → IsPage bytes (slice_index top.patched k) (page_in top.patches k)) → Tells (bytes_in top) bytes
 told_patched dirty bytes base top size kept same others each = told bytes top
     (λ p. elim (cases_lt (place_of top.patched p) (length top.patched)) [
       | inl found ↦ λ i far inside here. each (place_of top.patched p) found i far inside (here ∙ sym (place_found top.patched p found))
@@ -194,14 +194,15 @@ zeros-at n k = elim (cases_lt k n) [
 ]
 
 -- bytes over the first ones of a page, and zeros over the others
-pub written_over : (bytes new zeros rest behind : List ℕ) (n k m : ℕ) → n ≡ min (length bytes) 1024 → k ≡ n → new ≡ take k bytes → length zeros ≡ 1024 - n → zeros ≡ replicate m 0 → (i : ℕ) → i < 1024
-    → slice_index (take n (new ++ rest) ++ (zeros ++ behind)) i ≡ slice_index bytes i
-written_over bytes new zeros rest behind n k m least same is count blank i within =
-    let size : length new ≡ n = ap (λ (l : List ℕ). length l) is ∙ (let e : length (take k bytes) ≡ n = omega (arith, length-take k bytes) in e) in
+pub written_over : (bytes new zeros rest behind : List ℕ) (m : ℕ) → new ≡ bytes → length zeros ≡ 1024 - length bytes → zeros ≡ replicate m 0 → (i : ℕ) → i < 1024
+    → slice_index (take (length bytes) (new ++ rest) ++ (zeros ++ behind)) i ≡ slice_index bytes i
+written_over bytes new zeros rest behind m is count blank i within =
+    let n = length bytes in
+    let size : length new ≡ n = ap (λ (l : List ℕ). length l) is in
     let first : length (take n (new ++ rest)) ≡ n = omega (arith, length-take n (new ++ rest), length-append new rest) in
     elim (cases_lt i n) [
       | inl below ↦ get_or_append_left (take n (new ++ rest)) (zeros ++ behind) 0 i (omega arith) ∙ get_or-take n (new ++ rest) i 0 below ∙ get_or_append_left new rest 0 i (omega arith)
-          ∙ ap (λ (l : List ℕ). slice_index l i) is ∙ get_or-take k bytes i 0 (omega arith)
+          ∙ ap (λ (l : List ℕ). slice_index l i) is
       | inr above ↦ get_or-append_right (take n (new ++ rest)) (zeros ++ behind) n i 0 first above ∙ get_or_append_left zeros behind 0 (i - n) (omega arith)
           ∙ ap (λ (l : List ℕ). slice_index l (i - n)) blank ∙ zeros-at m (i - n) ∙ sym (get_or_past bytes i 0 (omega arith))
     ]

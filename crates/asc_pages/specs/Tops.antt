@@ -15,7 +15,7 @@ groups_in (Some groups) = groups.value
 -- the bytes of page p
 unfoldable pub page_of : Top → ℕ → List ℕ
 page_of top p = if nat_lt (place_of top.patched p) (length top.patched)
-    then page_in top.patches.items (place_of top.patched p)
+    then page_in top.patches (place_of top.patched p)
     else page_in (group_in (groups_in top.groups) (p / 32)) (p % 32)
 
 -- the bytes

@@ -1,4 +1,4 @@
-ghost use Rattle.std.specs.Prelude.{◌≡◌, ◌≢◌, ◌⊎◌, ◌+◌, ◌-◌, ◌*◌, ◌/◌, ◌%◌, ◌^◌, ◌<◌, ◌≤◌, ℕ, List, [], Option, max, min, true, false, IfOk, MatchResult, None, length, slice_index, slice_index_or};
+ghost use Rattle.std.specs.Prelude.{◌≡◌, ◌≢◌, ◌⊎◌, ◌+◌, ◌-◌, ◌*◌, ◌/◌, ◌%◌, ◌^◌, ◌<◌, ◌≤◌, ℕ, List, [], Option, max, min, true, false, IfOk, IfSome, MatchResult, None, length, slice_index, slice_index_or};
 ghost use Rattle.asc_model.specs.Number.{word_at};
 ghost use Rattle.asc_pages.specs.DirtyPages.{IsUnlisted, IsClean};
 ghost use Rattle.asc_pages.specs.Pages.{Group, IsPage, ArePages, AreGroups, Keeps, Tells, IsShared, base_bytes, group_in, held, page_bytes, page_in, with_gap};
@@ -22,11 +22,14 @@ pub const GROUP: usize = 32;
 /// So many places at the front are of no account here: who keeps pages keeps those himself.
 pub const FRONT: usize = 136;
 
-// At most so many pages stand in the place of their groups'.
-const MOST_PATCHES: usize = 4;
+/// At most so many pages stand in the place of their groups'.
+pub(crate) const MOST_PATCHES: usize = 4;
 
 // A page that is left out is blank.
 type Page = Option<Arc<[u8; PAGE]>>;
+
+// No pages in the place of their groups'.
+const NO_PATCHES: [Page; MOST_PATCHES] = [None, None, None, None];
 
 // A group of pages that is left out is blank.
 type Group = Option<Arc<Vec<Page>>>;
@@ -59,9 +62,9 @@ impl Model for Groups {
 struct Top {
     // Where they are left out they are blank.
     groups: Option<Arc<Groups>>,
-    // The numbers of those pages, and the pages.
+    // The numbers of those pages, and the pages. Behind those all are blank.
     patched: Numbers,
-    patches: Vec<Page>,
+    patches: [Page; MOST_PATCHES],
 }
 
 /// Pages of bytes that do not change. They can be shared, also by threads, and share what they have in common with
@@ -88,7 +91,7 @@ impl Pages {
         ensures { IfOk result (λ pages. pages ≡ []) }
     {
         Ok(Pages {
-            top: Arc::new(alloc, no_top(alloc))?,
+            top: Arc::new(alloc, no_top())?,
         })
     }
 
@@ -169,12 +172,12 @@ impl Pages {
             Some(top) => {
                 let done = put_top(alloc, bytes, changed, &base.top, top);
                 if done.is_err() {
-                    *top = no_top(alloc);
+                    *top = no_top();
                 }
                 done
             }
             None => {
-                let mut top = no_top(alloc);
+                let mut top = no_top();
                 put_top(alloc, bytes, changed, &base.top, &mut top)?;
                 self.top = Arc::new(alloc, top)?;
                 Ok(())
@@ -401,13 +404,13 @@ fn number(low: usize, gap: usize, k: usize) -> usize
 
 // No pages. They take no memory.
 #[inline]
-fn no_top(alloc: Global) -> Top
+fn no_top() -> Top
     ensures { bytes_in result ≡ [] }
 {
     Top {
         groups: None,
-        patched: Numbers::new(alloc),
-        patches: Vec::new(alloc),
+        patched: Numbers::new(),
+        patches: NO_PATCHES,
     }
 }
 
@@ -448,14 +451,19 @@ fn put_top(
     requires kept { Keeps changed.now (bytes_in base.now) bytes.now }
     ensures { IfOk result (λ _. Tells (bytes_in top.new) bytes.now) }
 {
-    if list_patched(&mut top.patched, base, changed)? {
+    if list_patched(&mut top.patched, base, changed) {
         top.groups = share(&base.groups)?;
-        let spare = mem::replace(&mut top.patches, Vec::new(alloc));
-        top.patches = patches_of(alloc, bytes, changed, base, top.patched.list(), spare)?;
-        Ok(())
+        put_patches(
+            alloc,
+            bytes,
+            changed,
+            base,
+            top.patched.list(),
+            &mut top.patches,
+        )
     } else {
         top.patched.clear();
-        top.patches.clear();
+        top.patches = NO_PATCHES;
         put_groups(alloc, bytes, changed, base, &mut top.groups)
     }
 }
@@ -463,85 +471,89 @@ fn put_top(
 // Lists the pages that stand in the place of others in the base, and those that are changed, and answers whether it did:
 // they may be too many, and the base may have no groups.
 #[inline]
-fn list_patched(patched: &mut Numbers, base: &Top, changed: &DirtyPages) -> Result<bool, Memory>
-    ensures { IfOk result (λ few. few ≡ true → (p : ℕ) → IsUnlisted patched.new p
-        → IsUnlisted base.now.patched p × (p < length changed.now → slice_index_or changed.now p true ≡ false)) }
+fn list_patched(patched: &mut Numbers, base: &Top, changed: &DirtyPages) -> bool
+    ensures { result ≡ true → (p : ℕ) → IsUnlisted patched.new p
+        → IsUnlisted base.now.patched p × (p < length changed.now → slice_index_or changed.now p true ≡ false) }
 {
     if base.groups.is_none() {
-        return Ok(false);
+        return false;
     }
     let Some(dirtied) = changed.listed() else {
-        return Ok(false);
+        return false;
     };
-    patched.copy(&base.patched)?;
+    patched.copy(&base.patched);
     for p in dirtied {
-        if !list_changed(patched, &base.patched, *p)? {
-            return Ok(false);
+        if !list_changed(patched, &base.patched, *p) {
+            return false;
         }
     }
-    Ok(true)
+    true
 }
 
 // Lists a page that is changed, unless it is one of the base's, and answers whether there was room.
 #[inline]
-fn list_changed(patched: &mut Numbers, base: &Numbers, p: usize) -> Result<bool, Memory>
-    ensures { IfOk result (λ few. few ≡ true → (q : ℕ) → IsUnlisted patched.new q
-        → IsUnlisted patched.old q × (IsUnlisted base.now q → p ≢ q)) }
+fn list_changed(patched: &mut Numbers, base: &Numbers, p: usize) -> bool
+    ensures { result ≡ true → (q : ℕ) → IsUnlisted patched.new q
+        → IsUnlisted patched.old q × (IsUnlisted base.now q → p ≢ q) }
 {
     if base.place(p) < base.len() {
-        return Ok(true);
+        return true;
     }
     if patched.len() >= MOST_PATCHES {
-        return Ok(false);
+        return false;
     }
-    patched.push(p)?;
-    Ok(true)
+    patched.push(p);
+    true
 }
 
-// The pages of bytes of these numbers, in the memory of spare ones.
+// Puts the pages of bytes of these numbers in the place of others.
 #[inline]
-fn patches_of(
+fn put_patches(
     alloc: Global,
     bytes: &[u8],
     changed: &DirtyPages,
     base: &Top,
     patched: &[usize],
-    spare: Vec<Page>,
-) -> Result<Vec<Page>, Memory>
+    patches: &mut [Page; MOST_PATCHES],
+) -> Result<(), Memory>
     requires most { length bytes.now < 2 ^ 32 }
     requires dirty { length changed.now ≡ length bytes.now / 1024 + 1 }
+    requires few { length patched.now ≤ 4 }
     requires kept { Keeps changed.now (bytes_in base.now) bytes.now }
-    ensures { IfOk result (λ pages. (k : ℕ) → k < length patched.now
-        → IsPage bytes.now (slice_index patched.now k) (page_in pages.items k)) }
+    ensures { IfOk result (λ _. (k : ℕ) → k < length patched.now
+        → IsPage bytes.now (slice_index patched.now k) (page_in patches.new k)) }
 {
-    let mut pages = sized(spare, patched.len())?;
-    for k in 0..patched.len() {
-        put_patch(alloc, bytes, changed, base, patched[k], &mut pages[k])?;
+    for k in 0..MOST_PATCHES {
+        put_patch(alloc, bytes, changed, base, patched.get(k), &mut patches[k])?;
     }
-    Ok(pages)
+    Ok(())
 }
 
-// Puts page p of bytes in the place of another one. Behind the bytes it is of no account.
+// Puts the page of bytes of a number in the place of another one. Where there is no number it is left out, and behind the
+// bytes, where it is of no account.
 #[inline]
 fn put_patch(
     alloc: Global,
     bytes: &[u8],
     changed: &DirtyPages,
     base: &Top,
-    p: usize,
+    number: Option<&usize>,
     page: &mut Page,
 ) -> Result<(), Memory>
     requires most { length bytes.now < 2 ^ 32 }
     requires dirty { length changed.now ≡ length bytes.now / 1024 + 1 }
     requires kept { Keeps changed.now (bytes_in base.now) bytes.now }
-    ensures { IfOk result (λ _. IsPage bytes.now p (page_bytes page.new)) }
+    ensures { IfOk result (λ _. IfSome number.entry (λ p. IsPage bytes.now p.now (page_bytes page.new))) }
 {
-    if p < changed.len() {
-        let kept = pages_in(&base.groups, p / GROUP);
-        put_page(alloc, bytes, changed, base, kept, p, page)
-    } else {
-        *page = None;
-        Ok(())
+    match number {
+        Some(p) if *p < changed.len() => {
+            let kept = pages_in(&base.groups, *p / GROUP);
+            put_page(alloc, bytes, changed, base, kept, *p, page)
+        }
+        _ => {
+            *page = None;
+            Ok(())
+        }
     }
 }
 
@@ -749,8 +761,22 @@ fn copy_to(alloc: Global, bytes: &[u8], page: &mut Page) -> Result<(), Memory>
 fn new_page(alloc: Global, bytes: &[u8]) -> Result<Arc<[u8; PAGE]>, Memory>
     ensures { IfOk result (λ page. (i : ℕ) → i < 1024 → slice_index page.value i ≡ slice_index bytes.now i) }
 {
+    match bytes.first_chunk() {
+        Some(whole) => Ok(Arc::new(alloc, *whole)?),
+        None => last_page(alloc, bytes),
+    }
+}
+
+// The same where there are fewer bytes than a page has.
+//
+// It stands out of `new_page`, which fills nothing with zeros.
+#[inline(never)]
+fn last_page(alloc: Global, bytes: &[u8]) -> Result<Arc<[u8; PAGE]>, Memory>
+    requires { length bytes.now < 1024 }
+    ensures { IfOk result (λ page. (i : ℕ) → i < 1024 → slice_index page.value i ≡ slice_index bytes.now i) }
+{
     let mut page = [0; PAGE];
-    write_over(&mut page, bytes);
+    write_part(&mut page, bytes);
     Ok(Arc::new(alloc, page)?)
 }
 
@@ -759,7 +785,21 @@ fn new_page(alloc: Global, bytes: &[u8]) -> Result<Arc<[u8; PAGE]>, Memory>
 fn write_over(page: &mut [u8; PAGE], bytes: &[u8])
     ensures { (i : ℕ) → i < 1024 → slice_index page.new i ≡ slice_index bytes.now i }
 {
-    let len = bytes.len().min(PAGE);
-    page[0..len].copy_from_slice(&bytes[0..len]);
-    page[len..PAGE].fill(0);
+    match bytes.first_chunk() {
+        Some(whole) => *page = *whole,
+        None => write_part(page, bytes),
+    }
+}
+
+// The same where there are fewer bytes than a page has.
+//
+// It stands out of the copy of a whole page.
+#[inline(never)]
+fn write_part(page: &mut [u8; PAGE], bytes: &[u8])
+    requires { length bytes.now < 1024 }
+    ensures { (i : ℕ) → i < 1024 → slice_index page.new i ≡ slice_index bytes.now i }
+{
+    let len = bytes.len();
+    page[..len].copy_from_slice(bytes);
+    page[len..].fill(0);
 }

@@ -101,6 +101,7 @@ impl LastVisits {
     }
 
     /// Gives up both states.
+    #[inline(never)]
     pub fn forget(&mut self)
         ensures { self.new ≡ forgotten self.old }
     {
@@ -115,6 +116,20 @@ impl LastVisits {
         ensures { self.new ≡ skipped number self.old }
     {
         self.prev = None;
+        self.note(number);
+    }
+
+    /// Gives up both states, and the guesses of a visit count as made. None of them is listed: the jobs of an earlier one
+    /// stay.
+    #[inline]
+    pub fn pass_over(&mut self, number: u64)
+        requires { number ≤ 2 ^ 40 }
+        ensures { self.new ≡ skipped number (forgotten self.old) }
+    {
+        // Mostly there is none.
+        if self.last.is_some() {
+            self.forget();
+        }
         self.note(number);
     }
 

@@ -92,6 +92,7 @@ impl Visited {
     }
 
     /// Where the program stands at `pc`, tells the helper of its state, and asks for a jump.
+    #[inline(always)]
     pub(crate) fn land<H: Finder, V: Fn(&mut H, &mut State, u64)>(
         &mut self,
         pc: Option<u32>,
@@ -131,7 +132,7 @@ impl Visited {
 }
 
 /// Has a function tell a helper of the state at a visit, which is the walk's `number`th.
-#[inline]
+#[inline(always)]
 fn visit_by<H: Finder, V: Fn(&mut H, &mut State, u64)>(
     helper: &mut H,
     visit: &V,

@@ -388,7 +388,7 @@ fn budget(rt: HostRuntime) -> Result<(), Fail> {
     budget.look_up(2_000_000, None);
     assert_eq!(rt; paid(&rt, &mut budget), 32);
     budget.look_up(1_948_001, Some(20_000));
-    assert_eq!(rt; (budget.reach(9), paid(&rt, &mut budget)), (0, 0));
+    assert_eq!(rt; (budget.is_passing(), paid(&rt, &mut budget)), (true, 0));
     budget.look_up(1_948_000, None);
     assert_eq!(rt; paid(&rt, &mut budget), 32);
     budget.look_up(900_000, Some(1_000_000));

@@ -13,7 +13,7 @@ returns c =
     let limit = c.blank_run-blank.ensures.most in
     groups_made c.args.changed.now c.args.bytes.now c.args.base.now c.loop-k.list.items low (end - low)
     c.requires.dirty c.requires.kept (λ p least most inside. c.free_run-free.ensures.free p (omega arith) (omega arith) inside)
-    (subst (λ (l : List ℕ). (j : ℕ) → j < length l → (slice_index l j / 32 < low) ⊎ (low + (end - low) ≤ slice_index l j / 32)) c.list.ensures
+    (subst (λ (l : List ℕ). (j : ℕ) → j < length l → (slice_index l j / 32 < low) ⊎ (low + (end - low) ≤ slice_index l j / 32)) c.list.ensures.numbers
     (λ j below. elim (c.without_pages-low.ensures.other j below) [ inl lower ↦ inl lower | inr higher ↦ inr (omega arith) ]))
     (λ g least below. c.blank_run-blank.ensures.blank g (omega arith) (omega arith))
     (omega (arith, so.size))

@@ -4,7 +4,7 @@ use Rattle.asc_pages.proofs.pages.list_patched.Goals as goal
 pub loop-p-preserved : goal.loop-p-preserved
 loop-p-preserved c =
     let so = c.loop-p.invariant in
-    let one = c.in_ok-list_changed.ensures c.if-not-branch.false in
+    let one = c.list_changed.ensures c.if-not-list_changed.false in
     record {
       first = λ q other. so.first q (one q other).0;
       dirtied = λ q other. below_more _ _ (so.dirtied q (one q other).0)

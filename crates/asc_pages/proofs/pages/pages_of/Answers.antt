@@ -8,6 +8,6 @@ pub returns : goal.returns
 returns c =
     let kept = ap (λ (pages : List (Option Page)). length pages) c.pages_in-kept.ensures in
     group_made c.args.changed.now c.args.bytes.now c.args.base.now c.args.g c.used_pages.result c.loop-k.pages.items c.requires.dirty c.requires.kept c.used_pages.ensures.clean
-    (λ k past within. subst (λ (l : List ℕ). IsUnlisted l (32 * c.args.g + k)) c.list.ensures (c.used_pages.ensures.unlisted k past within))
+    (λ k past within. subst (λ (l : List ℕ). IsUnlisted l (32 * c.args.g + k)) c.list.ensures.numbers (c.used_pages.ensures.unlisted k past within))
     (omega (arith, kept, c.loop-k.invariant.size, c.min-used.ensures, c.max.ensures, c.min-room.ensures, c.len.ensures))
     (λ k below. c.loop-k.invariant.each k (omega (arith, c.loop-k.invariant.size)))

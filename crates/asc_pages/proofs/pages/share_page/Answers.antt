@@ -8,10 +8,9 @@ use Rattle.asc_pages.proofs.pages.share_page.Goals as goal
 pub returns-then-k-len : goal.returns-then-k-len
 returns-then-k-len c =
     let at = c.place-k.ensures in
-    IfOk-weaker c.share_part.result (λ part. IsShared part (slice_index_or c.deref.result.now c.place-k.result None)) (λ page. page_bytes page ≡ page_of c.args.top.now c.args.p)
+    IfOk-weaker c.share_part.result (λ part. IsShared part (slice_index_or c.args.top.now.patches c.place-k.result None)) (λ page. page_bytes page ≡ page_of c.args.top.now c.args.p)
     (λ page shared. page_shared page _ shared
-    ∙ ap (λ (pages : List (Option Page)). page_in pages c.place-k.result) c.deref.ensures.value
-    ∙ ap (λ k. page_in c.args.top.now.patches.items k) at
+    ∙ ap (λ k. page_in c.args.top.now.patches k) at
     ∙ sym (page_patched c.args.top.now c.args.p (omega (arith, at)))) c.share_part.ensures
 
 pub returns-else-k-len : goal.returns-else-k-len

@@ -6,8 +6,7 @@ use Rattle.asc_pages.proofs.pages.top_page.Goals as goal
 pub returns-then-k-len-clause-page : goal.returns-then-k-len-clause-page
 returns-then-k-len-clause-page c =
     let at = c.place-k.ensures in
-    c.page_at.ensures.page ∙ ap (λ (pages : List (Option Page)). page_in pages c.place-k.result) c.deref.ensures.value
-    ∙ ap (λ k. page_in c.args.top.now.patches.items k) at
+    c.page_at.ensures.page ∙ ap (λ k. page_in c.args.top.now.patches k) at
     ∙ sym (page_patched c.args.top.now c.args.p (omega (arith, at)))
 
 pub returns-else-k-len-clause-page : goal.returns-else-k-len-clause-page

@@ -1,14 +1,7 @@
-use Rattle.std.proofs.Common.{◌≡◌, ◌-◌, ◌++◌, ◌∙◌, length, drop, length-take, length-drop, length-append, arith}
-use Rattle.asc_pages.proofs.Copies.{written_over}
+use Rattle.std.proofs.Common.{◌∙◌, ℕ, List, ap, slice_index}
+use Rattle.std.proofs.lemmas.List.{get_or-take}
 use Rattle.asc_pages.proofs.pages.write_over.Goals as goal
 
-pub returns : goal.returns
-returns c =
-    let n = c.min-len.result in
-    let page = c.args.page.now in
-    let bytes = c.args.bytes.now in
-    let new = c.copy_from_slice.new.self in
-    let rest = drop n page in
-    let size : length c.fill.new.self ≡ 1024 - n =
-    c.fill.ensures.len ∙ omega (arith, c.told-page, length-take (1024 - n) (drop n (new ++ rest)), length-drop n (new ++ rest), length-append new rest, length-drop n page, c.copy_from_slice.ensures.len) in
-    written_over bytes new c.fill.new.self _ _ n (n - 0) _ c.min-len.ensures (omega arith) c.copy_from_slice.ensures.after size (c.fill.ensures.after (λ y e. e))
+pub returns-in-Some : goal.returns-in-Some
+returns-in-Some c i within =
+    ap (λ (l : List ℕ). slice_index l i) c.in-Some.ensures.cases.same ∙ get_or-take 1024 c.args.bytes.now i 0 within

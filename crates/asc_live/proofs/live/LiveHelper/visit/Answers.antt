@@ -1,30 +1,14 @@
--- The state was kept, and jobs were pushed; or memory was wanting; or the visit was passed over.
-use Rattle.std.proofs.Common.{rules, arith, length}
-use Rattle.asc_live.specs.Live.{live}
-use Rattle.asc_live.proofs.Pages.{pages-few}
-use Rattle.asc_live.proofs.Seeing.{visit-live, visit-plans, visit-sees}
+-- The visit was made, or passed over.
+use Rattle.std.proofs.Common.{rules}
+use Rattle.asc_live.proofs.Seeing.{visit-plans, visit-sees}
 use Rattle.asc_live.proofs.live.LiveHelper.visit.Goals as goal
-
-pub invariant_of-self-2 : goal.invariant_of-self-2
-invariant_of-self-2 g c =
-    let i = c.self-2.inside in
-    let new = live i.finder i.visits i.pusher c.seen_after-self-inside.result (length i.workers.now.items) i.budget in
-    visit-live c.args.number c.copied-pages.result c.args.state.now c.args.self.now new c.requires.number (search rules) (search rules)
 
 pub returns-clause-plan : goal.returns-clause-plan
 returns-clause-plan g c =
-    let i = c.self-2.inside in
-    let new = live i.finder i.visits i.pusher c.seen_after-self-inside.result (length i.workers.now.items) i.budget in
-    visit-plans c.args.number c.copied-pages.result c.args.state.now c.args.self.now new (search rules) (search rules)
+    let v = c.learn_of.ensures.visits in
+    visit-plans c.args.number v.0 c.args.state.now c.args.self.now c.learn_of.new.self (search rules) v.2
 
 pub returns-clause-seen : goal.returns-clause-seen
 returns-clause-seen g c =
-    let i = c.self-2.inside in
-    let new = live i.finder i.visits i.pusher c.seen_after-self-inside.result (length i.workers.now.items) i.budget in
-    visit-sees c.args.number c.copied-pages.result c.args.state.now c.args.self.now new (search rules) (search rules)
-
-pub make_or_pass-requires-clause-pages : goal.make_or_pass-requires-clause-pages
-make_or_pass-requires-clause-pages g c = omega (arith, c.copied-pages.ensures.most, pages-few c.args.state.now.shape c.shape.ensures.state.shape)
-
-pub returns-clause-visits : goal.returns-clause-visits
-returns-clause-visits g c = (c.copied-pages.result, c.copied-pages.ensures.most, search rules)
+    let v = c.learn_of.ensures.visits in
+    visit-sees c.args.number v.0 c.args.state.now c.args.self.now c.learn_of.new.self (search rules) v.2
