@@ -345,7 +345,7 @@ fn seen_after(before: Option<u64>, number: u64, refused: u64) -> Option<u64>
     ensures { result ≡ seen_by number refused before }
 {
     match before {
-        Some(before) if refused == 0 && 0 < number && number - 1 == before => Some(number),
+        Some(before) if refused == 0 && before.saturating_add(1) == number => Some(number),
         _ => None,
     }
 }

@@ -17,7 +17,7 @@ use Rattle.asc_run.specs.declared.recognised.Recognised.TheVariants as recognise
 use Rattle.asc_run.specs.Execution.{progress}
 use Rattle.asc_run.specs.Visits.{visit_rule, HasNoVisit}
 use Rattle.asc_find.specs.Serial.{visited}
-use Rattle.asc_run.specs.Rows.{Laps, Targets, Strides, Both, Joins, FourVisits, loop_run}
+use Rattle.asc_run.specs.Rows.{Laps, Targets, Strides, Both, Joins, LoopVisits, loop_run}
 
 pub laps : Laps
 unfolding plain next outcome words view_of state_of decode strided
@@ -83,7 +83,7 @@ HasNoVisit-none_of rule a (suc n) e k le lt =
       | inr x ↦ (let same : a ≡ k = omega arith in subst (λ i. rule i ≡ false) same b.0)
     ]
 
-pub visits : FourVisits
+pub visits : LoopVisits
 unfolding none_of plain next outcome words view_of state_of decode guest_call progress
 visits =
     let none = HasNoVisit-none_of (visit_rule (recognised.At 0x10008) loop_run []) in

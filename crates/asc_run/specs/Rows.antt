@@ -53,6 +53,7 @@ machine_after zero g =
     record { shape = small; guessing = g; prev = None; last = None; issued = 0; content = [] }
 machine_after (suc n) g = visited (n + 1) (at_loop n) (machine_after n g)
 
+-- how many steps each of these entries stands for
 abbrev pub entry_steps : List Entry → List ℕ
 entry_steps l = map (λ e. e.steps) l
 
@@ -124,7 +125,7 @@ limited_visits = visit 8 None ∷ visit 6 (Some 2) ∷ visit 4 None ∷ visit 2 
 abbrev pub joined_visits : List Visit
 joined_visits = visit 6 (Some 6) ∷ visit 4 None ∷ visit 2 None ∷ []
 
-pub record FourVisits : Type 0 where
+pub record LoopVisits : Type 0 where
   pub four : AreVisits 20 loop_run (visit_rule (recognised.At 0x10008) loop_run) four_visits 20
   pub limited : AreVisits 11 loop_run (visit_rule (recognised.At 0x10008) loop_run) limited_visits 11
   pub replies : replies_of four_visits ≡ None ∷ None ∷ Some 2 ∷ Some 4 ∷ []

@@ -2,7 +2,7 @@
 //! function stands for the laws that it ensures, and does nothing.
 
 ghost use Rattle.asc_run.specs.Laws.{ProgressIsPlain, RepliesDetermineVisits, SerialVisitsAreOne, SerialRunsAreOne, SerialRunsAreSavable};
-ghost use Rattle.asc_run.specs.Rows.{Laps, Targets, Strides, Both, Joins, FourVisits};
+ghost use Rattle.asc_run.specs.Rows.{Laps, Targets, Strides, Both, Joins, LoopVisits};
 
 /// Plain execution without guest calls is plain steps: where `n` plain steps of the state at which a program stands
 /// reach a state, the program comes to that state in `n` steps. It goes on there, its break and the input still to come
@@ -34,7 +34,7 @@ pub fn serial_runs_are_savable()
 /// A loop that counts, computed from the definitions: its visits for some replies, and what the machine of a run without
 /// workers makes of its visits, which are the visits guessed, the entries and the replies, with joins and without.
 pub fn rows_are_computed()
-    ensures visits { FourVisits }
+    ensures visits { LoopVisits }
     ensures laps { Laps }
     ensures targets { Targets }
     ensures strides { Strides }

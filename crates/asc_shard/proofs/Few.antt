@@ -14,7 +14,7 @@ use Rattle.asc_shard.specs.Fingerprints.{may_match}
 use Rattle.asc_shard.specs.Inside.{IsFrom, IsIndex, by_group, key_of, sorted_of}
 use Rattle.asc_shard.proofs.Orders.{groups_total, is-equal, less-above}
 use Rattle.asc_shard.proofs.Slots.{nth, range-up}
-use Rattle.asc_shard.proofs.Ranges.{apart-more, asked-one, froms-one}
+use Rattle.asc_shard.proofs.Ranges.{apart-more, asked-one, froms-lower, froms-one}
 
 few-four : (n : ℕ) → 0 < n → n ≤ 4 → IsFew n n
 few-four zero some most = absurd (omega arith)
@@ -68,8 +68,9 @@ module _ (held : List Entry) (slots : List ℕ) (s : State) (low high : ℕ) (in
         let counted = sum_by-cons (λ (a : Asked). a.probes) new asked in
         asked-from n end (new ∷ asked) (omega arith) (omega arith) within
         (apart-more (sorted_of held slots) low from end high (omega arith) before here.3 here.4)
-        (asked-one held slots s low from end (end - from) asked index least more (omega arith) (λ i behind below. before i from behind below (omega arith) lt) here.3
-        (prints from least lt) (few-four (end - from) (omega arith) (omega arith)) are froms)
+        (asked-one held slots s from end (end - from) asked index more (omega arith)
+        (froms-lower (sorted_of held slots) low from (at from) asked (λ i behind below. before i from behind below (omega arith) lt) froms) here.3
+        (prints from least lt) (few-four (end - from) (omega arith) (omega arith)) are)
         (froms-one (sorted_of held slots) low from end (end - from) asked least more froms)
         (omega (arith, counted, sum))
   ]

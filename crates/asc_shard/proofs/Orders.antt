@@ -1,6 +1,6 @@
 -- Which of two entries is first.
 use Rattle.std.proofs.Common.{◌≡◌, ℕ, zero, suc, ◌+◌, ◌*◌, ◌/◌, ◌%◌, ◌<◌, ◌≤◌, true, false, cond, ◌==◌, nat_lt, List, [], ◌∷◌, ◌++◌, length, drop, get_or, slice_index, map, refl, sym, ap, subst, ◌∙◌, inl, inr, ◌⊎◌, arith}
-use Rattle.std.specs.Ordering.{MatchOrdering, nat_cmp, ordering_then, on, is_lt, is_le, is_eq, ordering_reverse}
+use Rattle.std.specs.Ordering.{MatchOrdering, nat_cmp, ordering_then, on, is_lt, is_le, is_eq, is_ne, ordering_reverse}
 use Rattle.std.specs.Cmp.{IsTotalOrder}
 use Rattle.std.specs.Cmp.Lexicographic.{slice_cmp}
 use Rattle.std.specs.declared.cmp.Ordering.{Ordering}
@@ -142,6 +142,11 @@ module _ {K : Type 0} {R : K → K → Ordering} (o : IsTotalOrder R) (at : ℕ 
     | inl less ↦ lt-le o (at low) (at m) (at i) less (up m i least le lt)
     | inr equal ↦ let no = sym h ∙ ap is_eq equal in absurd (false≢true no)
   ]
+
+pub other-not-equal : (o : Ordering) → is_ne o ≡ true → is_eq o ≡ false
+other-not-equal Less e = refl
+other-not-equal Equal e = cc
+other-not-equal Greater e = refl
 
 pub is-equal : (o : Ordering) → is_eq o ≡ true → o ≡ Equal
 is-equal Less e = cc

@@ -6,7 +6,7 @@ use Rattle.std.specs.Ordering.{nat_cmp, ordering_then}
 use Rattle.std.specs.Cmp.Lexicographic.{slice_cmp}
 use Rattle.std.specs.declared.cmp.Ordering.TheVariants.{Less, Equal}
 use lib.Pointwise.{pointwise}
-use Rattle.std.proofs.lemmas.Bool.{and_parts, and_from, cases_Bool, cases_lt, eq-eqb, eqb-true, false_from_ne_true, cond-true, ltb-true, ltb-false}
+use Rattle.std.proofs.lemmas.Bool.{and_parts, and_from, cases_Bool, cases_lt, eq-eqb, eqb-true, false≢true, false_from_ne_true, cond-true, ltb-true, ltb-false}
 use Rattle.std.proofs.lemmas.Cmp.{tied_itself, tied_back, nat_list_cmp_total}
 use Rattle.std.proofs.lemmas.List.{take_all}
 use Rattle.std.proofs.lemmas.List.Elements.{All-cons, All-weaker, Contains-get_or}
@@ -119,13 +119,12 @@ count-range f (x ∷ xs) (suc low) n most all =
 
 -- ---- one group more
 
-pub asked-one : (held : List Entry) (slots : List ℕ) (s : State) (low from end times : ℕ) (asked : List Asked) → IsIndex held slots → low ≤ from → from < end → end ≤ length slots
-    → ((i : ℕ) → low ≤ i → i < from → by_group (nth (sorted_of held slots) i) (nth (sorted_of held slots) from) ≡ Less)
+pub asked-one : (held : List Entry) (slots : List ℕ) (s : State) (from end times : ℕ) (asked : List Asked) → IsIndex held slots → from < end → end ≤ length slots
+    → All (λ a. by_group a.entry (nth (sorted_of held slots) from) ≡ Less) asked
     → ((i : ℕ) → from ≤ i → i < end → by_group (nth (sorted_of held slots) from) (nth (sorted_of held slots) i) ≡ Equal)
     → may_match s (nth (sorted_of held slots) from) ≡ true → IsFew times (end - from)
-    → AreAsked held s asked → All (λ a. IsFrom (sorted_of held slots) low from a.entry) asked
-    → AreAsked held s (record { entry = nth (sorted_of held slots) from; probes = times } ∷ asked)
-asked-one held slots s low from end times asked index least some most before same may few all froms =
+    → AreAsked held s asked → AreAsked held s (record { entry = nth (sorted_of held slots) from; probes = times } ∷ asked)
+asked-one held slots s from end times asked index some most before same may few all =
     let xs = sorted_of held slots in
     let first = nth xs from in
     let new : Asked = record { entry = first; probes = times } in
@@ -141,12 +140,18 @@ asked-one held slots s low from end times asked index least some most before sam
     record {
       each = All-cons (IsAsked held s) new asked is all.each;
       apart = AllPairs-cons (λ a b. is_of_group a.entry b.entry ≡ false) new asked
-          (All-weaker (λ a. IsFrom xs low from a.entry) (λ b. is_of_group first b.entry ≡ false)
-          (λ b is_from. false_from_ne_true (is_of_group first b.entry) (λ one.
-          let less = ap (λ (e : Entry). by_group e first) is_from.3 ∙ before is_from.0 is_from.1 is_from.2 in
-          let no = sym less ∙ tied_back groups_total first b.entry (test-group first b.entry one) in cc)) asked froms)
+          (All-weaker (λ a. by_group a.entry first ≡ Less) (λ b. is_of_group first b.entry ≡ false)
+          (λ b less. false_from_ne_true (is_of_group first b.entry) (λ one.
+          let no = sym less ∙ tied_back groups_total first b.entry (test-group first b.entry one) in cc)) asked before)
           all.apart;
     }
+
+-- those of a range of which each group is lower than an entry's
+pub froms-lower : (xs : List Entry) (low from : ℕ) (e : Entry) (asked : List Asked) → ((i : ℕ) → low ≤ i → i < from → by_group (nth xs i) e ≡ Less)
+    → All (λ a. IsFrom xs low from a.entry) asked → All (λ a. by_group a.entry e ≡ Less) asked
+froms-lower xs low from e asked before all =
+    All-weaker (λ a. IsFrom xs low from a.entry) (λ a. by_group a.entry e ≡ Less)
+    (λ a is. ap (λ (first : Entry). by_group first e) is.3 ∙ before is.0 is.1 is.2) asked all
 
 pub froms-more : (xs : List Entry) (low from end : ℕ) (asked : List Asked) → from ≤ end → All (λ a. IsFrom xs low from a.entry) asked → All (λ a. IsFrom xs low end a.entry) asked
 froms-more xs low from end asked le all =
@@ -187,6 +192,12 @@ most-more xs s left low from end old new first le second i least lt match enough
   | inr behind ↦ second i behind lt match enough
 ]
 
+-- and where those behind it do not match
+pub most-passed : (xs : List Entry) (s : State) (left low end from steps : ℕ) → IsMost xs s left low end steps
+    → ((i : ℕ) → end ≤ i → i < from → matches s (nth xs i) ≡ false) → IsMost xs s left low from steps
+most-passed xs s left low end from steps most passed =
+    most-more xs s left low end from steps steps most (omega arith) (λ i least lt match enough. absurd (false≢true (sym (passed i least lt) ∙ match)))
+
 -- the entries of a group
 pub tail-rising : (held : List Entry) (slots : List ℕ) (s : State) (from end : ℕ) → IsIndex held slots → end ≤ length slots
     → ((i j : ℕ) → from ≤ i → i < end → from ≤ j → j < end → key_of (nth (sorted_of held slots) i) ≡ key_of (nth (sorted_of held slots) j))
@@ -201,13 +212,6 @@ tail-rising held slots s from end index most keys same shape =
           (sym (groups_total.congr (at from) (at i) (at j) (same i least (omega arith))) ∙ same j (omega arith) below)
           (index.rise i j no_entry lt (omega (arith, sorted-length held slots)));
     }
-
--- a group of another shape matches nowhere
-pub most-apart : (xs : List Entry) (s : State) (left from end steps : ℕ) → ((i : ℕ) → from ≤ i → i < end → by_group (nth xs from) (nth xs i) ≡ Equal)
-    → ((nth xs from).shape ≡ s.shape → ⊥) → IsMost xs s left from end steps
-most-apart xs s left from end steps same apart i least lt match enough =
-    let shape = (and_parts (is_same_shape s.shape (nth xs i).shape) _ match).0 in
-    absurd (apart (group-shape (nth xs from) (nth xs i) (same i least lt) ∙ sym (is_same_shape-true s.shape (nth xs i).shape shape)))
 
 -- what comes behind a group is of later groups
 pub apart-more : (xs : List Entry) (low from end high : ℕ) → from ≤ end
@@ -227,19 +231,35 @@ raised-add more zero n count = ap (λ k. raised more k count) (let e : n ≡ 0 +
 raised-add more (suc times) n count =
     ap more (raised-add more times n count) ∙ ap (λ k. raised more k count) (let e : suc (times + n) ≡ suc times + n = omega arith in e)
 
+-- All these were asked of entries between two places, and those from a place on are of later groups.
+pub record AreBefore (xs : List Entry) (low from high : ℕ) (asked : List Asked) : Type 0 where
+  pub froms : All (λ a. IsFrom xs low from a.entry) asked
+  pub lower : (j : ℕ) → from ≤ j → j < high → All (λ a. by_group a.entry (nth xs j) ≡ Less) asked
+
+pub before-more : (xs : List Entry) (low from end high : ℕ) (asked : List Asked) → from ≤ end → AreBefore xs low from high asked → AreBefore xs low end high asked
+before-more xs low from end high asked le are = record {
+  froms = froms-more xs low from end asked le are.froms;
+  lower = λ j least below. are.lower j (omega (arith, le, least)) below;
+}
+
 -- what is asked with one group more
-pub probes-one : (more : ℕ → ℕ) (held : List Entry) (slots : List ℕ) (s : State) (low from end times now between before : ℕ) → IsIndex held slots → low ≤ from → from < end → end ≤ length slots
-    → ((i : ℕ) → low ≤ i → i < from → by_group (nth (sorted_of held slots) i) (nth (sorted_of held slots) from) ≡ Less)
+pub probes-one : (more : ℕ → ℕ) (held : List Entry) (slots : List ℕ) (s : State) (low from end high times now between before : ℕ) → IsIndex held slots → low ≤ from → from < end → end ≤ length slots
+    → end ≤ high
     → ((i : ℕ) → from ≤ i → i < end → by_group (nth (sorted_of held slots) from) (nth (sorted_of held slots) i) ≡ Equal)
+    → ((i : ℕ) → end ≤ i → i < high → by_group (nth (sorted_of held slots) from) (nth (sorted_of held slots) i) ≡ Less)
     → may_match s (nth (sorted_of held slots) from) ≡ true
     → IsFew times (end - from) × (now ≡ raised more times between)
-    → (asked : List Asked) × AreAsked held s asked × All (λ a. IsFrom (sorted_of held slots) low from a.entry) asked × (between ≡ raised more (sum_by (λ a. a.probes) asked) before)
-    → (asked : List Asked) × AreAsked held s asked × All (λ a. IsFrom (sorted_of held slots) low end a.entry) asked × (now ≡ raised more (sum_by (λ a. a.probes) asked) before)
-probes-one more held slots s low from end times now between before index least some most lower same may new old =
-    let new_one : Asked = record { entry = nth (sorted_of held slots) from; probes = times } in (
+    → (asked : List Asked) × AreAsked held s asked × AreBefore (sorted_of held slots) low from high asked × (between ≡ raised more (sum_by (λ a. a.probes) asked) before)
+    → (asked : List Asked) × AreAsked held s asked × AreBefore (sorted_of held slots) low end high asked × (now ≡ raised more (sum_by (λ a. a.probes) asked) before)
+probes-one more held slots s low from end high times now between before index least some most within same rest may new old =
+    let xs = sorted_of held slots in
+    let new_one : Asked = record { entry = nth xs from; probes = times } in (
       new_one ∷ old.0,
-      asked-one held slots s low from end times old.0 index least some most lower same may new.0 old.1 old.2,
-      froms-one (sorted_of held slots) low from end times old.0 least some old.2,
+      asked-one held slots s from end times old.0 index some most (old.2.lower from (omega arith) (omega arith)) same may new.0 old.1,
+      record {
+        froms = froms-one xs low from end times old.0 least some old.2.froms;
+        lower = λ j behind below. All-cons (λ a. by_group a.entry (nth xs j) ≡ Less) new_one old.0 (rest j behind below) (old.2.lower j (omega arith) below);
+      },
       new.1 ∙ ap (raised more times) old.3 ∙ raised-add more times (sum_by (λ a. a.probes) old.0) before
           ∙ ap (λ k. raised more k before) (sym (sum_by-cons (λ (a : Asked). a.probes) new_one old.0)),
     )

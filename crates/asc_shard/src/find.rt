@@ -1,6 +1,6 @@
-ghost use Rattle.std.specs.Prelude.{◌≡◌, ℕ, ◌+◌, ◌<◌, ◌≤◌, ◌-◌, nat_lt, true, List, if◌then◌else◌, All, length, map, sum_by, slice_index_or, None, IfSome, IfNone};
+ghost use Rattle.std.specs.Prelude.{◌≡◌, ℕ, ◌+◌, ◌<◌, ◌≤◌, ◌-◌, nat_lt, true, false, List, if◌then◌else◌, All, length, map, sum_by, slice_index_or, None, IfSome, IfNone};
 ghost use Rattle.std.specs.Arc.{arc_value};
-ghost use Rattle.asc_traj.specs.Content.{longest};
+ghost use Rattle.asc_traj.specs.Content.{longest, matches};
 ghost use Rattle.asc_shard.specs.Content.{IsFound};
 ghost use Rattle.asc_shard.specs.Groups.{AreAsked, Asked, IsFew};
 ghost use Rattle.asc_shard.specs.Fingerprints.{may_match, print_in};
@@ -9,7 +9,7 @@ ghost use Rattle.asc_shard.specs.Inside.{AreProducts, IsBest, IsFrom, IsHead, Is
 use crate::heads::Head;
 use crate::index::Index;
 use crate::key::{print_in, print_of_state, print_of_words, products_of};
-use crate::order::{compare_groups, compare_with, has_reads};
+use crate::order::{Unlike, compare_groups, compare_with, first_unlike, has_reads, lacks};
 use crate::prints::range_of;
 use asc_outside::Steps;
 use asc_shape::State;
@@ -284,18 +284,78 @@ fn search_range<P: Probes>(
         × (P.count probes.new ≡ raised P.more (sum_by (λ a. a.probes) asked) (P.count probes.old)) }
 {
     let mut now = best;
-    let mut from = low;
+    let none = Unlike { at: 0, number: 0 };
+    let mut from = next_like(entries, index, low, high, none, state);
     while from < high {
         let end = group_end(entries, index, from, high);
-        let first: &Entry = index.entry(entries, from);
-        if first.shape() == state.shape() {
-            if let Some(i) = last_match(entries, index, from, end, state, left, probes) {
-                now = longer_of(now, entries, index.position(i));
-            }
-        }
-        from = end;
+        now = search_group(entries, index, from, end, state, left, now, probes);
+        // Where this one differs, the next ones mostly do too.
+        let unlike = first_unlike(index.entry(entries, from), state);
+        from = next_like(entries, index, end, high, unlike, state);
     }
     now
+}
+
+/// The longest match so far, after the entries of one key and one group.
+fn search_group<P: Probes>(
+    entries: &[Arc<Entry>],
+    index: &Index,
+    from: usize,
+    end: usize,
+    state: &State,
+    left: u64,
+    best: Best,
+    probes: &mut P,
+) -> Best
+    requires index { IsIndexed (map arc_value entries.now) index.now }
+    requires range { (from < end) × (end ≤ length (positions_of index.now)) }
+    requires keys { (i j : ℕ) → from ≤ i → i < end → from ≤ j → j < end
+        → key_of (slice_index_or (sorted_in (map arc_value entries.now) index.now) i no_entry)
+        ≡ key_of (slice_index_or (sorted_in (map arc_value entries.now) index.now) j no_entry) }
+    requires group { (i : ℕ) → from ≤ i → i < end
+        → by_group (slice_index_or (sorted_in (map arc_value entries.now) index.now) from no_entry)
+        (slice_index_or (sorted_in (map arc_value entries.now) index.now) i no_entry) ≡ Ordering.Equal }
+    requires best { IsBest (map arc_value entries.now) state.now left best.position best.steps }
+    ensures best { IsBest (map arc_value entries.now) state.now left result.position result.steps }
+    ensures most { IsMost (sorted_in (map arc_value entries.now) index.now) state.now left from end result.steps }
+    ensures rises { best.steps ≤ result.steps }
+    ensures probes { (times : ℕ) × IsFew times (end - from)
+        × (P.count probes.new ≡ raised P.more times (P.count probes.old)) }
+{
+    let first: &Entry = index.entry(entries, from);
+    if first.shape() != state.shape() {
+        return best;
+    }
+    match last_match(entries, index, from, end, state, left, probes) {
+        Some(i) => longer_of(best, entries, index.position(i)),
+        None => best,
+    }
+}
+
+/// The first place from one on to search at, among the entries of one key. Entries are passed over of which the state has not
+/// the part where another differed. Where none did, and all are of one group, none is.
+fn next_like(
+    entries: &[Arc<Entry>],
+    index: &Index,
+    from: usize,
+    high: usize,
+    unlike: Unlike,
+    state: &State,
+) -> usize
+    requires index { IsIndexed (map arc_value entries.now) index.now }
+    requires range { (from ≤ high) × (high ≤ length (positions_of index.now)) }
+    ensures range { (from ≤ result) × (result ≤ high) }
+    ensures passed { (i : ℕ) → from ≤ i → i < result
+        → matches state.now (slice_index_or (sorted_in (map arc_value entries.now) index.now) i no_entry) ≡ false }
+{
+    if unlike.at == 0 {
+        return from;
+    }
+    let mut at = from;
+    while at < high && lacks(state, index.entry(entries, at), unlike) {
+        at += 1;
+    }
+    at
 }
 
 /// The longer of what was found and the entry at a position.
@@ -336,6 +396,10 @@ fn group_end(entries: &[Arc<Entry>], index: &Index, from: usize, high: usize) ->
         return high;
     }
     let first: &Entry = index.entry(entries, from);
+    // Mostly it is alone, or all are of its group.
+    if compare_groups(first, index.entry(entries, from + 1)).is_ne() {
+        return from + 1;
+    }
     if compare_groups(first, index.entry(entries, high - 1)).is_eq() {
         return high;
     }

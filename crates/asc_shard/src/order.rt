@@ -1,4 +1,4 @@
-ghost use Rattle.std.specs.Prelude.{◌≡◌, ◌==◌, ◌+◌, ◌<◌, ◌≤◌, ◌*◌, All, length, slice_index};
+ghost use Rattle.std.specs.Prelude.{◌≡◌, ◌==◌, ◌+◌, ◌<◌, ◌≤◌, ◌*◌, All, true, false, drop, length, slice_index};
 ghost use Rattle.std.specs.List.{list_all};
 ghost use Rattle.asc_traj.specs.Content.{matches};
 ghost use Rattle.std.specs.Ordering.{nat_cmp};
@@ -135,11 +135,7 @@ fn compare_parts(parts: &[Part], state: &State) -> Ordering
     requires within { All (λ part. word_place part + 4 ≤ length_of state.now.shape) parts.now }
     ensures { result ≡ slice_cmp nat_cmp (bytes_of (all_cells parts.now)) (bytes_at state.now (all_cells parts.now)) }
 {
-    let mut i = 0;
-    while i < parts.len() && parts[i].is_in(state) {
-        i += 1;
-    }
-    compare_parts_from(parts, state, 4 * i)
+    compare_parts_from(parts, state, 4 * count_alike(parts, state))
 }
 
 /// The same from a byte on, byte by byte.
@@ -170,4 +166,71 @@ pub fn has_reads(entry: &Entry, state: &State, from: usize) -> bool
     let parts = entry.reads();
     let middle = if from < parts.len() { from } else { 0 };
     has_parts(state, &parts[middle..]) && has_parts(state, &parts[..middle])
+}
+
+/// A part that a state had not, of what the last entry reads that was compared with it. The next ones are tried at it first.
+#[derive(Clone, Copy, Debug)]
+pub struct Unlike {
+    // Its word and bytes, as in a part. 0 where there was none.
+    pub at: u32,
+    // How many parts stood before it.
+    pub number: usize,
+}
+
+/// Whether a state surely has not all that an entry reads: it is of another shape, or has not the part where another differed.
+#[inline]
+pub fn lacks(state: &State, entry: &Entry, unlike: Unlike) -> bool
+    ensures { result ≡ true → matches state.now entry.now ≡ false }
+{
+    if entry.shape() != state.shape() {
+        return true;
+    }
+    entry.truth();
+    let parts = entry.reads();
+    let number = number_of(parts, unlike);
+    number < parts.len() && !parts[number].is_in(state)
+}
+
+/// Which part is to be tried, where there is one: mostly it stands behind as many as before.
+#[inline]
+fn number_of(parts: &[Part], unlike: Unlike) -> usize {
+    let number = unlike.number;
+    if number < parts.len() && parts[number].at == unlike.at {
+        return number;
+    }
+    parts.partition_point(|part| part.at < unlike.at)
+}
+
+/// The first part that an entry reads and a state has not.
+pub fn first_unlike(entry: &Entry, state: &State) -> Unlike {
+    let none = Unlike { at: 0, number: 0 };
+    if entry.shape() != state.shape() {
+        return none;
+    }
+    entry.truth();
+    let parts = entry.reads();
+    let number = count_alike(parts, state);
+    match parts.get(number) {
+        Some(part) => Unlike {
+            at: part.at,
+            number,
+        },
+        None => none,
+    }
+}
+
+/// How many of these parts a state has, up to the first that it has not. They tell nothing of which bytes are first.
+#[inline]
+fn count_alike(parts: &[Part], state: &State) -> usize
+    requires parts { All IsPart parts.now }
+    requires within { All (λ part. word_place part + 4 ≤ length_of state.now.shape) parts.now }
+    ensures few { result ≤ length parts.now }
+    ensures rest { slice_cmp nat_cmp (bytes_of (all_cells parts.now)) (bytes_at state.now (all_cells parts.now))
+        ≡ slice_cmp nat_cmp (bytes_of (all_cells (drop result parts.now))) (bytes_at state.now (all_cells (drop result parts.now))) }
+{
+    let mut i = 0;
+    while i < parts.len() && parts[i].is_in(state) {
+        i += 1;
+    }
+    i
 }

@@ -119,7 +119,8 @@ impl Shard {
 
     /// The position of the longest entry of at most `left` steps that matches. Each comparison of an entry with the
     /// state is counted as a probe. Only groups of which some entry has a fingerprint that the state has are searched:
-    /// one of m entries takes at most k + 2 probes, where 2^k is at most m.
+    /// one of m entries takes at most k + 2 probes, where 2^k is at most m. Looks at one part of an entry, by which it may
+    /// be passed over, are no probes.
     pub fn find<L: Ledger>(&self, state: &State, left: u64, probes: &mut Steps<L>) -> Option<usize>
         ensures none { IfNone result (longest self.now.held state.now left ≡ None) }
         ensures some { IfSome result (IsFound self.now.held state.now left) }

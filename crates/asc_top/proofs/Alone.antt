@@ -13,7 +13,7 @@ use Rattle.asc_words.specs.declared.line.RunLine.{RunLine}
 use Rattle.asc_words.specs.declared.answer.Conclusion.{Conclusion}
 use Rattle.asc_top.specs.Program.{Files}
 use Rattle.asc_top.specs.Numbers.{counts_of, course_of_image, guessing_of, keeps_entries, numbers_of, recognised_by, settings_of}
-use Rattle.asc_top.specs.Ran.{AreOpened, HasNoCounts, Ran, Walked}
+use Rattle.asc_top.specs.Ran.{AreOpened, HasCountedNothing, Ran, Walked}
 use Rattle.asc_top.proofs.Ends.{no_workers-told}
 use Rattle.asc_top.proofs.Walks.{ran}
 use Rattle.asc_top.proofs.Serials.{no_kinds, unloaded, serial_of_machine, serial_of_none, plain_of_none}
@@ -23,7 +23,7 @@ pub keeps_none : (line : RunLine) → line.load ≡ None → line.report ≡ fal
 keeps_none line unnamed unasked = λ i. is_some (unnamed i) || (unasked i && (line.last || line.stride))
 
 module _ (line : RunLine) (files : Files) (was : Walk) (entries : List Entry) (opened : AreOpened line files was entries) (now : Walk) (old new : Outside) (first last : Aid) (conclusion : Conclusion)
-    (w : Walked line.report was now old new first last None conclusion) (fresh : HasNoCounts first) (alone : line.workers ≡ 0) where
+    (w : Walked line.report was now old new first last None conclusion) (fresh : HasCountedNothing first) (alone : line.workers ≡ 0) where
   -- with a helper that gives no jump
   pub ran_idle : keeps_entries line ≡ false → last.jumps.hits ≡ 0 → last.jumps.given ≡ 0 → last.plan.made ≡ 0 → Ran old new line files conclusion
   ran_idle none no_hit no_step no_guess =

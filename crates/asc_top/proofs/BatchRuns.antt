@@ -29,7 +29,7 @@ use Rattle.asc_words.specs.declared.answer.RunEnd.TheVariants as run_ends
 use Rattle.asc_top.specs.Program.{IsStopped, answer_at, image_alone, load_of, run_of_image}
 use Rattle.asc_top.specs.Numbers.{AreCountsOf, WorkersAreTold, counts_of, course_of_image, guessing_of, has_workers, keeps_entries, numbers_of, recognised_by, settings_of}
 use Rattle.asc_top.specs.Endings.{device_of_answer}
-use Rattle.asc_top.specs.Ran.{HasNoCounts, Walked}
+use Rattle.asc_top.specs.Ran.{HasCountedNothing, Walked}
 use Rattle.asc_top.specs.Batch.{AreBatchCounts, IsRunTold, answer_of}
 use Rattle.asc_top.specs.Runner.{IsHelpOf, IsSerialFrom, Keeps, MakesRun, IsRunnerFor, StopsRun}
 use Rattle.asc_top.specs.declared.runner.Runner.{Runner}
@@ -69,7 +69,7 @@ serial-same limit run first (v ∷ before) now made serial =
 
 -- the run of an image over an input, of which this was told
 module _ (line : RunLine) (image : loader.Image) (input : List ℕ) (was now : Walk) (is : was ≡ new_walk image (settings_of line)) (old new : Outside) (told_input : old.left ≡ Some input)
-    (first last : Aid) (conclusion : Conclusion) (w : Walked line.report was now old new first last conclusion.workers conclusion) (fresh : HasNoCounts first) where
+    (first last : Aid) (conclusion : Conclusion) (w : Walked line.report was now old new first last conclusion.workers conclusion) (fresh : HasCountedNothing first) where
   abbrev recognised : Recognised
   recognised = (settings_of line).recognised
 

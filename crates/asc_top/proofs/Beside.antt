@@ -15,7 +15,7 @@ use Rattle.asc_words.specs.Answer.{conclusion_of}
 use Rattle.asc_top.specs.Program.{Files, answer_at}
 use Rattle.asc_top.specs.Numbers.{AreWorkerNumbers, WorkersAreTold, counts_of, guessing_of, reported_at}
 use Rattle.asc_top.specs.Workers.{crew_of, workers_of}
-use Rattle.asc_top.specs.Ran.{AreOpened, HasNoCounts, Ran, RanBeside, WalkedBeside}
+use Rattle.asc_top.specs.Ran.{AreOpened, HasCountedNothing, Ran, RanBeside, WalkedBeside}
 use Rattle.asc_top.proofs.Ends.{workers-told}
 use Rattle.asc_top.proofs.Refused.{ran_memory}
 use Rattle.asc_top.proofs.Walks.{ran}
@@ -73,7 +73,7 @@ module _ (line : RunLine) (files : Files) (was : Walk) (entries : List Entry) (o
   walked b =
       let told : WorkersAreTold line (reported_at line.report b.walked.ended (counts_of b.walked.counts b.last.plan.made b.last.plan.refused)) conclusion.workers =
       subst (λ (c : Option Counts). WorkersAreTold line c conclusion.workers) (ap (λ (o : Conclusion). o.counts) b.walked.conclusion_is) b.workers in
-      let fresh : HasNoCounts b.first = record { jumps = b.fresh.jumps_are; made = b.fresh.made; refused = b.fresh.refused; full = b.fresh.full } in
+      let fresh : HasCountedNothing b.first = record { jumps = b.fresh.jumps_are; made = b.fresh.made; refused = b.fresh.refused; full = b.fresh.full } in
       ran line files was entries opened now old new b.first b.last conclusion.workers conclusion b.walked fresh told
       (λ alone. absurd (let no : ⊥ = omega (arith, alone, some) in no)) (λ alone. absurd (let no : ⊥ = omega (arith, alone, some) in no))
 

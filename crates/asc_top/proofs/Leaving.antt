@@ -21,7 +21,7 @@ use Rattle.asc_words.specs.declared.answer.WorkerCounts.{WorkerCounts}
 use Rattle.asc_words.specs.Line.{IsRunWithin}
 use Rattle.asc_top.specs.Program.{run_of_image}
 use Rattle.asc_top.specs.Numbers.{counts_of, entries_of_save, guessing_of, numbers_of, recognised_by, visited_settings}
-use Rattle.asc_top.specs.Ran.{HasNoCounts, IsWalkOf, Walked}
+use Rattle.asc_top.specs.Ran.{HasCountedNothing, IsWalkOf, Walked}
 use Rattle.asc_top.specs.Saves.{RunsToSave}
 use Rattle.asc_top.specs.Answered.{RisesWithin}
 use Rattle.asc_top.proofs.Serials.{IsByMachine, goes, serial_of_machine}
@@ -46,7 +46,7 @@ left_savable line image before after l within state =
 module _ (line : RunLine) (content : List ℕ) (was : Walk) (own : IsWalkOf line (visited_settings line) content was) (now : Walk) (input : List ℕ) (output errors : ℕ) (remains : Option (List ℕ)) (put complained before after : ℕ)
     (first last : Aid) (workers : Option WorkerCounts) (conclusion : Conclusion)
     (w : Walked false was now (outside (Some input) (given_number output) (given_number errors) before (faults 0 0 0)) (outside remains (given_number put) (given_number complained) after (faults 0 0 0)) first last workers conclusion)
-    (fresh : HasNoCounts first) where
+    (fresh : HasCountedNothing first) where
   abbrev old : Outside
   old = outside (Some input) (given_number output) (given_number errors) before (faults 0 0 0)
 
@@ -97,7 +97,7 @@ module _ (line : RunLine) (content : List ℕ) (was : Walk) (own : IsWalkOf line
     (w : Walked false was now (outside (Some input) (given_number output) (given_number errors) before (faults 0 0 0)) (outside remains (given_number put) (given_number complained) after (faults 0 0 0))
     (aid_of helper) (aid_of last) None conclusion)
     (new_is : helper ≡ first_helper own.image.start.shape (guessing_of line)) where
-  new_aid : HasNoCounts (aid_of helper)
+  new_aid : HasCountedNothing (aid_of helper)
   new_aid = record {
     jumps = ap (λ (h : SerialHelper). h.jumps) new_is;
     made = ap (λ (h : SerialHelper). h.made) new_is;

@@ -21,7 +21,7 @@ use Rattle.asc_words.specs.declared.answer.Conclusion.{Conclusion}
 use Rattle.asc_words.specs.declared.answer.WorkerCounts.{WorkerCounts}
 use Rattle.asc_top.specs.Program.{run_of_image}
 use Rattle.asc_top.specs.Numbers.{AreOfVisits, counts_of, course_of_image, guessing_of, keeps_entries, numbers_of, recognised_by}
-use Rattle.asc_top.specs.Ran.{HasNoCounts, Walked}
+use Rattle.asc_top.specs.Ran.{HasCountedNothing, Walked}
 use Rattle.asc_top.proofs.Unguessed.{idles, none_given}
 
 -- where no entries are to be kept none are saved, and of numbers that are asked for no kind of guess is on
@@ -50,7 +50,7 @@ settings_at line recognised = record { limit = line.limit; recognised = recognis
 
 -- a walk from an image's start
 module _ (line : RunLine) (image : loader.Image) (recognised : Recognised) (is_asked : Bool) (was now : Walk) (is : was ≡ new_walk image (settings_at line recognised)) (old new : Outside) (first last : Aid)
-    (workers : Option WorkerCounts) (conclusion : Conclusion) (w : Walked is_asked was now old new first last workers conclusion) (fresh : HasNoCounts first) where
+    (workers : Option WorkerCounts) (conclusion : Conclusion) (w : Walked is_asked was now old new first last workers conclusion) (fresh : HasCountedNothing first) where
   pub goes : GoesHelped line.limit (visit_rule recognised) (world_of (new_walk image (settings_at line recognised)) old) (world_of now new) first last now.count now.jumps.given w.ended
   goes = subst (λ (v : Walk). GoesHelped v.settings.limit (visit_rule v.settings.recognised) (world_of v old) (world_of now new) first last now.count now.jumps.given w.ended) is w.goes
 

@@ -26,7 +26,7 @@ use Rattle.asc_words.specs.declared.answer.WorkerCounts.{WorkerCounts}
 use Rattle.asc_words.specs.declared.answer.Conclusion.{Conclusion}
 use Rattle.asc_top.specs.Program.{Files, load_of, answer_at, ProgramResult, result_of_entries, result_of_run, result_of_load, run_of_image, meaning, Gives, IsStopped}
 use Rattle.asc_top.specs.Numbers.{AreNumbers, AreNumbersOf, AreTold, Means, counts_of, course_of_image, guessing_of, has_workers, numbers_of, recognised_by, reported_at, settings_of, taken_of, WorkersAreTold}
-use Rattle.asc_top.specs.Ran.{AreOpened, HasNoCounts, Ran, Walked}
+use Rattle.asc_top.specs.Ran.{AreOpened, HasCountedNothing, Ran, Walked}
 use Rattle.asc_top.proofs.Causes.{meaning-within}
 use Rattle.asc_top.proofs.Ends.{device_of_answer-answer_at, run-not_refused, counts-told, told_have, all_told}
 use Rattle.asc_top.proofs.Serials.{few, goes as goes_so, seen}
@@ -64,7 +64,7 @@ rest_of w known = rest_from w w.calls.ended w.left refl refl known
 
 -- a walk of a line's image, with its saved entries
 module _ (line : RunLine) (files : Files) (was : Walk) (entries : List Entry) (opened : AreOpened line files was entries) (now : Walk) (old new : Outside) (first last : Aid)
-    (workers : Option WorkerCounts) (conclusion : Conclusion) (w : Walked line.report was now old new first last workers conclusion) (fresh : HasNoCounts first) where
+    (workers : Option WorkerCounts) (conclusion : Conclusion) (w : Walked line.report was now old new first last workers conclusion) (fresh : HasCountedNothing first) where
   abbrev pub image : loader.Image
   image = opened.own.image
 

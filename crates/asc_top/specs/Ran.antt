@@ -126,8 +126,8 @@ abbrev pub loaded_helper : Shape → Guessing → (entries : List Entry) → Ser
 loaded_helper shape guessing entries =
     record (first_helper shape guessing) { machine = serial_of shape guessing (content_of MOST_ENTRIES entries) }
 
--- a helper that has done nothing
-pub record HasNoCounts (first : Aid) : Type 0 where
+-- a helper that was not asked yet, and for which no guess was made, refused or left out
+pub record HasCountedNothing (first : Aid) : Type 0 where
   pub jumps : first.jumps ≡ jumps 0 0 0
   pub made : first.plan.made ≡ 0
   pub refused : first.plan.refused ≡ 0

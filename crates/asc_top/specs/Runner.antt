@@ -21,7 +21,7 @@ use Rattle.asc_words.specs.Line.{file_limit}
 use Rattle.asc_top.specs.Program.{IsStopped, image_alone, load_of, run_of_image}
 use Rattle.asc_top.specs.Numbers.{WorkersAreTold, course_of_image, guessing_of, keeps_entries, numbers_of, recognised_by}
 use Rattle.asc_top.specs.Endings.{device_of_answer}
-use Rattle.asc_top.specs.Ran.{HasNoCounts, Walked}
+use Rattle.asc_top.specs.Ran.{HasCountedNothing, Walked}
 use Rattle.asc_top.specs.Reported.{Report}
 use Rattle.asc_top.specs.Batch.{IsRunTold, MakesRuns, put_by}
 use Rattle.asc_top.specs.BatchAnswer.{CutsRun, StopsBehind, batch_texts}
@@ -59,7 +59,7 @@ pub record RunsOnce {R : Type 0} (line : RunLine) (was now : Walk) (before after
     (conclusion : Conclusion) : Type 0 where
   pub first : Aid
   pub last : Aid
-  pub fresh : HasNoCounts first
+  pub fresh : HasCountedNothing first
   pub walked : Walked line.report was now old new first last conclusion.workers conclusion
   pub workers : WorkersAreTold line conclusion.counts conclusion.workers
   pub help : IsHelpOf before after first last

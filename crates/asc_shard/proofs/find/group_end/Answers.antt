@@ -1,11 +1,11 @@
-use Rattle.std.proofs.Common.{◌≡◌, ◌+◌, ◌-◌, ◌/◌, ◌<◌, ◌≤◌, ◌∙◌, ℕ, Bool, map, sym, ap, arith, true}
+use Rattle.std.proofs.Common.{◌≡◌, ◌+◌, ◌-◌, ◌/◌, ◌<◌, ◌≤◌, ◌∙◌, ℕ, Bool, map, refl, sym, ap, arith, true, false}
 use Rattle.std.specs.Arc.{arc_value}
-use Rattle.std.specs.Ordering.{is_eq, is_le}
+use Rattle.std.specs.Ordering.{is_eq, is_le, is_ne}
 use Rattle.std.specs.declared.cmp.Ordering.{Ordering}
 use Rattle.std.specs.declared.cmp.Ordering.TheVariants.{Equal}
 use Rattle.asc_model.specs.Entry.{Entry}
 use Rattle.asc_shard.specs.Inside.{by_group, positions_of, sorted_in}
-use Rattle.asc_shard.proofs.Orders.{groups_total, is-equal, equal-below, less-above}
+use Rattle.asc_shard.proofs.Orders.{groups_total, equal-below, is-equal, less-above, other-not-equal}
 use Rattle.asc_shard.proofs.Slots.{group-self, nth, range-up}
 use Rattle.asc_shard.proofs.find.group_end.Goals.{After-entry-first}
 use Rattle.asc_shard.proofs.find.group_end.Goals as goal
@@ -30,12 +30,27 @@ same-to c m lt is i least le = equal-below groups_total (at c) c.args.from c.arg
 pub returns-then-is_eq-clause-same : goal.returns-then-is_eq-clause-same
 returns-then-is_eq-clause-same c = λ i least lt.
     let k = (goal.at.returns-then-is_eq-clause-same c).After-entry-first in
-    same-to k (c.args.high - 1) (omega arith) (compared k (c.args.high - 1) c.entry.ensures c.compare_groups.ensures c.is_eq.ensures c.if-is_eq.true) i least (omega arith)
+    same-to k (c.args.high - 1) (omega arith) (compared k (c.args.high - 1) c.entry-2.ensures c.compare_groups-2.ensures c.is_eq.ensures c.if-is_eq.true) i least (omega arith)
+
+-- where the next one is of another group
+alone : (c : After-entry-first) {e : Entry} {o : Ordering} {r : Bool} → e ≡ at c (c.args.from + 1) → o ≡ by_group c.entry-first.result.now e → r ≡ is_ne o → r ≡ true
+    → is_eq (by_group (at c c.args.from) (at c (c.args.from + 1))) ≡ false
+alone c {o = o} read order result is = compared c (c.args.from + 1) read order refl (other-not-equal o (sym result ∙ is))
+
+pub returns-then-is_ne-clause-same : goal.returns-then-is_ne-clause-same
+returns-then-is_ne-clause-same c = λ i least lt.
+    group-self (sorted_in (map arc_value c.args.entries.now) c.args.index.now) c.args.from i (omega (arith, least, lt))
+
+pub returns-then-is_ne-clause-rest : goal.returns-then-is_ne-clause-rest
+returns-then-is_ne-clause-rest c = λ i least lt.
+    let k = (goal.at.returns-then-is_ne-clause-rest c).After-entry-first in
+    let apart = alone k c.entry.ensures c.compare_groups.ensures c.is_ne.ensures c.if-is_ne.true in
+    less-above groups_total (at k) c.args.from c.args.high (up k) (c.args.from + 1) i (omega arith) least lt apart
 
 pub loop-low-init : goal.loop-low-init
 loop-low-init c =
     let k = (goal.at.loop-low-init c).After-entry-first in
-    let apart = compared k (c.args.high - 1) c.entry.ensures c.compare_groups.ensures c.is_eq.ensures c.if-is_eq.false in
+    let apart = compared k (c.args.high - 1) c.entry-2.ensures c.compare_groups-2.ensures c.is_eq.ensures c.if-is_eq.false in
     record {
       some = omega arith;
       range = omega (arith, c.requires.some, c.if-from-high.false);

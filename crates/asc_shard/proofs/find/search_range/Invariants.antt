@@ -1,10 +1,9 @@
-use Rattle.std.proofs.Common.{◌≡◌, ◌-◌, ◌<◌, ◌≤◌, ℕ, List, map}
-use Rattle.std.specs.Prelude.{All, sum_by}
+use Rattle.std.proofs.Common.{◌≡◌, ◌-◌, ◌≤◌, List, map}
+use Rattle.std.specs.Prelude.{sum_by}
 use Rattle.std.specs.Arc.{arc_value}
-use Rattle.std.specs.declared.cmp.Ordering.TheVariants.{Less}
 use Rattle.asc_shard.specs.Groups.{AreAsked, Asked}
-use Rattle.asc_shard.specs.Inside.{IsBest, IsFrom, IsMost, by_group, raised, sorted_in}
-use Rattle.asc_shard.proofs.Slots.{nth}
+use Rattle.asc_shard.specs.Inside.{IsBest, IsMost, raised, sorted_in}
+use Rattle.asc_shard.proofs.Ranges.{AreBefore}
 use Rattle.asc_shard.proofs.find.search_range.Given as goal
 
 abbrev pub invariant-loop-from : goal.invariant-loop-from
@@ -14,10 +13,8 @@ invariant-loop-from g l = record {
   best : IsBest (map arc_value l.entries) l.state l.left l.now.position l.now.steps;
   found : IsMost (sorted_in (map arc_value l.entries) l.index) l.state l.left l.low l.from l.now.steps;
   rises : l.fn.best.steps ≤ l.now.steps;
-  apart : (i j : ℕ) → l.low ≤ i → i < l.from → l.from ≤ j → j < l.high
-      → by_group (nth (sorted_in (map arc_value l.entries) l.index) i) (nth (sorted_in (map arc_value l.entries) l.index) j) ≡ Less;
   probes : (asked : List Asked) × AreAsked (map arc_value l.entries) l.state asked
-      × All (λ a. IsFrom (sorted_in (map arc_value l.entries) l.index) l.low l.from a.entry) asked
+      × AreBefore (sorted_in (map arc_value l.entries) l.index) l.low l.from l.high asked
       × (g.P.Probes.count l.probes ≡ raised g.P.Probes.more (sum_by (λ a. a.probes) asked) (g.P.Probes.count l.fn.probes));
 }
 

@@ -6,7 +6,7 @@ use Rattle.asc_run.specs.SerialHelper.{SerialHelper, aid_of, told_machine}
 use Rattle.asc_run.specs.Walk.{Walk}
 use Rattle.asc_words.specs.declared.answer.Conclusion.{Conclusion}
 use Rattle.asc_top.specs.Numbers.{guessing_of}
-use Rattle.asc_top.specs.Ran.{HasNoCounts, Ran, loaded_helper}
+use Rattle.asc_top.specs.Ran.{HasCountedNothing, Ran, loaded_helper}
 use Rattle.asc_top.proofs.Alone.{ran_serial}
 use Rattle.asc_top.proofs.Refused.{ran_memory}
 use Rattle.asc_top.proofs.rounds.walk_in_rounds.Goals as goal
@@ -17,7 +17,7 @@ returns-in-Ok g c = λ files opened.
     let shape_is = c.shape.ensures.shape ∙ ap (λ (walk : Walk). walk.state.shape) opened.own.walk_is in
     let helper_is : c.in-Ok.rounds.helper ≡ loaded_helper opened.own.image.start.shape (guessing_of line) (map arc_value c.args.first.now) =
     c.in-Ok.ensures.helper ∙ (λ i. loaded_helper (shape_is i) (c.guessing_of.ensures i) (map arc_value c.args.first.now)) in
-    let fresh : HasNoCounts (aid_of c.in-Ok.rounds.helper) = record {
+    let fresh : HasCountedNothing (aid_of c.in-Ok.rounds.helper) = record {
       jumps = ap (λ (h : SerialHelper). h.jumps) helper_is;
       made = ap (λ (h : SerialHelper). h.made) helper_is;
       refused = ap (λ (h : SerialHelper). h.refused) helper_is;

@@ -4,7 +4,7 @@ use Rattle.std.specs.Ordering.{nat_cmp}
 use Rattle.std.specs.Cmp.Lexicographic.{slice_cmp}
 use Rattle.asc_traj.specs.Parts.{all_cells}
 use Rattle.asc_shard.specs.Inside.{bytes_at, bytes_of}
-use Rattle.asc_shard.proofs.order.compare_parts.Given as goal
+use Rattle.asc_shard.proofs.order.count_alike.Given as goal
 
 abbrev pub invariant-loop-i : goal.invariant-loop-i
 invariant-loop-i l = record {
